@@ -1,8 +1,9 @@
 -- To be believed: `choose`, a value chosen by a test. Below it the laws by which proofs go through a choice. Assumes nothing.
-use mathlib.Core.Path.{_≡_, refl}
+use mathlib.Core.Path.{_≡_, refl, subst}
 use mathlib.Core.Bool.{Bool, true, false, not}
 use Prim.Native.Nat.{ℕ, _≤_, _<_}
-use lib.Dec.{T, ltb, ltb→lt, nltb→le}
+use native.Mathlib.Omega.{arith}
+use lib.Dec.{T, leb, ltb, eqb, le→leb, lt→ltb, leb→le, ltb→lt, nltb→le, eqb→eq, eqb-refl, not-T}
 
 module _ {A : Type 0} where
   -- x where the test passes, else y. It is the library's `cond`, shut, so that a goal shows it as written.
@@ -25,6 +26,26 @@ module _ {A : Type 0} where
   unfolding choose
   choose-no true x y t = absurd t
   choose-no false x y t = refl
+
+  -- the choice by each test on two numbers, where the test's outcome is known
+  module _ (m n : ℕ) (x y : A) where
+    pub choose-le : m ≤ n → choose (leb m n) x y ≡ x
+    choose-le h = choose-yes (leb m n) x y (le→leb m n h)
+
+    pub choose-gt : n < m → choose (leb m n) x y ≡ y
+    choose-gt h = choose-no (leb m n) x y (not-T (leb m n) (λ t. let q = leb→le m n t in omega arith))
+
+    pub choose-lt : m < n → choose (ltb m n) x y ≡ x
+    choose-lt h = choose-yes (ltb m n) x y (lt→ltb m n h)
+
+    pub choose-ge : n ≤ m → choose (ltb m n) x y ≡ y
+    choose-ge h = choose-no (ltb m n) x y (not-T (ltb m n) (λ t. let q = ltb→lt m n t in omega arith))
+
+    pub choose-eq : m ≡ n → choose (eqb m n) x y ≡ x
+    choose-eq e = choose-yes (eqb m n) x y (subst (λ (k : ℕ). T (eqb m k)) e (eqb-refl m))
+
+    pub choose-ne : (m ≡ n → ⊥) → choose (eqb m n) x y ≡ y
+    choose-ne d = choose-no (eqb m n) x y (not-T (eqb m n) (λ t. d (eqb→eq m n t)))
 
 -- cases on the order of two numbers
 pub by-lt : {P : Type 0} (m n : ℕ) → (m < n → P) → (n ≤ m → P) → P

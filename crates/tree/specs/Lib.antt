@@ -1,0 +1,12 @@
+pub mod Ancestors
+pub mod Check
+pub mod Climb
+pub mod Closed
+pub mod Code
+pub mod Level
+pub mod Lists
+pub mod Meeting
+pub mod Notify
+pub mod Range
+pub mod Tree
+pub mod Within
