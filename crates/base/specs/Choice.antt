@@ -1,6 +1,6 @@
 -- To be believed: `choose`, a value chosen by a test. Below it the laws by which proofs go through a choice. Assumes nothing.
 use mathlib.Core.Path.{_≡_, refl, subst}
-use mathlib.Core.Bool.{Bool, true, false, not}
+use mathlib.Core.Bool.{Bool, true, false, not, _||_}
 use Prim.Native.Nat.{ℕ, _≤_, _<_}
 use native.Mathlib.Omega.{arith}
 use lib.Dec.{T, leb, ltb, eqb, le→leb, lt→ltb, leb→le, ltb→lt, nltb→le, eqb→eq, eqb-refl, not-T}
@@ -50,3 +50,17 @@ module _ {A : Type 0} where
 -- cases on the order of two numbers
 pub by-lt : {P : Type 0} (m n : ℕ) → (m < n → P) → (n ≤ m → P) → P
 by-lt {P} m n f g = on-choose {A = ℕ} (λ _. P) (ltb m n) 0 0 (λ t. f (ltb→lt m n t)) (λ t. g (nltb→le m n t))
+
+-- ---- tests joined by `||`
+
+pub or-first : (a b : Bool) → T a → T (a || b)
+or-first true b t = tt
+or-first false b t = absurd t
+
+pub or-second : (a b : Bool) → T b → T (a || b)
+or-second true b t = tt
+or-second false b t = t
+
+pub or-none : (a b : Bool) → T (not a) → T (not b) → T (not (a || b))
+or-none true b s t = absurd s
+or-none false b s t = t

@@ -5,8 +5,8 @@ use native.Mathlib.Omega.{arith}
 use native.Mathlib.Nat.{mod-lt, div-add-mod'}
 use lib.Pow.{pow-mono}
 use Rattle.base.specs.Choice.{by-lt}
-use Rattle.tree.specs.Tree.{climb, leftmost, first, level, Node}
-use Rattle.tree.specs.Climb.{pow4, left-shift, left-mono, left-first, first-closed, first-mono, climb-to}
+use Rattle.tree.specs.Tree.{climb, leftmost, first, level, Node, left, leaf, holder}
+use Rattle.tree.specs.Climb.{pow4, left-shift, left-mono, left-first, first-pos, first-closed, first-mono, climb-to}
 use Rattle.tree.specs.Level.{level-pos, level-range}
 
 -- a shift by 2 * k bits is a step of k levels
@@ -37,6 +37,26 @@ climb-is k n h b =
     let l : leftmost k (q + 1) ≡ q * 4 ^ k + first (suc k) = left-is k (q + 1) (omega arith) ∙ ap (λ (x : ℕ). x * 4 ^ k + first (suc k)) (let z : q + 1 - 1 ≡ q = omega arith in z) in
     let f : first (suc k) ≤ n = omega (arith, level-range n h .0, first-mono (suc k) (level n) (omega arith) b) in
     climb-to k (q + 1) n (omega arith) (omega arith) (omega arith)
+
+-- the node of level d that stands for unit u, and a node's left edge, by the place in the level
+pub holder-is : (h d u : ℕ) → 1 ≤ d → d ≤ h → holder h d u ≡ first d + u / 64 / 4 ^ (h - d)
+unfolding holder
+holder-is h d u a b =
+    let k = h - d in
+    let q = u / 64 / 4 ^ k in
+    let e : k + d ≡ h = omega arith in
+    let s : q * 4 ^ k + u / 64 % 4 ^ k ≡ u / 64 = div-add-mod' (u / 64) (4 ^ k) in
+    let t : u / 64 % 4 ^ k < 4 ^ k = mod-lt (u / 64) (pow4 k) in
+    let l : leftmost k (first d + q) ≡ first h + 4 ^ k * q = left-shift k (first d) q (first-pos d) ∙ ap (λ (x : ℕ). x + 4 ^ k * q) (left-first k d a ∙ ap first e) in
+    climb-to k (first d + q) (leaf h u) (omega (arith, first-pos d)) (omega arith) (omega arith)
+
+pub left-edge-is : (h d q : ℕ) → 1 ≤ d → d ≤ h → level (first d + q) ≡ d → left h (first d + q) ≡ 64 * (4 ^ (h - d) * q)
+unfolding left
+left-edge-is h d q a b v =
+    let k = h - d in
+    let e : k + d ≡ h = omega arith in
+    let l : leftmost k (first d + q) ≡ first h + 4 ^ k * q = left-shift k (first d) q (first-pos d) ∙ ap (λ (x : ℕ). x + 4 ^ k * q) (left-first k d a ∙ ap first e) in
+    ap (λ (x : ℕ). 64 * (leftmost (h - x) (first d + q) - first h)) v ∙ omega arith
 
 -- the level from the highest set bit j of 3 * n - 2: the numbers of level d are those with 4 ^ (d - 1) ≤ 3 * n - 2 < 4 ^ d
 pub level-is-log : (n j : ℕ) → 1 ≤ n → 2 ^ j ≤ 3 * n - 2 → 3 * n - 2 < 2 ^ suc j → level n ≡ (j + 2) / 2

@@ -1,8 +1,8 @@
 -- Laws of levels: which numbers a level has, and which numbers are nodes. Assumes nothing.
-use mathlib.Core.Path.{_≡_, refl, sym, ap, _∙_, subst}
-use Prim.Native.Nat.{ℕ, zero, suc, _+_, _-_, _*_, _/_, _^_, _≤_, _<_}
+use mathlib.Core.Path.{_≡_, refl, ap, _∙_}
+use Prim.Native.Nat.{ℕ, zero, suc, _+_, _-_, _≤_, _<_}
 use native.Mathlib.Omega.{arith}
-use lib.Dec.{T, ltb, ltb→lt, nltb→le}
+use lib.Dec.{ltb, ltb→lt, nltb→le}
 use Rattle.base.specs.Choice.{choose, on-choose, by-lt}
 use Rattle.tree.specs.Tree.{parent, climb, leftmost, first, levelWithin, level, Node, wordCount}
 use Rattle.tree.specs.Climb.{pow4, first-next, first-pos, first-mono, first-closed, climb-some}

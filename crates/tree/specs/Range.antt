@@ -1,12 +1,12 @@
 -- Laws of ranges: a unit's holders, and two nodes with a common unit. Assumes nothing.
 use mathlib.Core.Path.{_≡_, sym, ap, _∙_, subst}
-use Prim.Native.Nat.{ℕ, suc, _+_, _-_, _^_, _≤_, _<_}
+use Prim.Native.Nat.{ℕ, suc, _+_, _-_, _*_, _^_, _≤_, _<_}
 use native.Mathlib.Omega.{arith}
 use mathlib.Core.Logic.{_⊎_, inl, inr}
 use Rattle.base.specs.Choice.{by-lt}
 use Rattle.tree.specs.Tree.{climb, leftmost, first, level, Node, units, size, left, right, Holds, leaf, holder, Above}
 use Rattle.tree.specs.Climb.{pow4, left-mono, left-shift, left-first, first-pos, first-width, climb-add, climb-from, climb-to}
-use Rattle.tree.specs.Level.{level-pos, level-is, level-range, climb-level}
+use Rattle.tree.specs.Level.{first-one, level-root, level-pos, level-is, level-range, climb-level}
 
 -- ---- a node's place among the leaves
 
@@ -105,3 +105,20 @@ nested h p q u hh hu vp vq wp wq =
         ap (climb (level b - level a)) (sym (holds-holder h b vb u wb))
         ∙ holder-climb h u hh hu (level a) (level b) (level-pos a) (omega arith) (vb .inside)
         ∙ holds-holder h a va u wa
+
+-- ---- the root stands for all units
+
+module _ (h : ℕ) (hh : 1 ≤ h) where
+  pub root-node : Node h 1
+  root-node = record { some = omega arith; inside = omega (arith, level-root 1 (omega arith)) }
+
+  pub root-left : left h 1 ≡ 0
+  unfolding left
+  root-left =
+      let e : leftmost (h - level 1) 1 ≡ first h =
+      ap (λ (d : ℕ). leftmost (h - d) 1) (level-root 1 (omega arith)) ∙ ap (leftmost (h - 1)) (sym first-one) ∙ left-first (h - 1) 1 (omega arith) ∙ ap first (let z : h - 1 + 1 ≡ h = omega arith in z) in
+      omega arith
+
+  pub root-size : size h 1 ≡ units h
+  unfolding size units
+  root-size = ap (λ (d : ℕ). 64 * 4 ^ (h - d)) (level-root 1 (omega arith))

@@ -1,0 +1,13 @@
+pub mod Answer
+pub mod Chain
+pub mod Code
+pub mod Cover
+pub mod Least
+pub mod Lowest
+pub mod Order
+pub mod Over
+pub mod Overlap
+pub mod Rise
+pub mod Search
+pub mod Split
+pub mod Two
