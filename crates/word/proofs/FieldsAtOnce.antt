@@ -1,13 +1,16 @@
 -- The masked add of a whole packed word at once: `((w & lows) + (d & lows)) ^ ((w ^ d) & tops)`, where tops has the top bit of every field and
 -- lows all the others. Assumes nothing.
-use mathlib.Core.Path.{_≡_, refl, sym, ap, ap₂, _∙_, subst}
+use mathlib.Core.Path.{_≡_, sym, ap, ap₂, _∙_, subst}
+use mathlib.Core.Bool.{Bool}
 use mathlib.Core.List.{List, [], _∷_}
-use Prim.Native.Nat.{ℕ, zero, suc, _+_, _-_, _*_, _/_, _%_, _^_, _≤_, _<_}
+use Prim.Native.Nat.{ℕ, suc, _+_, _-_, _*_, _/_, _%_, _^_, _≤_, _<_}
 use native.Mathlib.Nat.{mod-lt, mod-eq-of-lt, lt-of-lt-of-le, le-of-eq, add-mod, pow-suc}
 use native.Mathlib.Numerals.{one-add}
 use native.Mathlib.Omega.{arith}
-use lib.Pow.{pow-pos, pow-add, pow-mono, split, high, low, shr-lt, shl-lt, mod-pow-add, mod-mod-pow, ones-lt, add-lt-pow}
-use lib.Bits.{bitAnd, bitXor, and-mask, and-block, xor-block, and-zero-r, xor-zero-r, and-lt, xor-lt, and-le-l}
+use lib.Pow.{pow-pos, pow-mono, split, high, low, shr-lt, mod-pow-add, ones-lt, add-lt-pow}
+use lib.Bits.{bitAnd, bitXor, and-mask, and-block, xor-block, and-zero-r, xor-zero-r, and-lt, xor-lt, and-le-r}
+use lib.Dec.{T, eqb, eqb→eq}
+use Rattle.base.specs.Every.{every, every-at}
 use Rattle.word.specs.Word.{addFields}
 
 -- the top bit of each field, of widths given less one; and the bits below it
@@ -23,26 +26,19 @@ unfoldable pub widths : List ℕ → List ℕ
 widths [] = []
 widths (j ∷ js) = suc j ∷ widths js
 
--- three digits
-no-digit : (c : ℕ) → suc (suc c) < 2 → ⊥
-no-digit c h = omega arith
+-- the sum that leaves the top bit of a word out fits in the word
+pub low-sum-lt : (mask w d : ℕ) → mask < 2 ^ 63 → bitAnd w mask + bitAnd d mask < 2 ^ 64
+low-sum-lt mask w d h = omega (arith, and-le-r w mask, and-le-r d mask)
 
-xor3 : (c p q : ℕ) → c < 2 → p < 2 → q < 2 → bitXor c (bitXor p q) ≡ (p + q + c) % 2
-xor3 zero zero zero hc hp hq = refl
-xor3 zero zero (suc zero) hc hp hq = refl
-xor3 zero (suc zero) zero hc hp hq = refl
-xor3 zero (suc zero) (suc zero) hc hp hq = refl
-xor3 (suc zero) zero zero hc hp hq = refl
-xor3 (suc zero) zero (suc zero) hc hp hq = refl
-xor3 (suc zero) (suc zero) zero hc hp hq = refl
-xor3 (suc zero) (suc zero) (suc zero) hc hp hq = refl
-xor3 (suc (suc c)) p q hc hp hq = absurd (no-digit c hc)
-xor3 zero (suc (suc p)) q hc hp hq = absurd (no-digit p hp)
-xor3 (suc zero) (suc (suc p)) q hc hp hq = absurd (no-digit p hp)
-xor3 zero zero (suc (suc q)) hc hp hq = absurd (no-digit q hq)
-xor3 zero (suc zero) (suc (suc q)) hc hp hq = absurd (no-digit q hq)
-xor3 (suc zero) zero (suc (suc q)) hc hp hq = absurd (no-digit q hq)
-xor3 (suc zero) (suc zero) (suc (suc q)) hc hp hq = absurd (no-digit q hq)
+-- three digits, by a table
+same : ℕ → ℕ → ℕ → Bool
+same c p q = eqb (bitXor c (bitXor p q)) ((p + q + c) % 2)
+
+xor-digits : (c p q : ℕ) → c < 2 → p < 2 → q < 2 → bitXor c (bitXor p q) ≡ (p + q + c) % 2
+unfolding every same
+xor-digits c p q hc hp hq =
+    let all-q : T (every 2 0 (λ p. every 2 0 (same c p))) = every-at 2 0 (λ c. every 2 0 (λ p. every 2 0 (same c p))) tt c (omega arith) hc in
+    eqb→eq _ _ (every-at 2 0 (same c p) (every-at 2 0 (λ p. every 2 0 (same c p)) all-q p (omega arith) hp) q (omega arith) hq)
 
 -- one field: its top bit is the `^` of the two top bits and of the carry into it
 module _ (j x y : ℕ) (hx : x < 2 ^ suc j) (hy : y < 2 ^ suc j) where
@@ -70,7 +66,7 @@ module _ (j x y : ℕ) (hx : x < 2 ^ suc j) (hy : y < 2 ^ suc j) where
       ap₂ (λ (m n : ℕ). m + n) (sym (split x j)) (sym (split y j)) ∙ gather p q a b c s (2 ^ j) (split (a + b) j) in
       ap₂ bitXor (sym (split (a + b) j)) tail
       ∙ xor-block j c (bitXor p q) s 0 hs (pow-pos j)
-      ∙ ap₂ (λ (m n : ℕ). m * 2 ^ j + n) (xor3 c p q hc hp hq) (xor-zero-r s)
+      ∙ ap₂ (λ (m n : ℕ). m * 2 ^ j + n) (xor-digits c p q hc hp hq) (xor-zero-r s)
       ∙ sym (ap₂ (λ (n m : ℕ). n % 2 ^ m) both e ∙ mod-pow-add _ 1 j ∙ ap₂ (λ (m n : ℕ). (m % 2) * 2 ^ j + n) (high (p + q + c) j hs) (low (p + q + c) j hs))
     where
       gather : (p q a b c s t : ℕ) → c * t + s ≡ a + b → (p * t + a) + (q * t + b) ≡ (p + q + c) * t + s

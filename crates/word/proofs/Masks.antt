@@ -35,8 +35,10 @@ and-not n s k w h hw =
     let d : j + (k + s) ≡ n = omega arith in
     ap (λ (m : ℕ). bitAnd w ((2 ^ m - 1) - (2 ^ k - 1) * 2 ^ s)) (sym d)
     ∙ ap₂ bitAnd (sym (split w (k + s))) (not-mask j s k)
-    ∙ and-block (k + s) (w / 2 ^ (k + s)) (2 ^ j - 1) (w % 2 ^ (k + s)) (2 ^ s - 1) (mod-lt w (pow-pos (k + s))) (lt-of-lt-of-le (ones-lt s) (pow-mono (omega arith)))
-    ∙ ap₂ (λ (a b : ℕ). a * 2 ^ (k + s) + b) (and-mask (w / 2 ^ (k + s)) j ∙ shr-mod j (k + s) (rw d hw)) (and-mask (w % 2 ^ (k + s)) s ∙ mod-mod-pow w k s)
+    ∙ and-block (k + s) (w / 2 ^ (k + s)) (2 ^ j - 1) (w % 2 ^ (k + s)) (2 ^ s - 1)
+    (mod-lt w (pow-pos (k + s))) (lt-of-lt-of-le (ones-lt s) (pow-mono (omega arith)))
+    ∙ ap₂ (λ (a b : ℕ). a * 2 ^ (k + s) + b)
+    (and-mask (w / 2 ^ (k + s)) j ∙ shr-mod j (k + s) (rw d hw)) (and-mask (w % 2 ^ (k + s)) s ∙ mod-mod-pow w k s)
     ∙ omega arith
 
 -- and `| v << s` puts v there
@@ -57,19 +59,23 @@ sum-lt k x d h = lt-of-lt-of-le (add-lt-pow k (mask-lt x k) (mask-lt d k)) (pow-
 
 -- the whole of a masked add
 pub added : (s k d w : ℕ) → k + s ≤ 64 → w < 2 ^ 64
-    → bitOr (bitAnd w ((2 ^ 64 - 1) - ((2 ^ k - 1) * 2 ^ s) % 2 ^ 64)) ((bitAnd (bitAnd (w / 2 ^ s) (2 ^ k - 1) + bitAnd d (2 ^ k - 1)) (2 ^ k - 1) * 2 ^ s) % 2 ^ 64) ≡ addField s k d w
+    → bitOr (bitAnd w ((2 ^ 64 - 1) - ((2 ^ k - 1) * 2 ^ s) % 2 ^ 64))
+    ((bitAnd (bitAnd (w / 2 ^ s) (2 ^ k - 1) + bitAnd d (2 ^ k - 1)) (2 ^ k - 1) * 2 ^ s) % 2 ^ 64) ≡ addField s k d w
 unfolding addField field
 added s k d w h hw =
     let x : ℕ = bitAnd (w / 2 ^ s) (2 ^ k - 1) + bitAnd d (2 ^ k - 1) in
     ap₂ bitOr (ap (λ (m : ℕ). bitAnd w ((2 ^ 64 - 1) - m)) (mask-shl s k h) ∙ and-not 64 s k w h hw) (shl-exact k s 64 (mask-lt x k) h)
     ∙ or-put s k (bitAnd x (2 ^ k - 1)) w (mask-lt x k)
-    ∙ ap (λ (n : ℕ). putField s k n w) (and-mask x k ∙ ap₂ (λ (m n : ℕ). (m + n) % 2 ^ k) (and-mask (w / 2 ^ s) k) (and-mask d k) ∙ add-mod-mod (w / 2 ^ s % 2 ^ k) d (2 ^ k))
+    ∙ ap (λ (n : ℕ). putField s k n w)
+    (and-mask x k ∙ ap₂ (λ (m n : ℕ). (m + n) % 2 ^ k) (and-mask (w / 2 ^ s) k) (and-mask d k) ∙ add-mod-mod (w / 2 ^ s % 2 ^ k) d (2 ^ k))
 
 -- `u64::MAX >> (64 - k)` is k ones, also at 64
 max-shr : (k : ℕ) → k ≤ 64 → (2 ^ 64 - 1) / 2 ^ (64 - k) ≡ 2 ^ k - 1
 max-shr k h =
     let d : k + (64 - k) ≡ 64 = omega arith in
-    ap (λ (n : ℕ). (2 ^ n - 1) / 2 ^ (64 - k)) (sym d) ∙ ap (λ (n : ℕ). n / 2 ^ (64 - k)) (ones-split k (64 - k)) ∙ high (2 ^ k - 1) (64 - k) (ones-lt (64 - k))
+    ap (λ (n : ℕ). (2 ^ n - 1) / 2 ^ (64 - k)) (sym d)
+    ∙ ap (λ (n : ℕ). n / 2 ^ (64 - k)) (ones-split k (64 - k))
+    ∙ high (2 ^ k - 1) (64 - k) (ones-lt (64 - k))
 
 -- and shifted left by `low` they are a leaf's bits
 pub leaf-made : (low high : ℕ) → low < high → high ≤ 64 → ((2 ^ 64 - 1) / 2 ^ (64 - (high - low)) * 2 ^ low) % 2 ^ 64 ≡ leafBits low high

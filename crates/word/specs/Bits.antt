@@ -59,9 +59,9 @@ pub bits-ext : (n x y : ℕ) → x < 2 ^ n → y < 2 ^ n → ((b : ℕ) → b < 
 unfolding bit
 bits-ext zero x y hx hy e = lt-one hx ∙ sym (lt-one hy)
 bits-ext (suc n) x y hx hy e =
-    sym (div-add-mod' x 2)
-    ∙ ap₂ (λ (q r : ℕ). q * 2 + r) (bits-ext n (x / 2) (y / 2) (shr-lt n 1 (rw add-one hx)) (shr-lt n 1 (rw add-one hy)) up) (sym (ap (λ (m : ℕ). m % 2) (div-one x)) ∙ e zero (omega arith) ∙ ap (λ (m : ℕ). m % 2) (div-one y))
-    ∙ div-add-mod' y 2
+    let upper : x / 2 ≡ y / 2 = bits-ext n (x / 2) (y / 2) (shr-lt n 1 (rw add-one hx)) (shr-lt n 1 (rw add-one hy)) up in
+    let lowest : x % 2 ≡ y % 2 = sym (ap (λ (m : ℕ). m % 2) (div-one x)) ∙ e zero (omega arith) ∙ ap (λ (m : ℕ). m % 2) (div-one y) in
+    sym (div-add-mod' x 2) ∙ ap₂ (λ (q r : ℕ). q * 2 + r) upper lowest ∙ div-add-mod' y 2
   where
     half : (m b : ℕ) → m / 2 / 2 ^ b % 2 ≡ m / 2 ^ suc b % 2
     half m b = ap (λ (k : ℕ). k % 2) (shr-shr m 1 b ∙ ap (λ (k : ℕ). m / 2 ^ k) (one-add b))
@@ -108,7 +108,8 @@ not-bit n b w h hw =
     let d : suc j + b ≡ n = omega arith in
     let g : w < 2 ^ (suc j + b) = subst (λ (m : ℕ). w < 2 ^ m) (sym d) hw in
     let q : w / 2 ^ b < 2 ^ suc j = shr-lt (suc j) b g in
-    subst (λ (m : ℕ). (2 ^ m - 1 - w) / 2 ^ b % 2 ≡ 1 - w / 2 ^ b % 2) d (ap (λ (m : ℕ). m % 2) (not-shr j b w g) ∙ odd (2 ^ j) (2 ^ suc j) (w / 2 ^ b) (omega arith) q)
+    subst (λ (m : ℕ). (2 ^ m - 1 - w) / 2 ^ b % 2 ≡ 1 - w / 2 ^ b % 2) d
+    (ap (λ (m : ℕ). m % 2) (not-shr j b w g) ∙ odd (2 ^ j) (2 ^ suc j) (w / 2 ^ b) (omega arith) q)
   where
     odd : (m n q : ℕ) → n ≡ 2 * m → q < n → (n - 1 - q) % 2 ≡ 1 - q % 2
     odd m n q e l = omega arith

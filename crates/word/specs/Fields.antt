@@ -19,7 +19,8 @@ above x y a t h e =
 pub below : (x y a t j : ℕ) → j + t ≤ a → x % 2 ^ a ≡ y % 2 ^ a → x / 2 ^ t % 2 ^ j ≡ y / 2 ^ t % 2 ^ j
 below x y a t j h e =
     let d : (a - (j + t)) + (j + t) ≡ a = omega arith in
-    let cut : (n : ℕ) → n % 2 ^ a % 2 ^ (j + t) ≡ n % 2 ^ (j + t) = λ n. subst (λ (m : ℕ). n % 2 ^ m % 2 ^ (j + t) ≡ n % 2 ^ (j + t)) d (mod-mod-pow n (a - (j + t)) (j + t)) in
+    let cut : (n : ℕ) → n % 2 ^ a % 2 ^ (j + t) ≡ n % 2 ^ (j + t) =
+    λ n. subst (λ (m : ℕ). n % 2 ^ m % 2 ^ (j + t) ≡ n % 2 ^ (j + t)) d (mod-mod-pow n (a - (j + t)) (j + t)) in
     sym (P.field x j t) ∙ ap (λ (n : ℕ). n / 2 ^ t) (sym (cut x) ∙ ap (λ (n : ℕ). n % 2 ^ (j + t)) e ∙ cut y) ∙ P.field y j t
 
 -- ---- a field that is put

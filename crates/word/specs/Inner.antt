@@ -5,11 +5,13 @@ use mathlib.Core.Logic.{_⊎_, inl, inr}
 use Prim.Native.Nat.{ℕ, _+_, _%_, _^_, _≤_, _<_}
 use native.Mathlib.Nat.{div-one, div-eq-of-lt, add-zero, mod-eq-of-lt}
 use lib.Dec.{lit≤}
-use Rattle.word.specs.Word.{field, exp, occ, tcnt, tmax, dcnt, dmax, addOcc, addTcnt, layout, addFields, returnOcc}
+use Rattle.word.specs.Word.{field, exp, occ, tcnt, tmax, dcnt, dmax, addTcnt, layout, addFields, returnOcc}
 use Rattle.word.specs.Fields.{field-add, field-add-other, add-lt, field-lt, same-from}
 use Rattle.word.specs.AddFields.{field-add-fields, add-fields-lt}
 
-pub inner-ext : (w v : ℕ) → w < 2 ^ 64 → v < 2 ^ 64 → exp w ≡ exp v → occ w ≡ occ v → tcnt w ≡ tcnt v → tmax w ≡ tmax v → dcnt w ≡ dcnt v → dmax w ≡ dmax v → w ≡ v
+-- an inner word is its six fields
+pub inner-ext : (w v : ℕ) → w < 2 ^ 64 → v < 2 ^ 64
+    → exp w ≡ exp v → occ w ≡ occ v → tcnt w ≡ tcnt v → tmax w ≡ tmax v → dcnt w ≡ dcnt v → dmax w ≡ dmax v → w ≡ v
 inner-ext w v hw hv e o t m d x =
     let occ-up = same-from 62 1 w v o (same-from 63 1 w v e (div-eq-of-lt hw ∙ sym (div-eq-of-lt hv))) in
     sym (div-one w) ∙ same-from 0 16 w v x (same-from 16 16 w v d (same-from 32 15 w v m (same-from 47 15 w v t occ-up))) ∙ div-one v
@@ -45,7 +47,8 @@ unfolding returnOcc
 return-occ-lt w hw = add-lt 62 1 1 (addTcnt 1 w) 64 (lit≤ tt) (add-lt 47 15 1 w 64 (lit≤ tt) hw)
 
 -- "TCnt 32,767 with Occ 1, returned: both 0, TMax untouched"
-pub largest-tcnt-returned : (w : ℕ) → occ w ≡ 1 → tcnt w ≡ 32767 → (occ (returnOcc w) ≡ 0) × (tcnt (returnOcc w) ≡ 0) × (tmax (returnOcc w) ≡ tmax w)
+pub largest-tcnt-returned : (w : ℕ) → occ w ≡ 1 → tcnt w ≡ 32767
+    → (occ (returnOcc w) ≡ 0) × (tcnt (returnOcc w) ≡ 0) × (tmax (returnOcc w) ≡ tmax w)
 largest-tcnt-returned w o t =
     let r = occ-returned w in
     (r .occ-less ∙ ap (λ (n : ℕ). (n + 1) % 2 ^ 1) o, r .tcnt-more ∙ ap (λ (n : ℕ). (n + 1) % 2 ^ 15) t, r .tmax-kept)

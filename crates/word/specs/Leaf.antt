@@ -1,7 +1,7 @@
 -- Laws of the wanted bits of a leaf: which bits they are. Assumes nothing.
 use mathlib.Core.Path.{_≡_, sym, ap, _∙_}
 use mathlib.Core.Logic.{_⊎_, inl, inr, ⊎-elim}
-use Prim.Native.Nat.{ℕ, _+_, _-_, _*_, _/_, _%_, _^_, _≤_, _<_, min, max}
+use Prim.Native.Nat.{ℕ, _+_, _-_, _*_, _%_, _^_, _≤_, _<_, min, max}
 use native.Mathlib.Nat.{mul-mod-left, zero-mod, lt-of-lt-of-le}
 use native.Mathlib.Omega.{arith}
 use lib.Pow.{pow-pos, pow-mono, high-ones, shl-shr}
@@ -28,7 +28,8 @@ module _ (low high : ℕ) (some : low < high) where
   leaf-below : (b : ℕ) → b < low → bit b (leafBits low high) ≡ 0
   unfolding bit
   leaf-below b h =
-      let none : leafBits low high % 2 ^ low ≡ 0 % 2 ^ low = ap (λ (n : ℕ). n % 2 ^ low) leaf-shl ∙ mul-mod-left (2 ^ (high - low) - 1) (2 ^ low) ∙ sym (zero-mod (2 ^ low)) in
+      let none : leafBits low high % 2 ^ low ≡ 0 % 2 ^ low =
+      ap (λ (n : ℕ). n % 2 ^ low) leaf-shl ∙ mul-mod-left (2 ^ (high - low) - 1) (2 ^ low) ∙ sym (zero-mod (2 ^ low)) in
       below (leafBits low high) 0 low b 1 (omega arith) none ∙ bit-zero b
 
   pub leaf-outside : (b : ℕ) → (b < low) ⊎ (high ≤ b) → bit b (leafBits low high) ≡ 0

@@ -4,22 +4,22 @@ ghost use Prim.Native.Nat.{_+_, _^_, _≤_, _<_, min, max};
 ghost use Rattle.word.specs.Word.{Place, field, addField, occ, tcnt, tmax, dcnt, dmax, addOcc, addTcnt, addTmax, addDcnt, addDmax, layout, addFields, returnOcc, leafBits, wantedBits, maskedSwap, takeBits, giveBits};
 
 // An inner word: how many bits stand below each field.
-const OCC: u64 = 62;
+const OCC_SHIFT: u64 = 62;
 
-const TCNT: u64 = 47;
+const TCNT_SHIFT: u64 = 47;
 
-const TMAX: u64 = 32;
+const TMAX_SHIFT: u64 = 32;
 
-const DCNT: u64 = 16;
+const DCNT_SHIFT: u64 = 16;
 
-const DMAX: u64 = 0;
+const DMAX_SHIFT: u64 = 0;
 
 // How many bits a flag, a ticket count and a notice count have.
-const FLAG: u64 = 1;
+const FLAG_WIDTH: u64 = 1;
 
-const TICKETS: u64 = 15;
+const TICKET_WIDTH: u64 = 15;
 
-const NOTICES: u64 = 16;
+const NOTICE_WIDTH: u64 = 16;
 
 // The top bit of every field, and all other bits.
 const TOPS: u64 = 0xe000_4000_8000_8000;
@@ -50,61 +50,61 @@ pub fn add_field(word: u64, shift: u64, width: u64, delta: u64) -> u64
 pub fn occ(word: u64) -> u64
     ensures { λ r. ⌜ r ≡ occ word ⌝ }
 {
-    field(word, OCC, FLAG)
+    field(word, OCC_SHIFT, FLAG_WIDTH)
 }
 
 pub fn tcnt(word: u64) -> u64
     ensures { λ r. ⌜ r ≡ tcnt word ⌝ }
 {
-    field(word, TCNT, TICKETS)
+    field(word, TCNT_SHIFT, TICKET_WIDTH)
 }
 
 pub fn tmax(word: u64) -> u64
     ensures { λ r. ⌜ r ≡ tmax word ⌝ }
 {
-    field(word, TMAX, TICKETS)
+    field(word, TMAX_SHIFT, TICKET_WIDTH)
 }
 
 pub fn dcnt(word: u64) -> u64
     ensures { λ r. ⌜ r ≡ dcnt word ⌝ }
 {
-    field(word, DCNT, NOTICES)
+    field(word, DCNT_SHIFT, NOTICE_WIDTH)
 }
 
 pub fn dmax(word: u64) -> u64
     ensures { λ r. ⌜ r ≡ dmax word ⌝ }
 {
-    field(word, DMAX, NOTICES)
+    field(word, DMAX_SHIFT, NOTICE_WIDTH)
 }
 
 pub fn add_occ(word: u64, delta: u64) -> u64
     ensures { λ r. ⌜ r ≡ addOcc delta word ⌝ }
 {
-    add_field(word, OCC, FLAG, delta)
+    add_field(word, OCC_SHIFT, FLAG_WIDTH, delta)
 }
 
 pub fn add_tcnt(word: u64, delta: u64) -> u64
     ensures { λ r. ⌜ r ≡ addTcnt delta word ⌝ }
 {
-    add_field(word, TCNT, TICKETS, delta)
+    add_field(word, TCNT_SHIFT, TICKET_WIDTH, delta)
 }
 
 pub fn add_tmax(word: u64, delta: u64) -> u64
     ensures { λ r. ⌜ r ≡ addTmax delta word ⌝ }
 {
-    add_field(word, TMAX, TICKETS, delta)
+    add_field(word, TMAX_SHIFT, TICKET_WIDTH, delta)
 }
 
 pub fn add_dcnt(word: u64, delta: u64) -> u64
     ensures { λ r. ⌜ r ≡ addDcnt delta word ⌝ }
 {
-    add_field(word, DCNT, NOTICES, delta)
+    add_field(word, DCNT_SHIFT, NOTICE_WIDTH, delta)
 }
 
 pub fn add_dmax(word: u64, delta: u64) -> u64
     ensures { λ r. ⌜ r ≡ addDmax delta word ⌝ }
 {
-    add_field(word, DMAX, NOTICES, delta)
+    add_field(word, DMAX_SHIFT, NOTICE_WIDTH, delta)
 }
 
 // Every field of both words added in one sum. It leaves the top bits out, so that nothing is carried out of a field; they are added last, without a carry.

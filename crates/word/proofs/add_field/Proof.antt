@@ -15,7 +15,9 @@ shr-sum : tie.Need-shr-sum
 shr-sum c = search needs
 
 add-sum : tie.Need-add-sum
-add-sum c = record { fits = rw (one-shl (c .args .width) (c .pre .short)) (sum-lt (c .args .width) (c .args .word / 2 ^ c .args .shift) (c .args .delta) (c .pre .short)) }
+add-sum c =
+    let width = c .args .width in
+    record { fits = rw (one-shl width (c .pre .short)) (sum-lt width (c .args .word / 2 ^ c .args .shift) (c .args .delta) (c .pre .short)) }
 
 shl-result : tie.Need-shl-result
 shl-result c = search needs

@@ -1,6 +1,8 @@
 -- `word::wanted_bits` meets its contract. Assumes nothing.
+use mathlib.Core.Path.{ap₂, _∙_}
+use Prim.Native.Nat.{ℕ, _-_}
 use borrow.Author.Needs.{needs}
-use Rattle.word.specs.Word.{wantedBits}
+use Rattle.word.specs.Word.{leafBits, wantedBits}
 use Rattle.word.proofs.wanted_bits.Statement.{statement}
 use Rattle.word.proofs.wanted_bits.Tie as tie
 
@@ -24,7 +26,9 @@ leaf-bits-requires c κs = search needs
 
 returns : tie.Need-returns
 unfolding wantedBits
-returns c = cc
+returns c =
+    let edge : ℕ = c .before .before .before .args .edge in
+    c .leaf-bits .ensures ∙ ap₂ (λ (m n : ℕ). leafBits (m - edge) (n - edge)) (c .before .before .larger .ensures) (c .before .smaller .ensures)
 
 pub wanted-bits-spec : {M : Type 1} → statement M
 wanted-bits-spec =
