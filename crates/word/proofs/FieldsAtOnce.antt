@@ -13,7 +13,7 @@ use lib.Dec.{T, eqb, eqb→eq}
 use Rattle.base.specs.Every.{every, every-at}
 use Rattle.word.specs.Word.{addFields}
 
--- the top bit of each field, of widths given less one; and the bits below it
+-- the top bit of each field, and the bits below it; a field has at least one bit, and j is its width less one
 unfoldable pub tops : List ℕ → ℕ
 tops [] = 0
 tops (j ∷ js) = tops js * 2 ^ suc j + 2 ^ j
@@ -80,31 +80,31 @@ fields-at-once (j ∷ js) d w =
     let k : ℕ = suc j in
     let x : ℕ = w % 2 ^ k in
     let y : ℕ = d % 2 ^ k in
-    let wh : ℕ = w / 2 ^ k in
-    let dh : ℕ = d / 2 ^ k in
+    let w-above : ℕ = w / 2 ^ k in
+    let d-above : ℕ = d / 2 ^ k in
     let hx : x < 2 ^ k = mod-lt w (pow-pos k) in
     let hy : y < 2 ^ k = mod-lt d (pow-pos k) in
     let up : j ≤ k = omega arith in
     let ho : 2 ^ j - 1 < 2 ^ k = lt-of-lt-of-le (ones-lt j) (pow-mono up) in
-    let ht : 2 ^ j < 2 ^ k = lt-of-lt-of-le (dbl (2 ^ j) (pow-pos j)) (le-of-eq (sym (pow-suc 2 j))) in
+    let ht : 2 ^ j < 2 ^ k = lt-of-lt-of-le (under-double (2 ^ j) (pow-pos j)) (le-of-eq (sym (pow-suc 2 j))) in
     let part : (n : ℕ) → bitAnd n (lows js * 2 ^ k + (2 ^ j - 1)) ≡ bitAnd (n / 2 ^ k) (lows js) * 2 ^ k + n % 2 ^ k % 2 ^ j =
     λ n. ap (λ (m : ℕ). bitAnd m (lows js * 2 ^ k + (2 ^ j - 1))) (sym (split n k))
     ∙ and-block k (n / 2 ^ k) (lows js) (n % 2 ^ k) (2 ^ j - 1) (mod-lt n (pow-pos k)) ho
     ∙ ap (λ (m : ℕ). bitAnd (n / 2 ^ k) (lows js) * 2 ^ k + m) (and-mask (n % 2 ^ k) j) in
-    let a : ℕ = bitAnd wh (lows js) in
-    let b : ℕ = bitAnd dh (lows js) in
+    let a : ℕ = bitAnd w-above (lows js) in
+    let b : ℕ = bitAnd d-above (lows js) in
     let sums : bitAnd w (lows js * 2 ^ k + (2 ^ j - 1)) + bitAnd d (lows js * 2 ^ k + (2 ^ j - 1)) ≡ (a + b) * 2 ^ k + (x % 2 ^ j + y % 2 ^ j) =
     ap₂ (λ (m n : ℕ). m + n) (part w) (part d) ∙ regroup a b (x % 2 ^ j) (y % 2 ^ j) (2 ^ k) in
-    let high-bits : bitAnd (bitXor w d) (tops js * 2 ^ k + 2 ^ j) ≡ bitAnd (bitXor wh dh) (tops js) * 2 ^ k + bitAnd (bitXor x y) (2 ^ j) =
-    ap (λ (m : ℕ). bitAnd m (tops js * 2 ^ k + 2 ^ j)) (ap₂ bitXor (sym (split w k)) (sym (split d k)) ∙ xor-block k wh dh x y hx hy)
-    ∙ and-block k (bitXor wh dh) (tops js) (bitXor x y) (2 ^ j) (xor-lt k x y hx hy) ht in
+    let high-bits : bitAnd (bitXor w d) (tops js * 2 ^ k + 2 ^ j) ≡ bitAnd (bitXor w-above d-above) (tops js) * 2 ^ k + bitAnd (bitXor x y) (2 ^ j) =
+    ap (λ (m : ℕ). bitAnd m (tops js * 2 ^ k + 2 ^ j)) (ap₂ bitXor (sym (split w k)) (sym (split d k)) ∙ xor-block k w-above d-above x y hx hy)
+    ∙ and-block k (bitXor w-above d-above) (tops js) (bitXor x y) (2 ^ j) (xor-lt k x y hx hy) ht in
     ap₂ bitXor sums high-bits
-    ∙ xor-block k (a + b) (bitAnd (bitXor wh dh) (tops js)) (x % 2 ^ j + y % 2 ^ j) (bitAnd (bitXor x y) (2 ^ j))
+    ∙ xor-block k (a + b) (bitAnd (bitXor w-above d-above) (tops js)) (x % 2 ^ j + y % 2 ^ j) (bitAnd (bitXor x y) (2 ^ j))
     (add-lt-pow j (mod-lt x (pow-pos j)) (mod-lt y (pow-pos j))) (and-lt k (bitXor x y) (2 ^ j) (xor-lt k x y hx hy) ht)
-    ∙ ap₂ (λ (m n : ℕ). m * 2 ^ k + n) (fields-at-once js dh wh) (one-field j x y hx hy ∙ sym (add-mod w d (2 ^ k)))
+    ∙ ap₂ (λ (m n : ℕ). m * 2 ^ k + n) (fields-at-once js d-above w-above) (one-field j x y hx hy ∙ sym (add-mod w d (2 ^ k)))
   where
-    dbl : (p : ℕ) → 0 < p → p < p * 2
-    dbl p h = omega arith
+    under-double : (p : ℕ) → 0 < p → p < p * 2
+    under-double p h = omega arith
 
     regroup : (a b m n p : ℕ) → (a * p + m) + (b * p + n) ≡ (a + b) * p + (m + n)
     regroup a b m n p = omega arith

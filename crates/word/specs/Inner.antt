@@ -18,6 +18,7 @@ inner-ext w v hw hv e o t m d x =
 
 -- ---- returning Occ
 
+-- what it does to each field of w, where r is the word that it leaves
 pub record OccReturned (w r : ℕ) : Type 0 where
   pub exp-kept : exp r ≡ exp w
   pub occ-less : occ r ≡ (occ w + 1) % 2 ^ 1
