@@ -1,0 +1,2 @@
+pub mod FieldsAtOnce
+pub mod Masks
