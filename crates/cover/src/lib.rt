@@ -33,9 +33,9 @@ fn lowest(h: u64, l: u64, r: u64) -> Piece
     requires { ⌜ Window h l r ⌝ }
     ensures { λ p. ⌜ p ≡ lowestPiece h l r ⌝ }
 {
-    let k = rise(l, r - 1);
-    let node = tree::first_node(h - k) + (l >> (2 * k + 6));
-    if k == 0 {
+    let up = rise(l, r - 1);
+    let node = tree::first_node(h - up) + (l >> (2 * up + 6));
+    if up == 0 {
         return Piece {
             node: node,
             over: 0,
@@ -43,7 +43,7 @@ fn lowest(h: u64, l: u64, r: u64) -> Piece
     }
     Piece {
         node: node,
-        over: (64u64 << (2 * k)) - (r - l),
+        over: (64u64 << (2 * up)) - (r - l),
     }
 }
 

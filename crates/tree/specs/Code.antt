@@ -37,7 +37,7 @@ left-code k n f e h b =
     ap (λ (x : ℕ). ((n - 1) * 2 ^ (2 * k)) % 2 ^ 64 + x) (e ∙ ap first s)
     ∙ ap (λ (x : ℕ). x + first (suc k)) (shifted (n - 1) k (omega (arith, left-small k n h b))) ∙ sym i
 
-pub level-code : (n : ℕ) → Node 12 n → (leadingZeros 64 (3 * n - 2) ≤ 65) × ((65 - leadingZeros 64 (3 * n - 2)) / 2 ≡ level n)
+pub level-code : (n : ℕ) → Node 12 n → (leadingZeros 64 (3 * n - 2) ≤ 64) × ((65 - leadingZeros 64 (3 * n - 2)) / 2 ≡ level n)
 level-code n v =
     let t = leading-top 64 (3 * n - 2) (omega (arith, v .some)) (omega (arith, node-small n v)) in
     let l = level-is-log n (t .0) (v .some) (t .2) (t .3) in

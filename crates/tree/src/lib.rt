@@ -126,7 +126,7 @@ pub fn notify_node(m: u64, n: u64, i: u64) -> u64
 }
 
 pub fn check_count(h: u64, m: u64, n: u64) -> u64
-    requires { ⌜ (h ≤ 12) × (m ≤ 4) × Node h n ⌝ }
+    requires { ⌜ (h ≤ 12) × (1 ≤ m) × (m ≤ 4) × Node h n ⌝ }
     ensures { λ r. ⌜ r ≡ length (checkList h m n) ⌝ }
 {
     let k = h - level(n);

@@ -4,6 +4,7 @@ use Prim.Native.Nat.{_+_, _*_, _<_}
 use native.Mathlib.Omega.{arith}
 use lib.Pow.{shr-le}
 use Rattle.cover.specs.Rise.{rise}
+use Rattle.cover.specs.Over.{units-small}
 use Rattle.cover.specs.Code.{levels-left, one-code, pair-code, halves-fit, leaf-apart, neighbours, not-neighbours, cut-code}
 use borrow.Author.Needs.{needs}
 use Rattle.cover.proofs.pieces.Statement.{statement}
@@ -73,7 +74,7 @@ add-if2 c =
     let e = c .before .rise .ensures in
     let b = levels-left (a .h) (a .l) (a .r) (c .before .rise .result) w e in
     let k = c .before .rise .result in
-    omega (arith, shr-le (a .l) (2 * k + 4), w .some)
+    omega (arith, shr-le (a .l) (2 * k + 4), w .some, w .fits, units-small (a .h) (w .most))
 
 shl-two-pieces : tie.Need-shl-two-pieces
 shl-two-pieces c =

@@ -15,7 +15,7 @@ sub-result c = search needs
 
 sub-result-2 : tie.Need-sub-result-2
 sub-result-2 c =
-    level-code (c .args .n) (c .pre) .0
+    omega (arith, level-code (c .args .n) (c .pre) .0)
 
 cast-result : tie.Need-cast-result
 cast-result c = search needs
