@@ -38,12 +38,12 @@ def altered(answer, at):
 
 
 def unreported(cases, answers):
-    """Alters one number of one answer, in turn each of the four numbers, and gives the alterations that the comparer
-    does not report. Without this a comparer that finds nothing would look like code without faults."""
+    """Puts an altered answer in the place of an expected one, altering in turn each of its four numbers, and gives those that
+    the comparer does not report. Without this a comparer that finds nothing would look like code without faults."""
     missed = []
     for at in range(ANSWER):
         place = len(cases) * at // ANSWER
-        changed = [*answers[:place], altered(answers[place], at), *answers[place + 1:]]
+        changed = [*answers[:place], altered(cases[place].expected, at), *answers[place + 1:]]
         if (cases[place], changed[place]) not in differences(cases, changed):
             missed.append((cases[place], changed[place]))
     return missed

@@ -12,6 +12,7 @@ LIBRARY = ROOT / "target" / "staticlib" / "libprobe.a"
 
 QUERY = 8
 ANSWER = 4
+SECONDS = 30
 
 RESULTS = {"uint64_t": ("result",), "struct swap": ("done", "word"), "struct cover": ("number", "first", "second", "over")}
 
@@ -56,12 +57,12 @@ class Probe:
         self.place = {name: place for place, name in enumerate(names)}
 
     def answers(self, cases):
-        """The answer to each case's call, as the four numbers that the program writes."""
+        """The answer to each case's call, as the four numbers that the program writes. A call that does not end is given up."""
         queries = array("Q")
         for case in cases:
             unused = (0,) * (QUERY - 1 - len(case.arguments))
             queries.extend((self.place[case.call], *case.arguments, *unused))
-        run = subprocess.run([self.program], input=queries.tobytes(), check=True, capture_output=True)
+        run = subprocess.run([self.program], input=queries.tobytes(), check=True, capture_output=True, timeout=SECONDS)
         numbers = array("Q")
         numbers.frombytes(run.stdout)
         return [tuple(numbers[at:at + ANSWER]) for at in range(0, len(numbers), ANSWER)]
