@@ -1,9 +1,12 @@
 """The pieces of a window, by trying every cover."""
 
+from functools import lru_cache
 from itertools import combinations
 from typing import NamedTuple
 
 from model import tree
+
+FEW_NODES = (2, 3)
 
 
 class Answer(NamedTuple):
@@ -53,6 +56,7 @@ def rank(h, pieces, l, r):
     return sum(over_cover(h, n, l, r) for n in pieces), len(pieces), *pieces
 
 
+@lru_cache(maxsize=None)
 def all_nodes_and_pairs(h):
     """Every single node and every pair of nodes of the tree."""
     single = [(n,) for n in tree.nodes(h)]
@@ -78,12 +82,9 @@ def least(h, candidates, l, r):
     return min(covers, key=lambda pieces: rank(h, pieces, l, r))
 
 
-_SMALL = {h: all_nodes_and_pairs(h) for h in (2, 3)}
-
-
 def pieces(h, l, r):
     """The cover of the window [l, r): every node and pair is tried at H 2 and 3, where they are few."""
-    candidates = _SMALL[h] if h in _SMALL else nodes_and_pairs_at_edges(h, l, r)
+    candidates = all_nodes_and_pairs(h) if h in FEW_NODES else nodes_and_pairs_at_edges(h, l, r)
     return least(h, candidates, l, r)
 
 

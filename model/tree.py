@@ -113,7 +113,10 @@ def notify_list(m, n):
 
 
 def check_list(h, m, n):
-    """A node at level L checks itself and its inner descendants at levels L..L+m-1, by rising number."""
+    """A node at level L checks itself and its inner descendants at levels L..L+m-1, by rising number.
+
+    Only inner nodes check: a leaf is taken without phase 8.
+    """
     found, row = [n], [n]
     for _ in range(m - 1):
         row = [c for a in row for c in children(a) if level(c) < h]

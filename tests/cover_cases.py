@@ -22,6 +22,17 @@ def every_window_of_h_2():
     return answered((2, l, r) for l in edges for r in edges)
 
 
+def beside_leaf_edges(h):
+    """Every edge of a leaf, and the edges one and two units beside it."""
+    near = {64 * k + beside for k in range(4 ** (h - 1) + 1) for beside in (-2, -1, 0, 1, 2)}
+    return sorted(edge for edge in near if 0 <= edge <= tree.units(h))
+
+
+def windows_between_leaf_edges():
+    edges = beside_leaf_edges(3)
+    return answered((3, l, r) for l in edges for r in edges if l < r)
+
+
 def beside_a_multiple(h, rng):
     """An edge at or beside a multiple of 64 * 4^k within the tree, each k as likely."""
     step = 64 * 4 ** rng.randrange(h)
@@ -79,6 +90,7 @@ def refused_h():
 
 SUITES = {
     "cover at H 2, every window": every_window_of_h_2,
+    "cover at H 3, every window with edges at and beside leaf edges": windows_between_leaf_edges,
     **{f"cover at H {h}": lambda h=h: windows_at(h) for h in tree.LEVELS if h > 2},
     "cover refused by 7": refused_windows,
     "cover refused by 1": refused_h,

@@ -32,10 +32,16 @@ def newest_source():
     return max(path.stat().st_mtime for path in files)
 
 
+def command(*words):
+    """Runs a command of the build, which says itself what is wrong when it fails."""
+    if subprocess.run(words, cwd=ROOT).returncode != 0:
+        raise SystemExit(f"failed: {' '.join(map(str, words))}")
+
+
 def build_library():
     """Rattle proves the crate `probe` and what it rests on, unless the library is newer than all of their files."""
     if not LIBRARY.exists() or LIBRARY.stat().st_mtime < newest_source():
-        subprocess.run(["rt", "staticlib", "probe"], cwd=ROOT, check=True)
+        command("rt", "staticlib", "probe")
     return LIBRARY
 
 
@@ -43,8 +49,7 @@ def build_program(library):
     """The program that answers queries, linked with the library."""
     program = ROOT / "target" / "tests" / "probe"
     program.parent.mkdir(parents=True, exist_ok=True)
-    options = ["-std=c11", "-O2", "-Wall", "-Wextra", "-Werror"]
-    subprocess.run(["gcc", *options, SOURCE, library, "-o", program], check=True)
+    command("gcc", "-std=c11", "-O2", "-Wall", "-Wextra", "-Werror", SOURCE, library.resolve(), "-o", program)
     return program
 
 

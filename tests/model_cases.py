@@ -2,6 +2,7 @@
 
 from random import Random
 
+import cover_cases
 import document_cases
 from compare import case, padded
 from model import cover, tree, word
@@ -64,9 +65,9 @@ def literal_and_shortened(h, l, r):
 def shortened_covers():
     """Every window at H 2, and windows with edges at and beside the leaves' edges and random ones at H 3."""
     rng = Random("shortened covers")
-    edges = sorted({min(max(64 * k + beside, 0), 1024) for k in range(17) for beside in (-1, 0, 1)})
+    edges = cover_cases.beside_leaf_edges(3)
     windows = [(2, l, r) for l in range(256) for r in range(l + 1, 257)]
-    windows += [(3, l, r) for l in rng.sample(edges, 20) for r in rng.sample(edges, 40) if l < r]
+    windows += [(3, *sorted(rng.sample(edges, 2))) for _ in range(1000)]
     windows += [(3, *sorted(rng.sample(range(1025), 2))) for _ in range(500)]
     for h, l, r in windows:
         yield literal_and_shortened(h, l, r)
@@ -96,6 +97,6 @@ SUITES = {
     "model, the edges of document 01": document_edges,
     "model, numbers in level order": numbering,
     "model, children's ranges adjoin": adjoining_ranges,
-    "model, covers at the window's edges are all covers": shortened_covers,
+    "model, the least cover at the window's edges is the least of all": shortened_covers,
     "model, fields by name and by place": fields_and_bits,
 }

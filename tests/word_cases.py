@@ -71,8 +71,8 @@ def adds_anywhere():
     rng = Random("adds anywhere")
     for low, width in field_places():
         for value in near_wrap(width):
-            w = word.add_field_at(rng.getrandbits(64), low, width, 0)
-            w = word.add_field_at(w, low, width, value - word.field_at(w, low, width))
+            others = rng.getrandbits(64)
+            w = word.add_field_at(others, low, width, value - word.field_at(others, low, width))
             delta = rng.choice(deltas(width, rng))
             yield case("add_field", [w, low, width, delta], word.add_field_at(w, low, width, delta))
 

@@ -1,4 +1,5 @@
-// The functions of the crates word, tree and cover under names that C can link, for the comparison with the model and the benchmark.
+// The functions of the crates word, tree and cover under names that C can link, for the comparison with the model and for
+// the benchmark.
 
 #[no_mangle]
 pub extern "C" fn probe_field(word: u64, shift: u64, width: u64) -> u64 {
