@@ -8,6 +8,7 @@ ghost use Rattle.cover.specs.Lowest.{Window};
 ghost use Rattle.cover.specs.Code.{lowestPiece, one, pair};
 
 // number 0: the pieces (second 0 for none) and their total over-cover; else the cause of a refusal, and zeros.
+#[repr(C)]
 pub struct Answer {
     pub number: u64,
     pub first: u64,
