@@ -79,12 +79,12 @@ pub extern "C" fn probe_wanted_bits(edge: u64, l: u64, r: u64) -> u64 {
 #[no_mangle]
 pub extern "C" fn probe_masked_swap(
     word: u64,
-    compare_mask: u64,
+    compared: u64,
     expected: u64,
-    swap_mask: u64,
+    swapped: u64,
     value: u64,
 ) -> word::Swap {
-    word::masked_swap(word, compare_mask, expected, swap_mask, value)
+    word::masked_swap(word, compared, expected, swapped, value)
 }
 
 #[no_mangle]
