@@ -1,0 +1,58 @@
+// The lock: what each call does to one client's record and to the lent tree.
+
+// "H, m and wait T travel beside it": the settings of a tree.
+#[repr(C)]
+pub struct Settings {
+    pub levels: u64,
+    pub distance: u64,
+    pub wait: u64,
+}
+
+// A client record, its fields in document 01's order: phase, outcome, the window's edges, the numbers of its two pieces (0 for none), the current
+// piece (0 or 1, the last begun), the piece being given back, the current piece's grip, ticket, place in the list it walks, notices that the
+// current piece gave, and the noted times.
+#[repr(C)]
+pub struct Record {
+    pub phase: u64,
+    pub outcome: u64,
+    pub left: u64,
+    pub right: u64,
+    pub first: u64,
+    pub second: u64,
+    pub current: u64,
+    pub giving: u64,
+    pub grip: u64,
+    pub ticket: u64,
+    pub place: u64,
+    pub notices: u64,
+    pub t1: u64,
+    pub t0: u64,
+}
+
+// A call as a schedule has it: the kind (0 request, 1 step, 2 release, 3 cancel), the client, the edges a and b of a request or the clock a of a step;
+// and beside it the last clock.
+#[repr(C)]
+pub struct Call {
+    pub kind: u64,
+    pub client: u64,
+    pub a: u64,
+    pub b: u64,
+    pub last: u64,
+}
+
+// What a call answers: its number (0 accepted), the clock and the record after it.
+#[repr(C)]
+pub struct Stepped {
+    pub number: u64,
+    pub clock: u64,
+    pub next: Record,
+}
+
+// What a phase's own work makes of the word found at the touched node: 0 or 9, the word that it leaves there, and the next record.
+pub struct Moved {
+    pub number: u64,
+    pub word: u64,
+    pub next: Record,
+}
+
+mod pieces;
