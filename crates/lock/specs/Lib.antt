@@ -2,7 +2,9 @@ pub mod Active
 pub mod Calls
 pub mod Example
 pub mod Pieces
+pub mod Placed
 pub mod Readable
+pub mod StepLaws
 pub mod Steps
 pub mod Table
 pub mod Types

@@ -1,5 +1,6 @@
 -- To be believed: document 01, section "Phases", the table: for each phase which node a step touches, what it leaves there, and the next record.
 -- s are the settings, r the record, w the word found at the touched node, t the step's clock. Assumes nothing.
+use mathlib.Core.Bool.{Bool}
 use Prim.Native.Nat.{ℕ, suc, _+_, _-_}
 use lib.Dec.{eqb, leb, ltb}
 use lib.ListN.{length, getD}
@@ -43,74 +44,58 @@ begin s i r = change r (startPhase s (pieceAt r i)) (r .outcome) i (r .giving) 0
 unfoldable pub taken : Settings → Record → Record
 taken s r = choose (ltb (suc (r .current)) (length (pieces r))) (begin s (suc (r .current)) r) (toPhase 9 r)
 
--- ---- a row of the table each
+-- ---- the next record, a row of the table each
 
--- the word w left as it was found
-abbrev pub reads : ℕ → Record → Moved
-reads w r = record { number = 0; word = w; next = r }
+-- 1 ticket: "old TMax is the ticket; to 2"
+unfoldable pub ticketTaken : Record → ℕ → Record
+ticketTaken r w = toPhase 2 (withGrip 1 (withTicket (tmax w) r))
 
-abbrev pub leaves : ℕ → Record → Moved
-leaves w r = record { number = 0; word = w; next = r }
-
--- 1 ticket: "TMax + 1 at the piece; old TMax is the ticket; to 2"
-unfoldable pub takeTicket : Record → ℕ → Moved
-takeTicket r w = leaves (addTmax 1 w) (toPhase 2 (withGrip 1 (withTicket (tmax w) r)))
-
--- 2 turn: "read it; TCnt equals the ticket: to 3 (root: to 5)"
-unfoldable pub awaitTurn : Record → ℕ → Moved
-awaitTurn r w = reads w (choose (eqb (tcnt w) (r .ticket)) (toPhase (choose (isRoot (currentPiece r)) 5 3) (withGrip 2 r)) r)
+-- 2 turn: "TCnt equals the ticket: to 3 (root: to 5)"
+unfoldable pub turnAwaited : Record → ℕ → Record
+turnAwaited r w = choose (eqb (tcnt w) (r .ticket)) (toPhase (choose (isRoot (currentPiece r)) 5 3) (withGrip 2 r)) r
 
 -- "go up, after the root to 5"
 unfoldable pub goUp : Record → Record
 goUp r = choose (ltb (suc (r .place)) (length (ancestors (currentPiece r)))) (withPlace (suc (r .place)) r) (toPhase 5 r)
 
--- 3 climb: "read the ancestor, parent first. Occ set: to 4. Clear: note t1 if it is the parent; go up"
-unfoldable pub climbUp : Record → ℕ → ℕ → Moved
-climbUp r w t = reads w (choose (eqb (occ w) 1) (toBlocked r) (goUp (choose (eqb (r .place) 0) (withT1 t r) r)))
+-- 3 climb: "Occ set: to 4. Clear: note t1 if it is the parent; go up"
+unfoldable pub climbed : Record → ℕ → ℕ → Record
+climbed r w t = choose (eqb (occ w) 1) (toBlocked r) (goUp (choose (eqb (r .place) 0) (withT1 t r) r))
 
--- 4 blocked: "read that ancestor; Occ clear: to 3 at the parent"
-unfoldable pub awaitClear : Record → ℕ → Moved
-awaitClear r w = reads w (choose (eqb (occ w) 0) (toPhase 3 r) r)
+-- 4 blocked: "Occ clear: to 3 at the parent"
+unfoldable pub unblocked : Record → ℕ → Record
+unblocked r w = choose (eqb (occ w) 0) (toPhase 3 r) r
 
--- the wanted bits of leaf n
-abbrev pub wanted : Settings → Record → ℕ → ℕ
-wanted s r n = wantedBits (left (s .levels) n) (r .left) (r .right)
+-- 5 claim, leaf: "success to 6, failure to 3 at the parent"
+unfoldable pub bitsClaimed : Record → Bool → Record
+bitsClaimed r done = choose done (toPhase 6 (withGrip 3 r)) (toPhase 3 r)
 
--- 5 claim, leaf: "swap the wanted bits from all 0 to all 1; success to 6, failure to 3 at the parent"
-unfoldable pub claimBits : Record → Swap → Moved
-claimBits r swap = leaves (swap .word) (choose (swap .done) (toPhase 6 (withGrip 3 r)) (toPhase 3 r))
-
--- 5 claim, inner: "Occ + 1, note t0, to 6 (root: to 7)"
-unfoldable pub claimOcc : Record → ℕ → ℕ → Moved
-claimOcc r w t = leaves (addOcc 1 w) (toPhase (choose (isRoot (currentPiece r)) 7 6) (withT0 t (withGrip 3 r)))
-
-unfoldable pub claimPiece : Settings → Record → ℕ → ℕ → Moved
-claimPiece s r w t = choose (isLeaf s (currentPiece r)) (claimBits r (takeBits (wanted s r (currentPiece r)) w)) (claimOcc r w t)
+-- 5 claim, inner: "note t0, to 6 (root: to 7)"
+unfoldable pub occClaimed : Record → ℕ → Record
+occClaimed r t = toPhase (choose (isRoot (currentPiece r)) 7 6) (withT0 t (withGrip 3 r))
 
 -- 6 notify, "After the last: clock - t1 ≥ T gives outcome 2 and 10; else inner to 7, a leaf is taken"
-unfoldable pub notified : Settings → Record → ℕ → Record
-notified s r t =
+unfoldable pub allNotified : Settings → Record → ℕ → Record
+allNotified s r t =
     choose (leb (s .wait) (t - r .t1)) (toPhase 10 (withOutcome 2 r)) (choose (isLeaf s (currentPiece r)) (taken s r) (toPhase 7 r))
 
--- 6 notify: "DMax + 1 at the next ancestor"
-unfoldable pub giveNotice : Settings → Record → ℕ → ℕ → Moved
-giveNotice s r w t =
-    leaves (addDmax 1 w)
-    (choose (ltb (suc (r .place)) (length (notifyList (s .distance) (currentPiece r))))
+-- 6 notify: the next place, and as many notices
+unfoldable pub noticeGiven : Settings → Record → ℕ → Record
+noticeGiven s r t =
+    choose (ltb (suc (r .place)) (length (notifyList (s .distance) (currentPiece r))))
     (withPlace (suc (r .place)) (withNotices (suc (r .place)) r))
-    (notified s (withNotices (suc (r .place)) r) t))
+    (allNotified s (withNotices (suc (r .place)) r) t)
 
--- 7 wait: "clock - t0 ≥ T: to 8; no word touched"
-unfoldable pub awaitTime : Settings → Record → ℕ → ℕ → Moved
-awaitTime s r w t = reads w (choose (leb (s .wait) (t - r .t0)) (toPhase 8 r) r)
+-- 7 wait: "clock - t0 ≥ T: to 8"
+unfoldable pub waited : Settings → Record → ℕ → Record
+waited s r t = choose (leb (s .wait) (t - r .t0)) (toPhase 8 r) r
 
--- 8 check: "read the next checked node; DCnt = DMax: move on; after the last the piece is taken"
-unfoldable pub checkNext : Settings → Record → ℕ → Moved
-checkNext s r w =
-    reads w
-    (choose (eqb (dcnt w) (dmax w))
+-- 8 check: "DCnt = DMax: move on; after the last the piece is taken"
+unfoldable pub checkPassed : Settings → Record → ℕ → Record
+checkPassed s r w =
+    choose (eqb (dcnt w) (dmax w))
     (choose (ltb (suc (r .place)) (length (checkList (s .levels) (s .distance) (currentPiece r)))) (withPlace (suc (r .place)) r) (taken s r))
-    r)
+    r
 
 -- ---- 10 returning: "piece by piece, first piece first, each with its own word at place 0 and its notices after it"
 
@@ -122,42 +107,61 @@ pieceReturned r = choose (eqb (gripOf r (suc (r .giving))) 0) (idleWith (r .outc
 unfoldable pub wordReturned : Settings → Record → Record
 wordReturned s r = choose (ltb (r .place) (noticesOf s r (r .giving))) (withPlace (suc (r .place)) r) (pieceReturned r)
 
--- "Leaf bits taken: swap them from all 1 to all 0"; "returning leaf finds a wanted bit clear" is cause 9
-unfoldable pub returnBits : Settings → Record → ℕ → Swap → Moved
-returnBits s r w swap = choose (swap .done) (leaves (swap .word) (wordReturned s r)) (record { number = 9; word = w; next = r })
+-- "Grip 1: the step reads, and TCnt equal to the ticket makes the grip 2; the next step adds."
+unfoldable pub turnReturned : Record → ℕ → Record
+turnReturned r w = choose (eqb (tcnt w) (r .ticket)) (withGrip 2 r) r
 
--- "Occ set: Occ - 1 and TCnt + 1 in one add. Turn reached, Occ not set: TCnt + 1. Grip 1: the step reads, and TCnt equal to the ticket makes the grip 2"
+-- ---- what a step leaves at the touched node, and the next record
+
+abbrev pub leaves : ℕ → Record → Moved
+leaves w r = record { number = 0; word = w; next = r }
+
+-- the wanted bits of leaf n
+abbrev pub wanted : Settings → Record → ℕ → ℕ
+wanted s r n = wantedBits (left (s .levels) n) (r .left) (r .right)
+
+-- "leaf: swap the wanted bits from all 0 to all 1 .. Inner: Occ + 1"
+unfoldable pub claimPiece : Settings → Record → ℕ → ℕ → Moved
+claimPiece s r w t =
+    choose (isLeaf s (currentPiece r))
+    (leaves (takeBits (wanted s r (currentPiece r)) w .word) (bitsClaimed r (takeBits (wanted s r (currentPiece r)) w .done)))
+    (leaves (addOcc 1 w) (occClaimed r t))
+
+-- "Leaf bits taken: swap them from all 1 to all 0"; "returning leaf finds a wanted bit clear" is cause 9
+unfoldable pub returnBits : Settings → Record → ℕ → Moved
+returnBits s r w =
+    choose (giveBits (wanted s r (givenPiece r)) w .done)
+    (leaves (giveBits (wanted s r (givenPiece r)) w .word) (wordReturned s r))
+    (record { number = 9; word = w; next = r })
+
+-- "Occ set: Occ - 1 and TCnt + 1 in one add. Turn reached, Occ not set: TCnt + 1."
 unfoldable pub returnInner : Settings → Record → ℕ → Moved
 returnInner s r w =
     choose (eqb (gripOf r (r .giving)) 3) (leaves (returnOcc w) (wordReturned s r))
     (choose (eqb (gripOf r (r .giving)) 2) (leaves (addTcnt 1 w) (wordReturned s r))
-    (reads w (choose (eqb (tcnt w) (r .ticket)) (withGrip 2 r) r)))
+    (leaves w (turnReturned r w)))
 
--- "Then DCnt + 1 at each ancestor notified, in the order of notifying."
-unfoldable pub returnNotice : Settings → Record → ℕ → Moved
-returnNotice s r w = leaves (addDcnt 1 w) (wordReturned s r)
-
+-- the own word at place 0; "Then DCnt + 1 at each ancestor notified, in the order of notifying."
 unfoldable pub giveBack : Settings → Record → ℕ → Moved
 giveBack s r w =
     choose (eqb (r .place) 0)
-    (choose (isLeaf s (givenPiece r)) (returnBits s r w (giveBits (wanted s r (givenPiece r)) w)) (returnInner s r w))
-    (returnNotice s r w)
+    (choose (isLeaf s (givenPiece r)) (returnBits s r w) (returnInner s r w))
+    (leaves (addDcnt 1 w) (wordReturned s r))
 
--- ---- the table
-
+-- the table; a phase that reads leaves the word as it was found
 unfoldable pub movedIn : Settings → Record → ℕ → ℕ → Phase → Moved
-movedIn s r w t idle = reads w r
-movedIn s r w t ticket = takeTicket r w
-movedIn s r w t turn = awaitTurn r w
-movedIn s r w t climb = climbUp r w t
-movedIn s r w t blocked = awaitClear r w
+movedIn s r w t idle = leaves w r
+movedIn s r w t ticket = leaves (addTmax 1 w) (ticketTaken r w)
+movedIn s r w t turn = leaves w (turnAwaited r w)
+movedIn s r w t climb = leaves w (climbed r w t)
+movedIn s r w t blocked = leaves w (unblocked r w)
 movedIn s r w t claim = claimPiece s r w t
-movedIn s r w t notify = giveNotice s r w t
-movedIn s r w t wait = awaitTime s r w t
-movedIn s r w t check = checkNext s r w
-movedIn s r w t held = reads w r
+movedIn s r w t notify = leaves (addDmax 1 w) (noticeGiven s r t)
+movedIn s r w t wait = leaves w (waited s r t)
+movedIn s r w t check = leaves w (checkPassed s r w)
+movedIn s r w t held = leaves w r
 movedIn s r w t returning = giveBack s r w
-movedIn s r w t unknown = reads w r
+movedIn s r w t unknown = leaves w r
 
 abbrev pub touched : Settings → Record → ℕ
 touched s r = touchedIn s r (phaseOf (r .phase))

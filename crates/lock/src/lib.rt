@@ -56,3 +56,4 @@ pub struct Moved {
 }
 
 mod pieces;
+mod steps;

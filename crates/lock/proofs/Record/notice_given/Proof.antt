@@ -1,0 +1,81 @@
+-- `lock::Record::notice_given` meets its contract. Assumes nothing.
+use mathlib.Core.Path.{_≡_, refl, sym, ap, ap₂, _∙_, subst}
+use mathlib.Core.Bool.{Bool, true, false}
+use Prim.Native.Nat.{ℕ, suc, _+_, _-_, _*_, _/_, _%_, _^_, _≤_, _<_}
+use native.Mathlib.Omega.{arith}
+use lib.Dec.{eqb}
+use lib.ListN.{length, getD}
+use Rattle.base.specs.Choice.{choose, choose-eq, choose-ne}
+use Rattle.word.specs.Word.{occ, tcnt, tmax, dcnt, dmax}
+use Rattle.tree.specs.Tree.{level, Node}
+use Rattle.tree.specs.Lists.{ancestors, notifyList, checkList}
+use Rattle.tree.specs.Ancestors.{ancestors-count}
+use Rattle.tree.specs.Level.{level-pos}
+use Rattle.tree.specs.Code.{count-small, bounded}
+use Rattle.lock.specs.Types.{pieces, pieceAt, currentPiece, isLeaf, change, toPhase, toBlocked, withOutcome, withGrip, withTicket, withPlace, withNotices, withT1, withT0}
+use Rattle.lock.specs.Steps.{startPhase, begin, taken, ticketTaken, goUp, allNotified}
+use Rattle.lock.specs.Pieces.{few-pieces}
+use Rattle.lock.specs.Placed.{Pieced}
+use Rattle.lock.specs.StepLaws.{pieced-change, turn-stays, turn-root, turn-other, up-more, up-last, noted-fine, climb-set, climb-clear, unblocked-now, unblocked-not, bits-won, bits-lost, occ-root, occ-other, start-leaf, start-inner, begin-is, taken-more, taken-last, notified-late, notified-leaf, notified-inner, notice-more, notice-last, wait-over, wait-on, check-stays, check-more, check-last, check-small}
+use borrow.Author.Needs.{needs}
+use Rattle.lock.proofs.Record.notice_given.Statement.{statement}
+use Rattle.lock.proofs.Record.notice_given.Tie as tie
+use Rattle.lock.proofs.Record.notice_given.Reads as reads
+use Rattle.lock.proofs.Record.notice_given.Lts as lts
+use Rattle.lock.proofs.Record.all_notified.Reads as all-notified-reads
+use Rattle.lock.proofs.Record.current_piece.Reads as current-piece-reads
+use Rattle.tree.proofs.notify_count.Reads as notify-count-reads
+
+add-given : tie.Need-add-given
+add-given c =
+    let a = c .before .args in
+    let q = c .before .pre in
+    let v = q .1 .nodes (a .self .current) (q .1 .exists) in
+    let m = a .settings .distance in
+    omega (arith, count-small m (currentPiece (a .self)) (bounded m (currentPiece (a .self)) (q .0 .distance-some) (q .0 .distance-most) v), q .2)
+
+current-piece-requires : tie.Need-current-piece-requires
+current-piece-requires c κs = search needs
+
+notify-count-requires : tie.Need-notify-count-requires
+notify-count-requires c κs =
+    let a = c .before .before .args in
+    let q = c .before .before .pre in
+    let v = q .1 .nodes (a .self .current) (q .1 .exists) in
+    let m = a .settings .distance in
+    (q .0 .distance-some, q .0 .distance-most, subst (λ (x : ℕ). Node 12 x) (sym (c .current-piece .ensures)) v)
+
+returns : tie.Need-returns
+returns c =
+    let a = c .before .before .before .before .args in
+    let q = c .before .before .before .before .pre in
+    let v = q .1 .nodes (a .self .current) (q .1 .exists) in
+    let m = a .settings .distance in
+    sym (notice-more (a .settings) (a .self) (a .clock) (omega (arith, c .before .notify-count .ensures ∙ ap (λ (x : ℕ). length (notifyList m x)) (c .before .before .current-piece .ensures), c .if1 .taken)))
+
+all-notified-requires : tie.Need-all-notified-requires
+all-notified-requires c κs =
+    let a = c .before .before .before .before .args in
+    let q = c .before .before .before .before .pre in
+    let v = q .1 .nodes (a .self .current) (q .1 .exists) in
+    let m = a .settings .distance in
+    (pieced-change (a .self) (q .1) _ _ _ _ _ _ _ _ _, q .3)
+
+returns-2 : tie.Need-returns-2
+returns-2 c =
+    let a = c .before .before .before .before .before .args in
+    let q = c .before .before .before .before .before .pre in
+    let v = q .1 .nodes (a .self .current) (q .1 .exists) in
+    let m = a .settings .distance in
+    c .all-notified .ensures ∙ sym (notice-last (a .settings) (a .self) (a .clock) (omega (arith, c .before .before .notify-count .ensures ∙ ap (λ (x : ℕ). length (notifyList m x)) (c .before .before .before .current-piece .ensures), c .before .if1 .left)))
+
+pub notice-given-spec : {M : Type 1} → statement M
+notice-given-spec =
+    tie.close
+    (tie.spec
+    add-given
+    current-piece-requires
+    notify-count-requires
+    returns
+    all-notified-requires
+    returns-2)
