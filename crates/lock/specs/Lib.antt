@@ -4,6 +4,7 @@ pub mod Example
 pub mod Pieces
 pub mod Placed
 pub mod Readable
+pub mod ReturnLaws
 pub mod StepLaws
 pub mod Steps
 pub mod Table

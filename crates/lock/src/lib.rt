@@ -56,4 +56,5 @@ pub struct Moved {
 }
 
 mod pieces;
+mod returning;
 mod steps;

@@ -1,0 +1,124 @@
+-- `lock::Record::give_back` meets its contract. Assumes nothing.
+use mathlib.Core.Path.{_≡_, refl, sym, ap, ap₂, _∙_, subst}
+use mathlib.Core.Bool.{Bool, true, false}
+use Prim.Native.Nat.{ℕ, suc, _+_, _-_, _*_, _/_, _%_, _^_, _≤_, _<_}
+use native.Mathlib.Omega.{arith}
+use lib.Dec.{eqb}
+use lib.ListN.{length, getD}
+use Rattle.base.specs.Choice.{choose, choose-eq, choose-ne}
+use Rattle.word.specs.Word.{occ, tcnt, tmax, dcnt, dmax}
+use Rattle.tree.specs.Tree.{level, Node}
+use Rattle.tree.specs.Lists.{ancestors, notifyList, checkList}
+use Rattle.tree.specs.Ancestors.{ancestors-count}
+use Rattle.tree.specs.Level.{level-pos}
+use Rattle.tree.specs.Code.{count-small, bounded}
+use Rattle.lock.specs.Types.{pieces, pieceAt, currentPiece, isLeaf, change, toPhase, toBlocked, withOutcome, withGrip, withTicket, withPlace, withNotices, withT1, withT0}
+use Rattle.lock.specs.Steps.{startPhase, begin, taken, ticketTaken, goUp, allNotified}
+use Rattle.lock.specs.Pieces.{few-pieces}
+use Rattle.lock.specs.Placed.{Pieced}
+use Rattle.tree.specs.Tree.{left}
+use Rattle.word.specs.Word.{addTcnt, addDcnt, returnOcc, giveBits, wantedBits}
+use Rattle.cover.specs.Cover.{Meets}
+use Rattle.lock.specs.declared.Moved.{Moved}
+use Rattle.lock.specs.declared.Record.{Record}
+use Rattle.lock.specs.Types.{givenPiece, gripOf, noticesOf}
+use Rattle.lock.specs.Steps.{leaves, wanted, pieceReturned, wordReturned, turnReturned}
+use Rattle.lock.specs.Placed.{pieced, widen, clipped}
+use Rattle.lock.specs.ReturnLaws.{piece-last, piece-next, turn-mine, turn-not-mine, word-more, word-last, bits-returned, bits-clear, inner-occ, inner-turn, inner-ticket, own-leaf, own-inner, own-notice, leaf-level}
+use borrow.Author.Needs.{needs}
+use Rattle.lock.proofs.Record.give_back.Statement.{statement}
+use Rattle.lock.proofs.Record.give_back.Tie as tie
+use Rattle.lock.proofs.Record.give_back.Reads as reads
+use Rattle.lock.proofs.Record.give_back.Lts as lts
+use Rattle.lock.proofs.Record.given_piece.Reads as given-piece-reads
+use Rattle.lock.proofs.Record.return_bits.Reads as return-bits-reads
+use Rattle.lock.proofs.Record.return_inner.Reads as return-inner-reads
+use Rattle.lock.proofs.Record.word_returned.Reads as word-returned-reads
+use Rattle.lock.proofs.Settings.is_leaf.Reads as is-leaf-reads
+use Rattle.lock.proofs.returning.leaves.Reads as leaves-reads
+use Rattle.word.proofs.add_dcnt.Reads as add-dcnt-reads
+
+given-piece-requires : tie.Need-given-piece-requires
+given-piece-requires c κs =
+    let a = c .before .before .args in
+    let q = c .before .before .pre in
+    let g : a .self .giving < length (pieces (a .self)) = omega (arith, q .1 .giving-begun, q .1 .exists) in
+    let p = pieced (a .settings) (a .self) (q .0) (q .1) in
+    g
+
+is-leaf-requires : tie.Need-is-leaf-requires
+is-leaf-requires c κs =
+    let a = c .before .before .before .args in
+    let q = c .before .before .before .pre in
+    let g : a .self .giving < length (pieces (a .self)) = omega (arith, q .1 .giving-begun, q .1 .exists) in
+    let p = pieced (a .settings) (a .self) (q .0) (q .1) in
+    subst (λ (n : ℕ). Node 12 n) (sym (c .given-piece .ensures)) (p .nodes (a .self .giving) g)
+
+return-bits-requires : tie.Need-return-bits-requires
+return-bits-requires c κs =
+    let a = c .before .before .before .before .before .args in
+    let q = c .before .before .before .before .before .pre in
+    let g : a .self .giving < length (pieces (a .self)) = omega (arith, q .1 .giving-begun, q .1 .exists) in
+    let p = pieced (a .settings) (a .self) (q .0) (q .1) in
+    (q .0, q .1, g, leaf-level (a .settings) (givenPiece (a .self)) (ap (isLeaf (a .settings)) (sym (c .before .before .given-piece .ensures)) ∙ sym (c .before .is-leaf .ensures) ∙ c .if2 .taken))
+
+returns : tie.Need-returns
+returns c =
+    let a = c .before .before .before .before .before .before .args in
+    let q = c .before .before .before .before .before .before .pre in
+    let g : a .self .giving < length (pieces (a .self)) = omega (arith, q .1 .giving-begun, q .1 .exists) in
+    let p = pieced (a .settings) (a .self) (q .0) (q .1) in
+    c .return-bits .ensures ∙ sym (own-leaf (a .self) (a .settings) (a .found) (c .before .before .before .before .if1 .taken) (ap (isLeaf (a .settings)) (sym (c .before .before .before .given-piece .ensures)) ∙ sym (c .before .before .is-leaf .ensures) ∙ c .before .if2 .taken))
+
+return-inner-requires : tie.Need-return-inner-requires
+return-inner-requires c κs =
+    let a = c .before .before .before .before .before .args in
+    let q = c .before .before .before .before .before .pre in
+    let g : a .self .giving < length (pieces (a .self)) = omega (arith, q .1 .giving-begun, q .1 .exists) in
+    let p = pieced (a .settings) (a .self) (q .0) (q .1) in
+    (q .0, p, g)
+
+returns-2 : tie.Need-returns-2
+returns-2 c =
+    let a = c .before .before .before .before .before .before .args in
+    let q = c .before .before .before .before .before .before .pre in
+    let g : a .self .giving < length (pieces (a .self)) = omega (arith, q .1 .giving-begun, q .1 .exists) in
+    let p = pieced (a .settings) (a .self) (q .0) (q .1) in
+    c .return-inner .ensures ∙ sym (own-inner (a .self) (a .settings) (a .found) (c .before .before .before .before .if1 .taken) (ap (isLeaf (a .settings)) (sym (c .before .before .before .given-piece .ensures)) ∙ sym (c .before .before .is-leaf .ensures) ∙ c .before .if2 .left))
+
+add-dcnt-requires : tie.Need-add-dcnt-requires
+add-dcnt-requires c κs = search needs
+
+word-returned-requires : tie.Need-word-returned-requires
+word-returned-requires c κs =
+    let a = c .before .before .before .args in
+    let q = c .before .before .before .pre in
+    let g : a .self .giving < length (pieces (a .self)) = omega (arith, q .1 .giving-begun, q .1 .exists) in
+    let p = pieced (a .settings) (a .self) (q .0) (q .1) in
+    (q .0, p, g)
+
+leaves-requires : tie.Need-leaves-requires
+leaves-requires c κs = search needs
+
+returns-3 : tie.Need-returns-3
+returns-3 c =
+    let a = c .before .before .before .before .before .args in
+    let q = c .before .before .before .before .before .pre in
+    let g : a .self .giving < length (pieces (a .self)) = omega (arith, q .1 .giving-begun, q .1 .exists) in
+    let p = pieced (a .settings) (a .self) (q .0) (q .1) in
+    c .leaves .ensures ∙ ap₂ leaves (c .before .before .add-dcnt .ensures) (c .before .word-returned .ensures) ∙ sym (own-notice (a .self) (a .settings) (a .found) (c .before .before .before .if1 .left))
+
+pub give-back-spec : {M : Type 1} → statement M
+give-back-spec =
+    tie.close
+    (tie.spec
+    given-piece-requires
+    is-leaf-requires
+    return-bits-requires
+    returns
+    return-inner-requires
+    returns-2
+    add-dcnt-requires
+    word-returned-requires
+    leaves-requires
+    returns-3)
