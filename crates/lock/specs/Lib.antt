@@ -1,6 +1,8 @@
 pub mod Active
 pub mod Calls
 pub mod Example
+pub mod MoveLaws
+pub mod Phases
 pub mod Pieces
 pub mod Placed
 pub mod Readable

@@ -4,6 +4,7 @@ use mathlib.Core.Logic.{_⊎_, inl, inr, ⊎-elim}
 use Prim.Native.Nat.{ℕ, zero, suc, _+_, _-_, _*_, _^_, _≤_, _<_}
 use native.Mathlib.Omega.{arith}
 use lib.ListN.{length, getD}
+use Rattle.base.specs.Choice.{by-lt}
 use Rattle.tree.specs.Tree.{level, left, right, size, units, Node, Holds, wordCount}
 use Rattle.tree.specs.Lists.{ancestors, notifyList, checkList}
 use Rattle.tree.specs.Level.{level-pos, node-counted}
@@ -75,3 +76,12 @@ clipped h l r n a b m e =
       ends = omega (arith, m .high, m .holds .low);
       fits = omega (arith, units-small h b);
     }
+
+-- a piece that was begun gave no more notices than its list has
+pub given-notices : (s : Settings) (r : Record) → Placed s r → noticesOf s r (r .giving) ≤ length (notifyList (s .distance) (givenPiece r))
+given-notices s r p =
+    by-lt (r .giving) (r .current)
+    (λ b. omega (arith, notices-before r (r .giving) s b))
+    (λ b. let e : r .giving ≡ r .current = omega (arith, p .giving-begun) in
+    let f : length (notifyList (s .distance) (givenPiece r)) ≡ length (notifyList (s .distance) (currentPiece r)) = ap (λ (i : ℕ). length (notifyList (s .distance) (pieceAt r i))) e in
+    omega (arith, notices-current r (r .giving) s b, p .noticed))

@@ -55,6 +55,7 @@ pub struct Moved {
     pub next: Record,
 }
 
+mod moves;
 mod pieces;
 mod returning;
 mod steps;

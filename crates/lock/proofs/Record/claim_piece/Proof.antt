@@ -1,0 +1,110 @@
+-- `lock::Record::claim_piece` meets its contract. Assumes nothing.
+use mathlib.Core.Path.{_≡_, refl, sym, ap, ap₂, _∙_, subst}
+use mathlib.Core.Bool.{Bool, true, false}
+use Prim.Native.Nat.{ℕ, suc, _+_, _-_, _*_, _/_, _%_, _^_, _≤_, _<_}
+use native.Mathlib.Omega.{arith}
+use lib.Dec.{eqb}
+use lib.ListN.{length, getD}
+use Rattle.base.specs.Choice.{choose, choose-eq, choose-ne}
+use Rattle.word.specs.Word.{occ, tcnt, tmax, dcnt, dmax}
+use Rattle.tree.specs.Tree.{level, Node}
+use Rattle.tree.specs.Lists.{ancestors, notifyList, checkList}
+use Rattle.tree.specs.Ancestors.{ancestors-count}
+use Rattle.tree.specs.Level.{level-pos}
+use Rattle.tree.specs.Code.{count-small, bounded}
+use Rattle.lock.specs.Types.{pieces, pieceAt, currentPiece, isLeaf, change, toPhase, toBlocked, withOutcome, withGrip, withTicket, withPlace, withNotices, withT1, withT0}
+use Rattle.lock.specs.Steps.{startPhase, begin, taken, ticketTaken, goUp, allNotified}
+use Rattle.lock.specs.Pieces.{few-pieces}
+use Rattle.lock.specs.Placed.{Pieced}
+use mathlib.Core.Logic.{inl, inr}
+use Rattle.word.specs.Word.{addOcc, addTmax, addDmax, takeBits}
+use Rattle.cover.specs.Cover.{Meets}
+use Rattle.lock.specs.Types.{givenPiece, noticesOf}
+use Rattle.lock.specs.Steps.{leaves, wanted, touchedIn, movedIn, bitsClaimed, turnAwaited, climbed, unblocked, noticeGiven, waited, checkPassed}
+use Rattle.lock.specs.Placed.{Placed, pieced, widen, sound-placed, given-notices}
+use Rattle.lock.specs.ReturnLaws.{leaf-level}
+use Rattle.lock.specs.Phases.{at-ticket, at-turn, at-climb, at-blocked, at-claim, at-notify, at-wait, at-check, at-returning}
+use Rattle.lock.specs.MoveLaws.{touched-none, moved-none, touched-own, touched-notice, claim-leaf, claim-inner}
+use borrow.Author.Needs.{needs}
+use Rattle.lock.proofs.Record.claim_piece.Statement.{statement}
+use Rattle.lock.proofs.Record.claim_piece.Tie as tie
+use Rattle.lock.proofs.Record.claim_piece.Reads as reads
+use Rattle.lock.proofs.Record.claim_piece.Lts as lts
+use Rattle.lock.proofs.Record.bits_claimed.Reads as bits-claimed-reads
+use Rattle.lock.proofs.Record.current_piece.Reads as current-piece-reads
+use Rattle.lock.proofs.Record.occ_claimed.Reads as occ-claimed-reads
+use Rattle.lock.proofs.Record.wanted.Reads as wanted-reads
+use Rattle.lock.proofs.Settings.is_leaf.Reads as is-leaf-reads
+use Rattle.lock.proofs.returning.leaves.Reads as leaves-reads
+use Rattle.word.proofs.add_occ.Reads as add-occ-reads
+use Rattle.word.proofs.take_bits.Reads as take-bits-reads
+
+current-piece-requires : tie.Need-current-piece-requires
+current-piece-requires c κs =
+    c .pre .1 .exists
+
+is-leaf-requires : tie.Need-is-leaf-requires
+is-leaf-requires c κs =
+    let a = c .before .args in
+    let q = c .before .pre in
+    let p = pieced (a .settings) (a .self) (q .0) (q .1) in
+    subst (λ (n : ℕ). Node 12 n) (sym (c .current-piece .ensures)) (p .nodes (a .self .current) (p .exists))
+
+wanted-requires : tie.Need-wanted-requires
+wanted-requires c κs =
+    let a = c .before .before .before .args in
+    let q = c .before .before .before .pre in
+    let p = pieced (a .settings) (a .self) (q .0) (q .1) in
+    let e = sym (c .before .before .current-piece .ensures) in
+    let h = a .settings .levels in
+    (q .0, subst (λ (n : ℕ). Meets h (a .self .left) (a .self .right) n) e (q .1 .meets (a .self .current) (p .exists)), leaf-level (a .settings) (c .before .before .current-piece .result) (sym (c .before .is-leaf .ensures) ∙ c .if1 .taken))
+
+take-bits-requires : tie.Need-take-bits-requires
+take-bits-requires c κs = search needs
+
+bits-claimed-requires : tie.Need-bits-claimed-requires
+bits-claimed-requires c κs = search needs
+
+leaves-requires : tie.Need-leaves-requires
+leaves-requires c κs = search needs
+
+returns : tie.Need-returns
+returns c =
+    let a = c .before .before .before .before .before .before .before .args in
+    let q = c .before .before .before .before .before .before .before .pre in
+    let p = pieced (a .settings) (a .self) (q .0) (q .1) in
+    let e = c .before .before .take-bits .ensures ∙ ap (λ (b : ℕ). takeBits b (a .found)) (c .before .before .before .wanted .ensures ∙ ap (wanted (a .settings) (a .self)) (c .before .before .before .before .before .before .current-piece .ensures)) in
+    c .leaves .ensures ∙ ap (leaves (c .before .before .take-bits .result .word)) (c .before .bits-claimed .ensures) ∙ sym (claim-leaf (a .settings) (a .self) (a .found) (a .clock) (c .before .before .take-bits .result) e (ap (isLeaf (a .settings)) (sym (c .before .before .before .before .before .before .current-piece .ensures)) ∙ sym (c .before .before .before .before .before .is-leaf .ensures) ∙ c .before .before .before .before .if1 .taken))
+
+add-occ-requires : tie.Need-add-occ-requires
+add-occ-requires c κs = search needs
+
+occ-claimed-requires : tie.Need-occ-claimed-requires
+occ-claimed-requires c κs =
+    c .before .before .before .before .pre .1 .exists
+
+leaves-requires-2 : tie.Need-leaves-requires-2
+leaves-requires-2 c κs = search needs
+
+returns-2 : tie.Need-returns-2
+returns-2 c =
+    let a = c .before .before .before .before .before .before .args in
+    let q = c .before .before .before .before .before .before .pre in
+    let p = pieced (a .settings) (a .self) (q .0) (q .1) in
+    c .leaves2 .ensures ∙ ap₂ leaves (c .before .before .add-occ .ensures) (c .before .occ-claimed .ensures) ∙ sym (claim-inner (a .settings) (a .self) (a .found) (a .clock) (ap (isLeaf (a .settings)) (sym (c .before .before .before .before .before .current-piece .ensures)) ∙ sym (c .before .before .before .before .is-leaf .ensures) ∙ c .before .before .before .if1 .left))
+
+pub claim-piece-spec : {M : Type 1} → statement M
+claim-piece-spec =
+    tie.close
+    (tie.spec
+    current-piece-requires
+    is-leaf-requires
+    wanted-requires
+    take-bits-requires
+    bits-claimed-requires
+    leaves-requires
+    returns
+    add-occ-requires
+    occ-claimed-requires
+    leaves-requires-2
+    returns-2)
