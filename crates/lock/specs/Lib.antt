@@ -1,8 +1,10 @@
 pub mod Active
+pub mod ActiveLaws
 pub mod Calls
 pub mod Example
 pub mod Pieces
 pub mod Readable
+pub mod ReadableLaws
 pub mod Steps
 pub mod Table
 pub mod Types

@@ -55,4 +55,7 @@ pub struct Moved {
     pub next: Record,
 }
 
+mod by_phase;
+mod outside;
 mod pieces;
+mod readable;
