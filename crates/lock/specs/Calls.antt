@@ -30,8 +30,8 @@ unfoldable pub settingsOutside : Settings → Bool
 settingsOutside s = levelsOutside (s .levels) || (ltb (s .distance) 1 || (ltb 4 (s .distance) || (ltb (s .wait) 1 || ltb 4294967295 (s .wait))))
 
 -- 1 and 2, "word count not the tree's"
-unfoldable pub treeTests : Settings → List ℕ → Tests
-treeTests s words = (settingsOutside s, 1) ∷ (differ (length words) (wordCount (s .levels)), 2) ∷ []
+unfoldable pub treeTests : Settings → ℕ → Tests
+treeTests s count = (settingsOutside s, 1) ∷ (differ count (wordCount (s .levels)), 2) ∷ []
 
 -- 3, "no clients, or over 32,767", and 4, "client not below the table's count"
 unfoldable pub clientsOutside : List Record → Bool
@@ -94,19 +94,19 @@ answered number last r clock next =
     choose (eqb number 0) (record { number = 0; clock = clock; next = next }) (record { number = number; clock = last; next = r })
 
 unfoldable pub requestNumber : Settings → ℕ → Record → List ℕ → ℕ → ℕ → ℕ
-requestNumber s last r words a b = firstCause (treeTests s words ++ requestTests s last r a b)
+requestNumber s last r words a b = firstCause (treeTests s (length words) ++ requestTests s last r a b)
 
 unfoldable pub requestAnswer : Settings → ℕ → Record → List ℕ → ℕ → ℕ → Stepped
 requestAnswer s last r words a b = answered (requestNumber s last r words a b) last r last (requested s a b)
 
 unfoldable pub releaseAnswer : Settings → ℕ → Record → List ℕ → Stepped
-releaseAnswer s last r words = answered (firstCause (treeTests s words ++ releaseTests s last r)) last r last (released r)
+releaseAnswer s last r words = answered (firstCause (treeTests s (length words) ++ releaseTests s last r)) last r last (released r)
 
 unfoldable pub cancelAnswer : Settings → ℕ → Record → List ℕ → Stepped
-cancelAnswer s last r words = answered (firstCause (treeTests s words ++ cancelTests s last r)) last r last (cancelled r)
+cancelAnswer s last r words = answered (firstCause (treeTests s (length words) ++ cancelTests s last r)) last r last (cancelled r)
 
 unfoldable pub stepNumber : Settings → ℕ → Record → List ℕ → ℕ → ℕ
-stepNumber s last r words clock = firstCause (treeTests s words ++ stepTests s last r words clock)
+stepNumber s last r words clock = firstCause (treeTests s (length words) ++ stepTests s last r words clock)
 
 -- "An accepted step sets the last clock."
 unfoldable pub stepAnswer : Settings → ℕ → Record → List ℕ → ℕ → Stepped

@@ -1,4 +1,6 @@
 pub mod Active
+pub mod ActiveLaws
+pub mod CallLaws
 pub mod Calls
 pub mod Example
 pub mod MoveLaws
@@ -6,6 +8,7 @@ pub mod Phases
 pub mod Pieces
 pub mod Placed
 pub mod Readable
+pub mod ReadableLaws
 pub mod ReturnLaws
 pub mod StepLaws
 pub mod Steps

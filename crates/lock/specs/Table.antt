@@ -46,7 +46,7 @@ ownTests s st (release c) = releaseTests s (st .clock) (recordAt st c)
 ownTests s st (cancel c) = cancelTests s (st .clock) (recordAt st c)
 
 unfoldable pub numberOf : Settings → State → Call → ℕ
-numberOf s st k = firstCause (treeTests s (st .words) ++ (clientTests (st .records) (clientOf k) ++ ownTests s st k))
+numberOf s st k = firstCause (treeTests s (length (st .words)) ++ (clientTests (st .records) (clientOf k) ++ ownTests s st k))
 
 -- what an accepted call leaves
 unfoldable pub after : Settings → State → Call → State
@@ -64,7 +64,7 @@ call s st k = record { number = numberOf s st k; state = choose (eqb (numberOf s
 
 -- "Opening tests 1 to 3, then zeroes words, records and clock."
 unfoldable pub openingNumber : Settings → State → ℕ
-openingNumber s st = firstCause (treeTests s (st .words) ++ ((clientsOutside (st .records), 3) ∷ []))
+openingNumber s st = firstCause (treeTests s (length (st .words)) ++ ((clientsOutside (st .records), 3) ∷ []))
 
 unfoldable pub opened : State → State
 opened st = record { words = replicate (length (st .words)) 0; records = replicate (length (st .records)) (idleWith 0); clock = 0 }

@@ -55,7 +55,10 @@ pub struct Moved {
     pub next: Record,
 }
 
+mod by_phase;
 mod moves;
+mod outside;
 mod pieces;
+mod readable;
 mod returning;
 mod steps;

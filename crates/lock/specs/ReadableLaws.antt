@@ -1,0 +1,230 @@
+-- Laws of the unreadable clauses, as the code meets them. Assumes nothing.
+use mathlib.Core.Path.{_≡_, refl, sym, ap, ap₂, _∙_, subst}
+use mathlib.Core.Bool.{Bool, true, false, not, _&&_, _||_}
+use Prim.Native.Nat.{ℕ, suc, _≤_, _<_}
+use native.Mathlib.Omega.{arith}
+use borrow.Author.Tests.{lt-ltb, le-ltb, eq-eqb, ne-eqb}
+use lib.Dec.{T, T-not, eqb-refl, eqb, leb, ltb, eqb→eq, ltb→lt, not-T}
+use lib.ListN.{length, getD}
+use Rattle.base.specs.Choice.{choose, on-choose, choose-eq, choose-ne, choose-no, or-none, by-lt}
+use Rattle.tree.specs.Tree.{Node}
+use Rattle.tree.specs.Lists.{ancestors, notifyList, checkList}
+use Rattle.cover.specs.declared.Answer.{Answer}
+use Rattle.cover.specs.Search.{leastCover}
+use Rattle.cover.specs.Answer.{levelsOutside, windowOutside, refused, accepted, answer}
+use Rattle.lock.specs.declared.Record.{Record}
+use Rattle.lock.specs.declared.Settings.{Settings}
+use Rattle.lock.specs.Types.{Phase, idle, ticket, turn, climb, blocked, claim, notify, wait, check, held, returning, unknown, phaseOf, pieces, pieceAt, currentPiece, isLeaf, isRoot, noticesOf}
+use Rattle.lock.specs.Readable.{nonzero, differ, notCovered, ticketTooLarge, listLength, placePast, noticesWrong, timeAhead, phaseElsewhere, heldEarly, outcomeWrong, gripLacking, givingWrong}
+use Rattle.lock.specs.Active.{Settled}
+
+-- ---- tests joined by `||`, one after the other
+
+pub true-first : (a b : Bool) → a ≡ true → true ≡ (a || b)
+true-first a b e = ap (λ c. c || b) (sym e)
+
+pub true-later : (a b : Bool) → true ≡ b → true ≡ (a || b)
+true-later true b e = refl
+true-later false b e = e
+
+pub next-test : (x a b : Bool) → a ≡ false → x ≡ b → x ≡ (a || b)
+next-test x a b e f = f ∙ ap (λ c. c || b) (sym e)
+
+-- ---- a phase by its number
+
+past-number : (k p : ℕ) → k ≤ p → T (not (eqb p k)) → suc k ≤ p
+past-number k p b t = by-lt k p (λ q. q) (λ q. let e : p ≡ k = omega arith in absurd (T-not (eqb p k) t (subst (λ (n : ℕ). T (eqb p n)) e (eqb-refl p))))
+
+pub by-phase : (P : Phase → Type 0) (p : ℕ)
+    → (p ≡ 0 → P idle) → (p ≡ 1 → P ticket) → (p ≡ 2 → P turn) → (p ≡ 3 → P climb) → (p ≡ 4 → P blocked) → (p ≡ 5 → P claim) → (p ≡ 6 → P notify)
+    → (p ≡ 7 → P wait) → (p ≡ 8 → P check) → (p ≡ 9 → P held) → (p ≡ 10 → P returning) → (10 < p → P unknown) → P (phaseOf p)
+unfolding phaseOf
+by-phase P p f0 f1 f2 f3 f4 f5 f6 f7 f8 f9 f10 f =
+    on-choose P (eqb p 0) _ _ (λ t. f0 (eqb→eq p 0 t)) λ n0.
+    on-choose P (eqb p 1) _ _ (λ t. f1 (eqb→eq p 1 t)) λ n1.
+    on-choose P (eqb p 2) _ _ (λ t. f2 (eqb→eq p 2 t)) λ n2.
+    on-choose P (eqb p 3) _ _ (λ t. f3 (eqb→eq p 3 t)) λ n3.
+    on-choose P (eqb p 4) _ _ (λ t. f4 (eqb→eq p 4 t)) λ n4.
+    on-choose P (eqb p 5) _ _ (λ t. f5 (eqb→eq p 5 t)) λ n5.
+    on-choose P (eqb p 6) _ _ (λ t. f6 (eqb→eq p 6 t)) λ n6.
+    on-choose P (eqb p 7) _ _ (λ t. f7 (eqb→eq p 7 t)) λ n7.
+    on-choose P (eqb p 8) _ _ (λ t. f8 (eqb→eq p 8 t)) λ n8.
+    on-choose P (eqb p 9) _ _ (λ t. f9 (eqb→eq p 9 t)) λ n9.
+    on-choose P (eqb p 10) _ _ (λ t. f10 (eqb→eq p 10 t)) λ n10. f (past-number 10 p (past-number 9 p (past-number 8 p (past-number 7 p (past-number 6 p (past-number 5 p (past-number 4 p (past-number 3 p (past-number 2 p (past-number 1 p (past-number 0 p (omega arith) n0) n1) n2) n3) n4) n5) n6) n7) n8) n9) n10)
+
+-- ---- what the clauses after the cover and the current piece stand on
+
+pub record Begun (s : Settings) (r : Record) : Type 0 where
+  pub settled : Settled s
+  pub exists : r .current < length (pieces r)
+  pub node : (i : ℕ) → i < length (pieces r) → Node (s .levels) (pieceAt r i)
+
+-- "a place past its list (0 where none is walked)", of a list of n nodes
+unfoldable pub pastList : ℕ → ℕ → Bool
+pastList n place = choose (eqb n 0) (nonzero place) (leb n place)
+
+module _ (s : Settings) (r : Record) (v : Begun s r) (i n : ℕ) (b : i < length (pieces r)) (e : n ≡ pieceAt r i) where
+  pub piece-node : Node (s .levels) n
+  piece-node = subst (λ (m : ℕ). Node (s .levels) m) (sym e) (v .node i b)
+
+  pub piece-node-12 : Node 12 n
+  piece-node-12 = record { some = piece-node .some; inside = omega (arith, piece-node .inside, v .settled .levels-most) }
+
+-- the clauses from the ticket on
+unfoldable pub fieldsWrong : Settings → ℕ → Record → Bool
+fieldsWrong s last r =
+    ticketTooLarge r || (placePast s r || (noticesWrong s r || (timeAhead last r
+    || (phaseElsewhere s r (phaseOf (r .phase)) || (heldEarly r || (outcomeWrong r || (gripLacking s r (phaseOf (r .phase)) || givingWrong r)))))))
+
+-- ---- the cover
+
+module _ (s : Settings) (r : Record) (v : Settled s) (a : Answer) (e : a ≡ answer (s .levels) (r .left) (r .right)) where
+  abbrev least : Answer
+  least = accepted (s .levels) (r .left) (r .right) (leastCover 2 (s .levels) (r .left) (r .right))
+
+  abbrev outside : Bool
+  outside = windowOutside (s .levels) (r .left) (r .right)
+
+  answer-is : a ≡ choose outside (refused 7) least
+  unfolding answer levelsOutside
+  answer-is =
+      e ∙ choose-no (levelsOutside (s .levels)) _ _
+      (or-none (ltb (s .levels) 2) (ltb 12 (s .levels)) (not-T (ltb (s .levels) 2) (λ t. omega (arith, ltb→lt (s .levels) 2 t))) (not-T (ltb 12 (s .levels)) (λ t. omega (arith, ltb→lt 12 (s .levels) t))))
+
+  refused-outside : (b : Bool) → a ≡ choose b (refused 7) least → (a .number ≡ 0 → ⊥) → b ≡ true
+  unfolding choose accepted
+  refused-outside true q d = refl
+  refused-outside false q d = absurd (d (ap (λ x. x .number) q))
+
+  accepted-inside : (b : Bool) → a ≡ choose b (refused 7) least → a .number ≡ 0 → (b ≡ false) × (a ≡ least)
+  unfolding choose refused
+  accepted-inside true q z = let f = ap (λ x. x .number) q in absurd (omega arith)
+  accepted-inside false q z = (refl, q)
+
+  pub window-refused : (a .number ≡ 0 → ⊥) → true ≡ notCovered s r
+  unfolding notCovered
+  window-refused d = true-first outside _ (refused-outside outside answer-is d)
+
+  module _ (z : a .number ≡ 0) where
+    first-is : a .first ≡ getD (leastCover 2 (s .levels) (r .left) (r .right)) 0 0
+    unfolding accepted
+    first-is = ap (λ x. x .first) (accepted-inside outside answer-is z .1)
+
+    second-is : a .second ≡ getD (leastCover 2 (s .levels) (r .left) (r .right)) 1 0
+    unfolding accepted
+    second-is = ap (λ x. x .second) (accepted-inside outside answer-is z .1)
+
+    pub first-other : (r .first ≡ a .first → ⊥) → true ≡ notCovered s r
+    unfolding notCovered
+    first-other d = true-later outside _ (true-first (differ (r .first) (getD (leastCover 2 (s .levels) (r .left) (r .right)) 0 0)) _ (ap not (ne-eqb (r .first) _ (λ q. d (q ∙ sym first-is)))))
+
+    pub second-tested : r .first ≡ a .first → differ (r .second) (a .second) ≡ notCovered s r
+    unfolding notCovered
+    second-tested q =
+        next-test _ outside _ (accepted-inside outside answer-is z .0)
+        (next-test _ (differ (r .first) (getD (leastCover 2 (s .levels) (r .left) (r .right)) 0 0)) _ (ap not (eq-eqb (r .first) _ (q ∙ first-is))) (ap (λ (n : ℕ). differ (r .second) n) second-is))
+
+-- ---- the notices
+
+pub no-notices : (n grip : ℕ) → (0 < n → 3 ≤ grip) → (nonzero n && ltb grip 3) ≡ false
+no-notices n grip f = by-lt 0 n (λ b. ap₂ _&&_ (lt-ltb 0 n b) (le-ltb grip 3 (f b))) (λ b. ap (λ c. c && ltb grip 3) (le-ltb 0 n b))
+
+-- ---- the place
+
+pub past-none : (place : ℕ) → nonzero place ≡ pastList 0 place
+unfolding pastList
+past-none place = sym (choose-eq 0 0 (nonzero place) _ refl)
+
+pub past-some : (n place : ℕ) → (n ≡ 0 → ⊥) → leb n place ≡ pastList n place
+unfolding pastList
+past-some n place d = sym (choose-ne n 0 (nonzero place) _ d)
+
+module _ (s : Settings) (r : Record) where
+  pub place-is : (n : ℕ) → n ≡ listLength s r (phaseOf (r .phase)) → pastList n (r .place) ≡ placePast s r
+  unfolding placePast pastList
+  place-is n e = ap (λ (m : ℕ). pastList m (r .place)) e
+
+  module _ (p : ℕ) where
+    -- ---- the list by phase
+    pub list-climbing : 3 ≤ p → p < 5 → length (ancestors (currentPiece r)) ≡ listLength s r (phaseOf p)
+    unfolding listLength
+    list-climbing a b =
+        by-phase (λ f. length (ancestors (currentPiece r)) ≡ listLength s r f) p
+        (λ e. absurd (omega arith)) (λ e. absurd (omega arith)) (λ e. absurd (omega arith)) (λ e. refl) (λ e. refl) (λ e. absurd (omega arith))
+        (λ e. absurd (omega arith)) (λ e. absurd (omega arith)) (λ e. absurd (omega arith)) (λ e. absurd (omega arith)) (λ e. absurd (omega arith)) (λ e. absurd (omega arith))
+
+    pub list-notifying : p ≡ 6 → length (notifyList (s .distance) (currentPiece r)) ≡ listLength s r (phaseOf p)
+    unfolding listLength phaseOf choose
+    list-notifying e = ap (λ (n : ℕ). listLength s r (phaseOf n)) (sym e)
+
+    pub list-checking : p ≡ 8 → length (checkList (s .levels) (s .distance) (currentPiece r)) ≡ listLength s r (phaseOf p)
+    unfolding listLength phaseOf choose
+    list-checking e = ap (λ (n : ℕ). listLength s r (phaseOf n)) (sym e)
+
+    pub list-returning : p ≡ 10 → suc (noticesOf s r (r .giving)) ≡ listLength s r (phaseOf p)
+    unfolding listLength phaseOf choose
+    list-returning e = ap (λ (n : ℕ). listLength s r (phaseOf n)) (sym e)
+
+    pub list-none : (3 ≤ p → p < 5 → ⊥) → (p ≡ 6 → ⊥) → (p ≡ 8 → ⊥) → (p ≡ 10 → ⊥) → 0 ≡ listLength s r (phaseOf p)
+    unfolding listLength
+    list-none a d6 d8 d10 =
+        by-phase (λ f. 0 ≡ listLength s r f) p (λ e. refl) (λ e. refl) (λ e. refl) (λ e. absurd (a (omega arith) (omega arith))) (λ e. absurd (a (omega arith) (omega arith)))
+        (λ e. refl) (λ e. absurd (d6 e)) (λ e. refl) (λ e. absurd (d8 e)) (λ e. refl) (λ e. absurd (d10 e)) (λ e. refl)
+
+    -- ---- where a phase may not be
+
+    pub elsewhere-leaf : 1 ≤ p → p < 9 → (3 ≤ p → p < 7 → ⊥) → isLeaf s (currentPiece r) ≡ phaseElsewhere s r (phaseOf p)
+    unfolding phaseElsewhere
+    elsewhere-leaf a b c =
+        by-phase (λ f. isLeaf s (currentPiece r) ≡ phaseElsewhere s r f) p
+        (λ e. absurd (omega arith)) (λ e. refl) (λ e. refl) (λ e. absurd (c (omega arith) (omega arith))) (λ e. absurd (c (omega arith) (omega arith))) (λ e. absurd (c (omega arith) (omega arith)))
+        (λ e. absurd (c (omega arith) (omega arith))) (λ e. refl) (λ e. refl) (λ e. absurd (omega arith)) (λ e. absurd (omega arith)) (λ e. absurd (omega arith))
+
+    pub elsewhere-root : 3 ≤ p → p < 7 → (p ≡ 5 → ⊥) → isRoot (currentPiece r) ≡ phaseElsewhere s r (phaseOf p)
+    unfolding phaseElsewhere
+    elsewhere-root a b d =
+        by-phase (λ f. isRoot (currentPiece r) ≡ phaseElsewhere s r f) p
+        (λ e. absurd (omega arith)) (λ e. absurd (omega arith)) (λ e. absurd (omega arith)) (λ e. refl) (λ e. refl) (λ e. absurd (omega arith))
+        (λ e. refl) (λ e. absurd (omega arith)) (λ e. absurd (omega arith)) (λ e. absurd (omega arith)) (λ e. absurd (omega arith)) (λ e. absurd (omega arith))
+
+    pub elsewhere-none : (1 ≤ p → p < 9 → p ≡ 5) → false ≡ phaseElsewhere s r (phaseOf p)
+    unfolding phaseElsewhere
+    elsewhere-none c =
+        by-phase (λ f. false ≡ phaseElsewhere s r f) p
+        (λ e. refl) (λ e. let z = c (omega arith) (omega arith) in absurd (omega arith)) (λ e. let z = c (omega arith) (omega arith) in absurd (omega arith)) (λ e. let z = c (omega arith) (omega arith) in absurd (omega arith)) (λ e. let z = c (omega arith) (omega arith) in absurd (omega arith)) (λ e. refl)
+        (λ e. let z = c (omega arith) (omega arith) in absurd (omega arith)) (λ e. let z = c (omega arith) (omega arith) in absurd (omega arith)) (λ e. let z = c (omega arith) (omega arith) in absurd (omega arith)) (λ e. refl) (λ e. refl) (λ e. refl)
+
+    -- ---- the grip by phase
+
+    pub grip-ticket : p ≡ 1 → differ (r .grip) 0 ≡ gripLacking s r (phaseOf p)
+    unfolding gripLacking phaseOf choose
+    grip-ticket e = ap (λ (n : ℕ). gripLacking s r (phaseOf n)) (sym e)
+
+    pub grip-turn : p ≡ 2 → differ (r .grip) 1 ≡ gripLacking s r (phaseOf p)
+    unfolding gripLacking phaseOf choose
+    grip-turn e = ap (λ (n : ℕ). gripLacking s r (phaseOf n)) (sym e)
+
+    pub grip-climbing : 3 ≤ p → p < 6 → differ (r .grip) (choose (isLeaf s (currentPiece r)) 0 2) ≡ gripLacking s r (phaseOf p)
+    unfolding gripLacking
+    grip-climbing a b =
+        by-phase (λ f. differ (r .grip) (choose (isLeaf s (currentPiece r)) 0 2) ≡ gripLacking s r f) p
+        (λ e. absurd (omega arith)) (λ e. absurd (omega arith)) (λ e. absurd (omega arith)) (λ e. refl) (λ e. refl) (λ e. refl)
+        (λ e. absurd (omega arith)) (λ e. absurd (omega arith)) (λ e. absurd (omega arith)) (λ e. absurd (omega arith)) (λ e. absurd (omega arith)) (λ e. absurd (omega arith))
+
+    pub grip-taken : 6 ≤ p → p < 10 → differ (r .grip) 3 ≡ gripLacking s r (phaseOf p)
+    unfolding gripLacking
+    grip-taken a b =
+        by-phase (λ f. differ (r .grip) 3 ≡ gripLacking s r f) p
+        (λ e. absurd (omega arith)) (λ e. absurd (omega arith)) (λ e. absurd (omega arith)) (λ e. absurd (omega arith)) (λ e. absurd (omega arith)) (λ e. absurd (omega arith))
+        (λ e. refl) (λ e. refl) (λ e. refl) (λ e. refl) (λ e. absurd (omega arith)) (λ e. absurd (omega arith))
+
+    pub grip-returning : p ≡ 10 → choose (isLeaf s (currentPiece r)) (differ (r .grip) 0 && differ (r .grip) 3) (ltb 3 (r .grip)) ≡ gripLacking s r (phaseOf p)
+    unfolding gripLacking phaseOf choose
+    grip-returning e = ap (λ (n : ℕ). gripLacking s r (phaseOf n)) (sym e)
+
+    pub grip-none : (1 ≤ p → p < 11 → ⊥) → false ≡ gripLacking s r (phaseOf p)
+    unfolding gripLacking
+    grip-none c =
+        by-phase (λ f. false ≡ gripLacking s r f) p
+        (λ e. refl) (λ e. absurd (c (omega arith) (omega arith))) (λ e. absurd (c (omega arith) (omega arith))) (λ e. absurd (c (omega arith) (omega arith))) (λ e. absurd (c (omega arith) (omega arith))) (λ e. absurd (c (omega arith) (omega arith)))
+        (λ e. absurd (c (omega arith) (omega arith))) (λ e. absurd (c (omega arith) (omega arith))) (λ e. absurd (c (omega arith) (omega arith))) (λ e. absurd (c (omega arith) (omega arith))) (λ e. absurd (c (omega arith) (omega arith))) (λ e. refl)
