@@ -4,9 +4,9 @@ use mathlib.Core.Bool.{Bool, true, false, not, _&&_, _||_}
 use Prim.Native.Nat.{ℕ, suc, _≤_, _<_}
 use native.Mathlib.Omega.{arith}
 use borrow.Author.Tests.{lt-ltb, le-ltb, eq-eqb, ne-eqb}
-use lib.Dec.{T, T-not, eqb-refl, eqb, leb, ltb, eqb→eq, ltb→lt, not-T}
+use lib.Dec.{eqb, leb, ltb, ltb→lt, not-T}
 use lib.ListN.{length, getD}
-use Rattle.base.specs.Choice.{choose, on-choose, choose-eq, choose-ne, choose-no, or-none, by-lt}
+use Rattle.base.specs.Choice.{choose, choose-eq, choose-ne, choose-no, or-none, by-lt}
 use Rattle.tree.specs.Tree.{Node}
 use Rattle.tree.specs.Lists.{ancestors, notifyList, checkList}
 use Rattle.cover.specs.declared.Answer.{Answer}
@@ -32,25 +32,27 @@ next-test x a b e f = f ∙ ap (λ c. c || b) (sym e)
 
 -- ---- a phase by its number
 
-past-number : (k p : ℕ) → k ≤ p → T (not (eqb p k)) → suc k ≤ p
-past-number k p b t = by-lt k p (λ q. q) (λ q. let e : p ≡ k = omega arith in absurd (T-not (eqb p k) t (subst (λ (n : ℕ). T (eqb p n)) e (eqb-refl p))))
+-- the test of one number, where it is known that p is not below it
+on-number : (P : Phase → Type 0) (p k : ℕ) (x y : Phase) → k ≤ p → (p ≡ k → P x) → (k < p → P y) → P (choose (eqb p k) x y)
+on-number P p k x y b f g =
+    by-lt k p (λ q. subst P (sym (choose-ne p k x y (λ e. omega arith))) (g q)) (λ q. let e : p ≡ k = omega arith in subst P (sym (choose-eq p k x y e)) (f e))
 
 pub by-phase : (P : Phase → Type 0) (p : ℕ)
     → (p ≡ 0 → P idle) → (p ≡ 1 → P ticket) → (p ≡ 2 → P turn) → (p ≡ 3 → P climb) → (p ≡ 4 → P blocked) → (p ≡ 5 → P claim) → (p ≡ 6 → P notify)
     → (p ≡ 7 → P wait) → (p ≡ 8 → P check) → (p ≡ 9 → P held) → (p ≡ 10 → P returning) → (10 < p → P unknown) → P (phaseOf p)
 unfolding phaseOf
 by-phase P p f0 f1 f2 f3 f4 f5 f6 f7 f8 f9 f10 f =
-    on-choose P (eqb p 0) _ _ (λ t. f0 (eqb→eq p 0 t)) λ n0.
-    on-choose P (eqb p 1) _ _ (λ t. f1 (eqb→eq p 1 t)) λ n1.
-    on-choose P (eqb p 2) _ _ (λ t. f2 (eqb→eq p 2 t)) λ n2.
-    on-choose P (eqb p 3) _ _ (λ t. f3 (eqb→eq p 3 t)) λ n3.
-    on-choose P (eqb p 4) _ _ (λ t. f4 (eqb→eq p 4 t)) λ n4.
-    on-choose P (eqb p 5) _ _ (λ t. f5 (eqb→eq p 5 t)) λ n5.
-    on-choose P (eqb p 6) _ _ (λ t. f6 (eqb→eq p 6 t)) λ n6.
-    on-choose P (eqb p 7) _ _ (λ t. f7 (eqb→eq p 7 t)) λ n7.
-    on-choose P (eqb p 8) _ _ (λ t. f8 (eqb→eq p 8 t)) λ n8.
-    on-choose P (eqb p 9) _ _ (λ t. f9 (eqb→eq p 9 t)) λ n9.
-    on-choose P (eqb p 10) _ _ (λ t. f10 (eqb→eq p 10 t)) λ n10. f (past-number 10 p (past-number 9 p (past-number 8 p (past-number 7 p (past-number 6 p (past-number 5 p (past-number 4 p (past-number 3 p (past-number 2 p (past-number 1 p (past-number 0 p (omega arith) n0) n1) n2) n3) n4) n5) n6) n7) n8) n9) n10)
+    on-number P p 0 _ _ (omega arith) f0 λ b0.
+    on-number P p 1 _ _ b0 f1 λ b1.
+    on-number P p 2 _ _ b1 f2 λ b2.
+    on-number P p 3 _ _ b2 f3 λ b3.
+    on-number P p 4 _ _ b3 f4 λ b4.
+    on-number P p 5 _ _ b4 f5 λ b5.
+    on-number P p 6 _ _ b5 f6 λ b6.
+    on-number P p 7 _ _ b6 f7 λ b7.
+    on-number P p 8 _ _ b7 f8 λ b8.
+    on-number P p 9 _ _ b8 f9 λ b9.
+    on-number P p 10 _ _ b9 f10 f
 
 -- ---- what the clauses after the cover and the current piece stand on
 
@@ -58,10 +60,6 @@ pub record Begun (s : Settings) (r : Record) : Type 0 where
   pub settled : Settled s
   pub exists : r .current < length (pieces r)
   pub node : (i : ℕ) → i < length (pieces r) → Node (s .levels) (pieceAt r i)
-
--- "a place past its list (0 where none is walked)", of a list of n nodes
-unfoldable pub pastList : ℕ → ℕ → Bool
-pastList n place = choose (eqb n 0) (nonzero place) (leb n place)
 
 module _ (s : Settings) (r : Record) (v : Begun s r) (i n : ℕ) (b : i < length (pieces r)) (e : n ≡ pieceAt r i) where
   pub piece-node : Node (s .levels) n
@@ -131,6 +129,10 @@ no-notices n grip f = by-lt 0 n (λ b. ap₂ _&&_ (lt-ltb 0 n b) (le-ltb grip 3 
 
 -- ---- the place
 
+-- "a place past its list (0 where none is walked)", of a list of n nodes
+unfoldable pub pastList : ℕ → ℕ → Bool
+pastList n place = choose (eqb n 0) (nonzero place) (leb n place)
+
 pub past-none : (place : ℕ) → nonzero place ≡ pastList 0 place
 unfolding pastList
 past-none place = sym (choose-eq 0 0 (nonzero place) _ refl)
@@ -187,12 +189,12 @@ module _ (s : Settings) (r : Record) where
         (λ e. absurd (omega arith)) (λ e. absurd (omega arith)) (λ e. absurd (omega arith)) (λ e. refl) (λ e. refl) (λ e. absurd (omega arith))
         (λ e. refl) (λ e. absurd (omega arith)) (λ e. absurd (omega arith)) (λ e. absurd (omega arith)) (λ e. absurd (omega arith)) (λ e. absurd (omega arith))
 
-    pub elsewhere-none : (1 ≤ p → p < 9 → p ≡ 5) → false ≡ phaseElsewhere s r (phaseOf p)
+    pub elsewhere-none : (1 ≤ p → p < 5 → ⊥) → (6 ≤ p → p < 9 → ⊥) → false ≡ phaseElsewhere s r (phaseOf p)
     unfolding phaseElsewhere
-    elsewhere-none c =
+    elsewhere-none c d =
         by-phase (λ f. false ≡ phaseElsewhere s r f) p
-        (λ e. refl) (λ e. let z = c (omega arith) (omega arith) in absurd (omega arith)) (λ e. let z = c (omega arith) (omega arith) in absurd (omega arith)) (λ e. let z = c (omega arith) (omega arith) in absurd (omega arith)) (λ e. let z = c (omega arith) (omega arith) in absurd (omega arith)) (λ e. refl)
-        (λ e. let z = c (omega arith) (omega arith) in absurd (omega arith)) (λ e. let z = c (omega arith) (omega arith) in absurd (omega arith)) (λ e. let z = c (omega arith) (omega arith) in absurd (omega arith)) (λ e. refl) (λ e. refl) (λ e. refl)
+        (λ e. refl) (λ e. absurd (c (omega arith) (omega arith))) (λ e. absurd (c (omega arith) (omega arith))) (λ e. absurd (c (omega arith) (omega arith))) (λ e. absurd (c (omega arith) (omega arith))) (λ e. refl)
+        (λ e. absurd (d (omega arith) (omega arith))) (λ e. absurd (d (omega arith) (omega arith))) (λ e. absurd (d (omega arith) (omega arith))) (λ e. refl) (λ e. refl) (λ e. refl)
 
     -- ---- the grip by phase
 

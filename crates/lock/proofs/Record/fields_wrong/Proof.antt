@@ -14,7 +14,6 @@ use Rattle.lock.proofs.Record.fields_wrong.Tie as tie
 returns : tie.Need-returns
 unfolding fieldsWrong ticketTooLarge
 returns c =
-    let s = c .before .before .args .settings in
     let r = c .before .before .args .self in
     let last = c .before .before .args .last in
     true-first (ticketTooLarge r) _ (lt-ltb 32767 (r .ticket) (c .if1 .taken))
@@ -31,7 +30,6 @@ notify-count-requires c κs =
 place-past-requires : tie.Need-place-past-requires
 place-past-requires c κs =
     let s = c .before .before .before .before .args .settings in
-    let r = c .before .before .before .before .args .self in
     (c .before .before .before .before .pre, c .before .piece-at .ensures, c .notify-count .ensures ∙ ap (λ (n : ℕ). length (notifyList (s .distance) n)) (c .before .piece-at .ensures))
 
 returns-2 : tie.Need-returns-2
@@ -39,13 +37,11 @@ unfolding fieldsWrong
 returns-2 c =
     let s = c .before .before .before .before .before .before .args .settings in
     let r = c .before .before .before .before .before .before .args .self in
-    let last = c .before .before .before .before .before .before .args .last in
     true-later (ticketTooLarge r) _ (true-first (placePast s r) _ (sym (c .before .place-past .ensures) ∙ c .if2 .taken))
 
 notices-wrong-requires : tie.Need-notices-wrong-requires
 notices-wrong-requires c κs =
     let s = c .before .before .before .before .before .before .args .settings in
-    let r = c .before .before .before .before .before .before .args .self in
     c .before .before .notify-count .ensures ∙ ap (λ (n : ℕ). length (notifyList (s .distance) n)) (c .before .before .before .piece-at .ensures)
 
 returns-3 : tie.Need-returns-3
@@ -53,7 +49,6 @@ unfolding fieldsWrong
 returns-3 c =
     let s = c .before .before .before .before .before .before .before .before .args .settings in
     let r = c .before .before .before .before .before .before .before .before .args .self in
-    let last = c .before .before .before .before .before .before .before .before .args .last in
     true-later (ticketTooLarge r) _ (true-later (placePast s r) _ (true-first (noticesWrong s r) _ (sym (c .before .notices-wrong .ensures) ∙ c .if3 .taken)))
 
 time-ahead-requires : tie.Need-time-ahead-requires
@@ -76,7 +71,6 @@ is-leaf-requires c κs =
 phase-elsewhere-requires : tie.Need-phase-elsewhere-requires
 phase-elsewhere-requires c κs =
     let s = c .before .before .before .before .before .before .before .before .before .before .before .args .settings in
-    let r = c .before .before .before .before .before .before .before .before .before .before .before .args .self in
     (c .before .before .before .before .before .before .before .before .piece-at .ensures, c .is-leaf .ensures ∙ ap (isLeaf s) (c .before .before .before .before .before .before .before .before .piece-at .ensures))
 
 returns-5 : tie.Need-returns-5
@@ -112,7 +106,6 @@ returns-7 c =
 grip-lacking-requires : tie.Need-grip-lacking-requires
 grip-lacking-requires c κs =
     let s = c .before .before .before .before .before .before .before .before .before .before .before .before .before .before .before .before .before .args .settings in
-    let r = c .before .before .before .before .before .before .before .before .before .before .before .before .before .before .before .before .before .args .self in
     c .before .before .before .before .before .before .is-leaf .ensures ∙ ap (isLeaf s) (c .before .before .before .before .before .before .before .before .before .before .before .before .before .before .piece-at .ensures)
 
 returns-8 : tie.Need-returns-8

@@ -17,19 +17,19 @@ returns : tie.Need-returns
 unfolding noticesWrong
 returns c =
     let r = c .before .before .args .self in
-    true-first _ _ (lt-ltb (length (notifyList (c .before .before .args .settings .distance) (currentPiece (c .before .before .args .self)))) (r .notices) (omega (arith, c .before .before .pre, c .if1 .taken)))
+    true-first _ _ (lt-ltb (length (notifyList (c .before .before .args .settings .distance) (currentPiece r))) (r .notices) (omega (arith, c .before .before .pre, c .if1 .taken)))
 
 returns-2 : tie.Need-returns-2
 unfolding noticesWrong
 returns-2 c =
     let r = c .before .before .before .before .before .before .args .self in
-    true-later (ltb (length (notifyList (c .before .before .before .before .before .before .args .settings .distance) (currentPiece (c .before .before .before .before .before .before .args .self)))) (r .notices)) _ (true-first _ _ (ap₂ _&&_ (lt-ltb 0 (r .notices) (c .before .before .if2 .taken)) (lt-ltb (r .grip) 3 (c .if3 .taken))))
+    true-later (ltb (length (notifyList (c .before .before .before .before .before .before .args .settings .distance) (currentPiece r))) (r .notices)) _ (true-first _ _ (ap₂ _&&_ (lt-ltb 0 (r .notices) (c .before .before .if2 .taken)) (lt-ltb (r .grip) 3 (c .if3 .taken))))
 
 returns-3 : tie.Need-returns-3
 unfolding noticesWrong
 returns-3 c =
     let r = c .before .before .before .before .before .before .before .args .self in
-    next-test _ _ _ (le-ltb (length (notifyList (c .before .before .before .before .before .before .before .args .settings .distance) (currentPiece (c .before .before .before .before .before .before .before .args .self)))) (r .notices) (omega (arith, c .before .before .before .before .before .before .before .pre, c .before .before .before .before .before .if1 .left)))
+    next-test _ _ _ (le-ltb (length (notifyList (c .before .before .before .before .before .before .before .args .settings .distance) (currentPiece r))) (r .notices) (omega (arith, c .before .before .before .before .before .before .before .pre, c .before .before .before .before .before .if1 .left)))
     (next-test _ _ _ (⊎-elim (λ w. no-notices (r .notices) (r .grip) (λ h. omega arith)) (λ w. no-notices (r .notices) (r .grip) (λ h. absurd (omega arith))) (c .before .before .before .if2 .came))
     (ap (λ b. b && differ (r .notices) (r .place)) (sym (eq-eqb (r .phase) 6 (c .before .if4 .taken)))))
 
@@ -37,7 +37,7 @@ returns-4 : tie.Need-returns-4
 unfolding noticesWrong
 returns-4 c =
     let r = c .before .before .before .before .before .before .args .self in
-    next-test _ _ _ (le-ltb (length (notifyList (c .before .before .before .before .before .before .args .settings .distance) (currentPiece (c .before .before .before .before .before .before .args .self)))) (r .notices) (omega (arith, c .before .before .before .before .before .before .pre, c .before .before .before .before .if1 .left)))
+    next-test _ _ _ (le-ltb (length (notifyList (c .before .before .before .before .before .before .args .settings .distance) (currentPiece r))) (r .notices) (omega (arith, c .before .before .before .before .before .before .pre, c .before .before .before .before .if1 .left)))
     (next-test _ _ _ (⊎-elim (λ w. no-notices (r .notices) (r .grip) (λ h. omega arith)) (λ w. no-notices (r .notices) (r .grip) (λ h. absurd (omega arith))) (c .before .before .if2 .came))
     (ap (λ b. b && differ (r .notices) (r .place)) (sym (ne-eqb (r .phase) 6 (c .if4 .left)))))
 

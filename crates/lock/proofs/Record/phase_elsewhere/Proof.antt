@@ -24,19 +24,19 @@ returns-3 : tie.Need-returns-3
 returns-3 c =
     let s = c .before .before .args .settings in
     let r = c .before .before .args .self in
-    elsewhere-none s r (r .phase) (λ a b. absurd (omega arith))
+    elsewhere-none s r (r .phase) (λ a b. omega arith) (λ a b. omega arith)
 
 returns-4 : tie.Need-returns-4
 returns-4 c =
     let s = c .before .before .before .before .before .args .settings in
     let r = c .before .before .before .before .before .args .self in
-    elsewhere-none s r (r .phase) (λ a b. omega arith)
+    elsewhere-none s r (r .phase) (λ a b. omega arith) (λ a b. omega arith)
 
 returns-5 : tie.Need-returns-5
 returns-5 c =
     let s = c .before .before .before .before .before .before .args .settings in
     let r = c .before .before .before .before .before .before .args .self in
-    elsewhere-none s r (r .phase) (λ a b. absurd (omega arith))
+    elsewhere-none s r (r .phase) (λ a b. omega arith) (λ a b. omega arith)
 
 returns-6 : tie.Need-returns-6
 returns-6 c =

@@ -18,7 +18,6 @@ number-too-large-requires c κs = search needs
 returns : tie.Need-returns
 unfolding unreadable
 returns c =
-    let s = c .before .before .args .settings in
     let r = c .before .before .args .self in
     let last = c .before .before .args .last in
     true-first (numberTooLarge r) _ (sym (c .before .number-too-large .ensures) ∙ c .if1 .taken)
@@ -29,7 +28,6 @@ idle-filled-requires c κs = search needs
 returns-2 : tie.Need-returns-2
 unfolding unreadable
 returns-2 c =
-    let s = c .before .before .before .before .before .args .settings in
     let r = c .before .before .before .before .before .args .self in
     let last = c .before .before .before .before .before .args .last in
     next-test _ (numberTooLarge r) _ (sym (c .before .before .before .before .number-too-large .ensures) ∙ c .before .before .before .if1 .left)
@@ -43,7 +41,6 @@ unfolding unreadable
 returns-3 c =
     let s = c .before .before .before .before .before .before .args .settings in
     let r = c .before .before .before .before .before .before .args .self in
-    let last = c .before .before .before .before .before .before .args .last in
     next-test _ (numberTooLarge r) _ (sym (c .before .before .before .before .before .number-too-large .ensures) ∙ c .before .before .before .before .if1 .left)
     (true-first (notCovered s r) _ (sym (c .before .not-covered .ensures) ∙ c .if3 .taken) ∙ sym (choose-ne (r .phase) 0 (idleFilled r) _ (c .before .before .if2 .left)))
 
@@ -55,7 +52,6 @@ unfolding unreadable noCurrent
 returns-4 c =
     let s = c .before .before .before .before .before .before .before .before .before .args .settings in
     let r = c .before .before .before .before .before .before .before .before .before .args .self in
-    let last = c .before .before .before .before .before .before .before .before .before .args .last in
     next-test _ (numberTooLarge r) _ (sym (c .before .before .before .before .before .before .before .before .number-too-large .ensures) ∙ c .before .before .before .before .before .before .before .if1 .left)
     (true-later (notCovered s r) _ (true-first (noCurrent r) _ (le-leb (length (pieces r)) (r .current) (omega (arith, c .before .before .piece-count .ensures, c .if4 .taken)))) ∙ sym (choose-ne (r .phase) 0 (idleFilled r) _ (c .before .before .before .before .before .if2 .left)))
 
@@ -70,7 +66,6 @@ unfolding unreadable noCurrent fieldsWrong
 returns-5 c =
     let s = c .before .before .before .before .before .before .before .before .before .before .args .settings in
     let r = c .before .before .before .before .before .before .before .before .before .before .args .self in
-    let last = c .before .before .before .before .before .before .before .before .before .before .args .last in
     next-test _ (numberTooLarge r) _ (sym (c .before .before .before .before .before .before .before .before .before .number-too-large .ensures) ∙ c .before .before .before .before .before .before .before .before .if1 .left)
     (next-test _ (notCovered s r) _ (sym (c .before .before .before .before .before .not-covered .ensures) ∙ c .before .before .before .before .if3 .left)
     (next-test _ (noCurrent r) _ (lt-leb (length (pieces r)) (r .current) (omega (arith, c .before .before .before .piece-count .ensures, c .before .if4 .left)))
