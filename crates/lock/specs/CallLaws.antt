@@ -104,3 +104,13 @@ module _ (s : Settings) (last : ℕ) (r : Record) (words : List ℕ) (clock : �
   pub words-accepted : stepNumber s last r words clock ≡ 0 → written words (touched s r) (moved s r (wordAt words (touched s r)) clock .word) ≡ stepWords s last r words clock
   unfolding stepWords
   words-accepted e = sym (choose-eq (stepNumber s last r words clock) 0 _ words e)
+
+-- ---- request, release and cancel: the chain behind 1 and 2
+
+module _ (s : Settings) (last : ℕ) (r : Record) (count : ℕ) (a : settingsOutside s ≡ false) (b : count ≡ wordCount (s .levels)) where
+  -- the tests behind 6
+  pub own-unreadable : (ts : Tests) → unreadable s last r ≡ true → firstCause (treeTests s count ++ ((unreadable s last r, 6) ∷ ts)) ≡ 6
+  own-unreadable ts e = tree-passed s count _ a b ∙ cause-hit (unreadable s last r) 6 ts e
+
+  pub own-rest : (ts : Tests) → unreadable s last r ≡ false → firstCause (treeTests s count ++ ((unreadable s last r, 6) ∷ ts)) ≡ firstCause ts
+  own-rest ts e = tree-passed s count _ a b ∙ cause-skip (unreadable s last r) 6 ts e

@@ -2,6 +2,7 @@ pub mod Active
 pub mod ActiveLaws
 pub mod CallLaws
 pub mod Calls
+pub mod CoverLaws
 pub mod Example
 pub mod MoveLaws
 pub mod Phases
@@ -13,4 +14,5 @@ pub mod ReturnLaws
 pub mod StepLaws
 pub mod Steps
 pub mod Table
+pub mod Touched
 pub mod Types

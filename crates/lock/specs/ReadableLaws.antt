@@ -16,6 +16,7 @@ use Rattle.lock.specs.declared.Record.{Record}
 use Rattle.lock.specs.declared.Settings.{Settings}
 use Rattle.lock.specs.Types.{Phase, idle, ticket, turn, climb, blocked, claim, notify, wait, check, held, returning, unknown, phaseOf, pieces, pieceAt, currentPiece, isLeaf, isRoot, noticesOf}
 use Rattle.lock.specs.Readable.{nonzero, differ, notCovered, ticketTooLarge, listLength, placePast, noticesWrong, timeAhead, phaseElsewhere, heldEarly, outcomeWrong, gripLacking, givingWrong}
+use Rattle.lock.specs.CoverLaws.{cover-refused, cover-inside, cover-first, cover-second}
 use Rattle.lock.specs.Active.{Settled}
 
 -- ---- tests joined by `||`, one after the other
@@ -77,40 +78,19 @@ fieldsWrong s last r =
 -- ---- the cover
 
 module _ (s : Settings) (r : Record) (v : Settled s) (a : Answer) (e : a ≡ answer (s .levels) (r .left) (r .right)) where
-  abbrev least : Answer
-  least = accepted (s .levels) (r .left) (r .right) (leastCover 2 (s .levels) (r .left) (r .right))
-
   abbrev outside : Bool
   outside = windowOutside (s .levels) (r .left) (r .right)
 
-  answer-is : a ≡ choose outside (refused 7) least
-  unfolding answer levelsOutside
-  answer-is =
-      e ∙ choose-no (levelsOutside (s .levels)) _ _
-      (or-none (ltb (s .levels) 2) (ltb 12 (s .levels)) (not-T (ltb (s .levels) 2) (λ t. omega (arith, ltb→lt (s .levels) 2 t))) (not-T (ltb 12 (s .levels)) (λ t. omega (arith, ltb→lt 12 (s .levels) t))))
-
-  refused-outside : (b : Bool) → a ≡ choose b (refused 7) least → (a .number ≡ 0 → ⊥) → b ≡ true
-  unfolding choose accepted
-  refused-outside true q d = refl
-  refused-outside false q d = absurd (d (ap (λ x. x .number) q))
-
-  accepted-inside : (b : Bool) → a ≡ choose b (refused 7) least → a .number ≡ 0 → (b ≡ false) × (a ≡ least)
-  unfolding choose refused
-  accepted-inside true q z = let f = ap (λ x. x .number) q in absurd (omega arith)
-  accepted-inside false q z = (refl, q)
-
   pub window-refused : (a .number ≡ 0 → ⊥) → true ≡ notCovered s r
   unfolding notCovered
-  window-refused d = true-first outside _ (refused-outside outside answer-is d)
+  window-refused d = true-first outside _ (cover-refused (s .levels) (r .left) (r .right) (v .levels-some) (v .levels-most) a e d)
 
   module _ (z : a .number ≡ 0) where
     first-is : a .first ≡ getD (leastCover 2 (s .levels) (r .left) (r .right)) 0 0
-    unfolding accepted
-    first-is = ap (λ x. x .first) (accepted-inside outside answer-is z .1)
+    first-is = cover-first (s .levels) (r .left) (r .right) (v .levels-some) (v .levels-most) a e z
 
     second-is : a .second ≡ getD (leastCover 2 (s .levels) (r .left) (r .right)) 1 0
-    unfolding accepted
-    second-is = ap (λ x. x .second) (accepted-inside outside answer-is z .1)
+    second-is = cover-second (s .levels) (r .left) (r .right) (v .levels-some) (v .levels-most) a e z
 
     pub first-other : (r .first ≡ a .first → ⊥) → true ≡ notCovered s r
     unfolding notCovered
@@ -119,7 +99,7 @@ module _ (s : Settings) (r : Record) (v : Settled s) (a : Answer) (e : a ≡ ans
     pub second-tested : r .first ≡ a .first → differ (r .second) (a .second) ≡ notCovered s r
     unfolding notCovered
     second-tested q =
-        next-test _ outside _ (accepted-inside outside answer-is z .0)
+        next-test _ outside _ (cover-inside (s .levels) (r .left) (r .right) (v .levels-some) (v .levels-most) a e z)
         (next-test _ (differ (r .first) (getD (leastCover 2 (s .levels) (r .left) (r .right)) 0 0)) _ (ap not (eq-eqb (r .first) _ (q ∙ first-is))) (ap (λ (n : ℕ). differ (r .second) n) second-is))
 
 -- ---- the notices

@@ -56,6 +56,7 @@ pub struct Moved {
 }
 
 mod by_phase;
+mod calls;
 mod moves;
 mod outside;
 mod pieces;

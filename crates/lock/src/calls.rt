@@ -1,0 +1,221 @@
+// The calls by value: from the record, the lent tree, the settings and the call to the number, the clock and the next record.
+ghost use mathlib.Core.Path.{_≡_};
+ghost use mathlib.Core.List.{List};
+ghost use Prim.Native.Nat.{ℕ, _≤_, _<_};
+ghost use mathlib.Core.Bool.{_||_};
+ghost use lib.Dec.{eqb};
+ghost use lib.ListN.{length, getD};
+ghost use Rattle.lock.specs.declared.Stepped.{Stepped};
+ghost use Rattle.lock.specs.Types.{wordAt, written};
+ghost use Rattle.lock.specs.Calls.{requested, cancelled, requestAnswer, releaseAnswer, cancelAnswer, stepAnswer, stepWords};
+ghost use Rattle.lock.specs.CallLaws.{TreeTested};
+ghost use Rattle.lock.specs.Active.{Settled};
+ghost use Rattle.cover.specs.Lowest.{Window};
+ghost use Rattle.cover.specs.Search.{leastCover};
+use crate::Call;
+use crate::Record;
+use crate::Settings;
+use crate::Stepped;
+
+// "Node n is word n - 1 of the lent 64-bit words"; 0 stands for no node.
+fn word_at(words: &[u64], n: u64) -> u64
+    requires { ⌜ n ≤ length (now words) ⌝ }
+    ensures { λ w. ⌜ w ≡ wordAt (now (words .entry)) n ⌝ }
+{
+    if n == 0 {
+        return 0;
+    }
+    words[(n - 1) as usize]
+}
+
+fn put_word(words: &mut [u64], n: u64, word: u64)
+    requires { ⌜ n ≤ length (now words) ⌝ }
+    ensures { λ r. ⌜ now (words .exit) ≡ written (now (words .entry)) n word ⌝ }
+{
+    if n == 0 {
+        return;
+    }
+    words[(n - 1) as usize] = word;
+}
+
+impl Settings {
+    // Causes 1 and 2: settings outside their ranges, or a word count that is not the tree's.
+    pub fn tree_cause(self, count: u64) -> u64
+        ensures { λ n. ⌜ TreeTested self count n ⌝ }
+    {
+        if self.outside() {
+            return 1;
+        }
+        if count != tree::last_node(self.levels) {
+            return 2;
+        }
+        0
+    }
+}
+
+impl Record {
+    // "As it was": a refused call gives its number only.
+    fn refused(self, number: u64, last: u64) -> Stepped
+        ensures { λ s. ⌜ s ≡ record { number = number; clock = last; next = self } ⌝ }
+    {
+        Stepped {
+            number: number,
+            clock: last,
+            next: self,
+        }
+    }
+
+    // Tests 1, 2, 5, 6, 9. "An accepted step sets the last clock."
+    pub fn step(self, words: &mut [u64], settings: Settings, call: Call) -> Stepped
+        ensures answer { λ s. ⌜ s ≡ stepAnswer settings (call .last) self (now (words .entry)) (call .a) ⌝ }
+        ensures words { λ s. ⌜ now (words .exit) ≡ stepWords settings (call .last) self (now (words .entry)) (call .a) ⌝ }
+    {
+        let cause = settings.tree_cause(words.len() as u64);
+        if cause != 0 {
+            return self.refused(cause, call.last);
+        }
+        if call.a < call.last {
+            return self.refused(5, call.last);
+        }
+        if self.unreadable(settings, call.last) {
+            return self.refused(6, call.last);
+        }
+        let n = self.touched(settings);
+        let m = self.moved(settings, word_at(words, n), call.a);
+        if m.number != 0 {
+            return self.refused(9, call.last);
+        }
+        put_word(words, n, m.word);
+        let next = m.next;
+        Stepped {
+            number: 0,
+            clock: call.a,
+            next: next,
+        }
+    }
+
+    // "A request sets window and pieces, zeroes the rest".
+    fn requested(settings: Settings, a: u64, b: u64, first: u64, second: u64) -> Record
+        requires { ⌜ Settled settings × Window (settings .levels) a b × (first ≡ getD (leastCover 2 (settings .levels) a b) 0 0) × (second ≡ getD (leastCover 2 (settings .levels) a b) 1 0) ⌝ }
+        ensures { λ r. ⌜ r ≡ requested settings a b ⌝ }
+    {
+        let phase = settings.start_phase(first);
+        Record {
+            phase: phase,
+            outcome: 0,
+            left: a,
+            right: b,
+            first: first,
+            second: second,
+            current: 0,
+            giving: 0,
+            grip: 0,
+            ticket: 0,
+            place: 0,
+            notices: 0,
+            t1: 0,
+            t0: 0,
+        }
+    }
+
+    // Tests 1, 2, 6, 7, 8. It touches no word.
+    pub fn request(self, words: &mut [u64], settings: Settings, call: Call) -> Stepped
+        ensures answer { λ s. ⌜ s ≡ requestAnswer settings (call .last) self (now (words .entry)) (call .a) (call .b) ⌝ }
+        ensures words { λ s. ⌜ now (words .exit) ≡ now (words .entry) ⌝ }
+    {
+        let cause = settings.tree_cause(words.len() as u64);
+        if cause != 0 {
+            return self.refused(cause, call.last);
+        }
+        if self.unreadable(settings, call.last) {
+            return self.refused(6, call.last);
+        }
+        let cover = cover::cover(settings.levels, call.a, call.b);
+        if cover.number != 0 {
+            return self.refused(7, call.last);
+        }
+        if self.phase != 0 {
+            return self.refused(8, call.last);
+        }
+        let next = Record::requested(settings, call.a, call.b, cover.first, cover.second);
+        Stepped {
+            number: 0,
+            clock: call.last,
+            next: next,
+        }
+    }
+
+    // Tests 1, 2, 6, 8. "Release (from 9)": outcome 1 and phase 10.
+    pub fn release(mut self, words: &mut [u64], settings: Settings, call: Call) -> Stepped
+        ensures answer { λ s. ⌜ s ≡ releaseAnswer settings (call .last) self (now (words .entry)) ⌝ }
+        ensures words { λ s. ⌜ now (words .exit) ≡ now (words .entry) ⌝ }
+    {
+        let cause = settings.tree_cause(words.len() as u64);
+        if cause != 0 {
+            return self.refused(cause, call.last);
+        }
+        if self.unreadable(settings, call.last) {
+            return self.refused(6, call.last);
+        }
+        if self.phase != 9 {
+            return self.refused(8, call.last);
+        }
+        self.outcome = 1;
+        self.phase = 10;
+        self.place = 0;
+        Stepped {
+            number: 0,
+            clock: call.last,
+            next: self,
+        }
+    }
+
+    // "cancel (from 1..8)", or idle where there is nothing to give back.
+    fn cancelled(mut self) -> Record
+        ensures { λ r. ⌜ r ≡ cancelled self ⌝ }
+    {
+        if self.grip_of(0) == 0 {
+            return Record::idle_with(3);
+        }
+        self.outcome = 3;
+        self.phase = 10;
+        self.place = 0;
+        self
+    }
+
+    // "cancel in 0, 9 or 10"
+    fn not_cancellable(self) -> bool
+        ensures { λ b. ⌜ b ≡ (eqb (self .phase) 0 || (eqb (self .phase) 9 || eqb (self .phase) 10)) ⌝ }
+    {
+        if self.phase == 0 {
+            return true;
+        }
+        if self.phase == 9 {
+            return true;
+        }
+        self.phase == 10
+    }
+
+    // Tests 1, 2, 6, 8.
+    pub fn cancel(self, words: &mut [u64], settings: Settings, call: Call) -> Stepped
+        ensures answer { λ s. ⌜ s ≡ cancelAnswer settings (call .last) self (now (words .entry)) ⌝ }
+        ensures words { λ s. ⌜ now (words .exit) ≡ now (words .entry) ⌝ }
+    {
+        let cause = settings.tree_cause(words.len() as u64);
+        if cause != 0 {
+            return self.refused(cause, call.last);
+        }
+        if self.unreadable(settings, call.last) {
+            return self.refused(6, call.last);
+        }
+        if self.not_cancellable() {
+            return self.refused(8, call.last);
+        }
+        let next = self.cancelled();
+        Stepped {
+            number: 0,
+            clock: call.last,
+            next: next,
+        }
+    }
+}
