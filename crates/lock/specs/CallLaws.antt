@@ -105,6 +105,18 @@ module _ (s : Settings) (last : ℕ) (r : Record) (words : List ℕ) (clock : �
   unfolding stepWords
   words-accepted e = sym (choose-eq (stepNumber s last r words clock) 0 _ words e)
 
+  -- the two promises of a refused step, and of an accepted one
+  pub step-refused : (k : ℕ) (x : Stepped) → stepNumber s last r words clock ≡ k → (k ≡ 0 → ⊥) → x ≡ record { number = k; clock = last; next = r }
+      → (x ≡ stepAnswer s last r words clock) × (words ≡ stepWords s last r words clock)
+  unfolding stepAnswer
+  step-refused k x e d q = (q ∙ refused-by (stepNumber s last r words clock) k last clock r _ e d, words-refused k e d)
+
+  pub step-taken : (next : Record) → stepNumber s last r words clock ≡ 0 → next ≡ moved s r (wordAt words (touched s r)) clock .next
+      → record { number = 0; clock = clock; next = next } ≡ stepAnswer s last r words clock
+  unfolding stepAnswer
+  step-taken next e q =
+      ap (λ (y : Record). record { number = 0; clock = clock; next = y }) q ∙ sym (answer-accepted (stepNumber s last r words clock) last clock r _ e)
+
 -- ---- request, release and cancel: the chain behind 1 and 2
 
 module _ (s : Settings) (last : ℕ) (r : Record) (count : ℕ) (a : settingsOutside s ≡ false) (b : count ≡ wordCount (s .levels)) where

@@ -10,6 +10,7 @@ pub mod Pieces
 pub mod Placed
 pub mod Readable
 pub mod ReadableLaws
+pub mod RequestLaws
 pub mod ReturnLaws
 pub mod StepLaws
 pub mod Steps
