@@ -15,7 +15,6 @@ returns : tie.Need-returns
 unfolding fieldsWrong ticketTooLarge
 returns c =
     let r = c .before .before .args .self in
-    let last = c .before .before .args .last in
     true-first (ticketTooLarge r) _ (lt-ltb 32767 (r .ticket) (c .if1 .taken))
 
 piece-at-requires : tie.Need-piece-at-requires

@@ -77,7 +77,17 @@ returns-12 : tie.Need-returns-12
 unfolding idleFilled
 returns-12 c =
     let r = c .before .before .before .before .before .before .before .before .before .before .before .before .before .before .before .before .before .before .before .before .before .before .before .args .self in
-    next-test _ _ _ (le-ltb 0 (r .left) (c .before .before .before .before .before .before .before .before .before .before .before .before .before .before .before .before .before .before .before .before .before .if1 .left)) (next-test _ _ _ (le-ltb 0 (r .right) (c .before .before .before .before .before .before .before .before .before .before .before .before .before .before .before .before .before .before .before .if2 .left)) (next-test _ _ _ (le-ltb 0 (r .first) (c .before .before .before .before .before .before .before .before .before .before .before .before .before .before .before .before .before .if3 .left)) (next-test _ _ _ (le-ltb 0 (r .second) (c .before .before .before .before .before .before .before .before .before .before .before .before .before .before .before .if4 .left)) (next-test _ _ _ (le-ltb 0 (r .current) (c .before .before .before .before .before .before .before .before .before .before .before .before .before .if5 .left)) (next-test _ _ _ (le-ltb 0 (r .giving) (c .before .before .before .before .before .before .before .before .before .before .before .if6 .left)) (next-test _ _ _ (le-ltb 0 (r .grip) (c .before .before .before .before .before .before .before .before .before .if7 .left)) (next-test _ _ _ (le-ltb 0 (r .ticket) (c .before .before .before .before .before .before .before .if8 .left)) (next-test _ _ _ (le-ltb 0 (r .place) (c .before .before .before .before .before .if9 .left)) (next-test _ _ _ (le-ltb 0 (r .notices) (c .before .before .before .if10 .left)) (next-test _ _ _ (le-ltb 0 (r .t1) (c .before .if11 .left)) refl))))))))))
+    next-test _ _ _ (le-ltb 0 (r .left) (c .before .before .before .before .before .before .before .before .before .before .before .before .before .before .before .before .before .before .before .before .before .if1 .left))
+    (next-test _ _ _ (le-ltb 0 (r .right) (c .before .before .before .before .before .before .before .before .before .before .before .before .before .before .before .before .before .before .before .if2 .left))
+    (next-test _ _ _ (le-ltb 0 (r .first) (c .before .before .before .before .before .before .before .before .before .before .before .before .before .before .before .before .before .if3 .left))
+    (next-test _ _ _ (le-ltb 0 (r .second) (c .before .before .before .before .before .before .before .before .before .before .before .before .before .before .before .if4 .left))
+    (next-test _ _ _ (le-ltb 0 (r .current) (c .before .before .before .before .before .before .before .before .before .before .before .before .before .if5 .left))
+    (next-test _ _ _ (le-ltb 0 (r .giving) (c .before .before .before .before .before .before .before .before .before .before .before .if6 .left))
+    (next-test _ _ _ (le-ltb 0 (r .grip) (c .before .before .before .before .before .before .before .before .before .if7 .left))
+    (next-test _ _ _ (le-ltb 0 (r .ticket) (c .before .before .before .before .before .before .before .if8 .left))
+    (next-test _ _ _ (le-ltb 0 (r .place) (c .before .before .before .before .before .if9 .left))
+    (next-test _ _ _ (le-ltb 0 (r .notices) (c .before .before .before .if10 .left))
+    (next-test _ _ _ (le-ltb 0 (r .t1) (c .before .if11 .left)) refl))))))))))
 
 pub idle-filled-spec : {M : Type 1} → statement M
 idle-filled-spec =

@@ -19,7 +19,6 @@ returns : tie.Need-returns
 unfolding unreadable
 returns c =
     let r = c .before .before .args .self in
-    let last = c .before .before .args .last in
     true-first (numberTooLarge r) _ (sym (c .before .number-too-large .ensures) ∙ c .if1 .taken)
 
 idle-filled-requires : tie.Need-idle-filled-requires
@@ -29,7 +28,6 @@ returns-2 : tie.Need-returns-2
 unfolding unreadable
 returns-2 c =
     let r = c .before .before .before .before .before .args .self in
-    let last = c .before .before .before .before .before .args .last in
     next-test _ (numberTooLarge r) _ (sym (c .before .before .before .before .number-too-large .ensures) ∙ c .before .before .before .if1 .left)
     (c .idle-filled .ensures ∙ sym (choose-eq (r .phase) 0 (idleFilled r) _ (c .before .if2 .taken)))
 
