@@ -1,10 +1,9 @@
 -- Examples, closed by computing: document 01's whole case, run on the rules from an opening, gives the numbers, phases and edges of its fourteen lines, and so
 -- does the variant "With clock 6 in call 7 its phase is 10". Assumes nothing.
 use mathlib.Core.Path.{_≡_, refl}
-use mathlib.Core.Bool.{Bool, not, _&&_, _||_}
-use mathlib.Core.List.{List, [], _∷_, _++_, map}
+use mathlib.Core.List.{List, [], _∷_}
 use Prim.Native.Nat.{ℕ}
-use lib.ListN.{length, getD, set, replicate}
+use lib.ListN.{getD, replicate}
 use Rattle.base.specs.Choice.{choose}
 use Rattle.word.specs.Word.{field, putField, addField, matches, replaced, maskedSwap, leafBits, wantedBits, takeBits, giveBits, returnOcc}
 use Rattle.tree.specs.Tree.{climb, leftmost, first, level, levelWithin, size, left, units, holder, wordCount}
@@ -19,7 +18,7 @@ use Rattle.lock.specs.Types.{phaseOf, pieces, pieceAt, isLeaf, gripOf, n
 use Rattle.lock.specs.Readable.{numberTooLarge, idleFilled, notCovered, noCurrent, ticketTooLarge, listLength, placePast, noticesWrong, timeAhead, phaseElsewhere, heldEarly, outcomeWrong, gripLacking, givingWrong, unreadable}
 use Rattle.lock.specs.Steps.{touchedIn, startPhase, begin, taken, ticketTaken, turnAwaited, goUp, climbed, unblocked, bitsClaimed, occClaimed, allNotified, noticeGiven, waited, checkPassed, pieceReturned, wordReturned, turnReturned, claimPiece, returnBits, returnInner, giveBack, movedIn}
 use Rattle.lock.specs.Calls.{firstCause, settingsOutside, treeTests, clientsOutside, clientTests, requestTests, stepTests, releaseTests, cancelTests, requested, released, cancelled}
-use Rattle.lock.specs.Table.{State, Call, request, step, release, cancel, clientOf, recordAt, ownTests, numberOf, after, call, openingNumber, opened, opening}
+use Rattle.lock.specs.Table.{State, Call, request, step, release, clientOf, recordAt, ownTests, numberOf, after, call, openingNumber, opened, opening}
 
 -- a line of the log without its call: number, phase after, left and right edge after
 abbrev pub line : ℕ → Record → List ℕ

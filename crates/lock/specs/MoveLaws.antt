@@ -1,17 +1,15 @@
 -- Laws of the step's match on the phase: what its arms meet. Assumes nothing.
-use mathlib.Core.Path.{_≡_, refl, sym, ap, _∙_, subst}
+use mathlib.Core.Path.{_≡_, refl, sym, ap, _∙_}
 use mathlib.Core.Bool.{Bool, true, false}
-use Prim.Native.Nat.{ℕ, zero, suc, _+_, _-_, _≤_, _<_}
-use native.Mathlib.Omega.{arith}
-use lib.ListN.{length, getD}
+use Prim.Native.Nat.{ℕ, _-_}
+use lib.ListN.{getD}
 use Rattle.base.specs.Choice.{choose, choose-eq, choose-ne}
 use Rattle.word.specs.declared.Swap.{Swap}
 use Rattle.word.specs.Word.{addOcc, takeBits}
 use Rattle.tree.specs.Lists.{notifyList}
-use Rattle.lock.specs.declared.Moved.{Moved}
 use Rattle.lock.specs.declared.Record.{Record}
 use Rattle.lock.specs.declared.Settings.{Settings}
-use Rattle.lock.specs.Types.{Phase, returning, phaseOf, currentPiece, givenPiece, isLeaf}
+use Rattle.lock.specs.Types.{returning, phaseOf, currentPiece, givenPiece, isLeaf}
 use Rattle.lock.specs.Steps.{touchedIn, movedIn, bitsClaimed, occClaimed, wanted, leaves, claimPiece}
 use Rattle.lock.specs.Phases.{on-phase}
 

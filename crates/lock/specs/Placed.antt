@@ -1,13 +1,12 @@
 -- Laws: what a step needs to know of a record that is not idle: its pieces are nodes that meet the window, and its place is in its list. Assumes nothing.
-use mathlib.Core.Path.{_≡_, refl, sym, ap, _∙_, subst}
-use mathlib.Core.Logic.{_⊎_, inl, inr, ⊎-elim}
-use Prim.Native.Nat.{ℕ, zero, suc, _+_, _-_, _*_, _^_, _≤_, _<_}
+use mathlib.Core.Path.{_≡_, ap}
+use mathlib.Core.Logic.{_⊎_, ⊎-elim}
+use Prim.Native.Nat.{ℕ, _+_, _-_, _^_, _≤_, _<_}
 use native.Mathlib.Omega.{arith}
-use lib.ListN.{length, getD}
+use lib.ListN.{length}
 use Rattle.base.specs.Choice.{by-lt}
-use Rattle.tree.specs.Tree.{level, left, right, size, units, Node, Holds, wordCount}
+use Rattle.tree.specs.Tree.{level, left, right, size, Node}
 use Rattle.tree.specs.Lists.{ancestors, notifyList, checkList}
-use Rattle.tree.specs.Level.{level-pos, node-counted}
 use Rattle.tree.specs.Range.{right-in}
 use Rattle.cover.specs.Cover.{Meets}
 use Rattle.cover.specs.Over.{units-small}
@@ -15,7 +14,7 @@ use Rattle.lock.specs.declared.Record.{Record}
 use Rattle.lock.specs.declared.Settings.{Settings}
 use Rattle.lock.specs.Types.{pieces, pieceAt, currentPiece, givenPiece, noticesOf}
 use Rattle.lock.specs.Active.{Settled, Active}
-use Rattle.lock.specs.Pieces.{few-pieces, notices-before, notices-current}
+use Rattle.lock.specs.Pieces.{notices-before, notices-current}
 
 pub record Placed (s : Settings) (r : Record) : Type 0 where
   pub exists : r .current < length (pieces r)

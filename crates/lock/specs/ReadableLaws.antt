@@ -4,14 +4,14 @@ use mathlib.Core.Bool.{Bool, true, false, not, _&&_, _||_}
 use Prim.Native.Nat.{ℕ, suc, _≤_, _<_}
 use native.Mathlib.Omega.{arith}
 use borrow.Author.Tests.{lt-ltb, le-ltb, eq-eqb, ne-eqb}
-use lib.Dec.{eqb, leb, ltb, ltb→lt, not-T}
+use lib.Dec.{eqb, leb, ltb}
 use lib.ListN.{length, getD}
-use Rattle.base.specs.Choice.{choose, choose-eq, choose-ne, choose-no, or-none, by-lt}
+use Rattle.base.specs.Choice.{choose, choose-eq, choose-ne, by-lt}
 use Rattle.tree.specs.Tree.{Node}
 use Rattle.tree.specs.Lists.{ancestors, notifyList, checkList}
 use Rattle.cover.specs.declared.Answer.{Answer}
 use Rattle.cover.specs.Search.{leastCover}
-use Rattle.cover.specs.Answer.{levelsOutside, windowOutside, refused, accepted, answer}
+use Rattle.cover.specs.Answer.{windowOutside, answer}
 use Rattle.lock.specs.declared.Record.{Record}
 use Rattle.lock.specs.declared.Settings.{Settings}
 use Rattle.lock.specs.Types.{Phase, idle, ticket, turn, climb, blocked, claim, notify, wait, check, held, returning, unknown, phaseOf, pieces, pieceAt, currentPiece, isLeaf, isRoot, noticesOf}

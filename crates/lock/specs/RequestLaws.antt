@@ -1,18 +1,17 @@
 -- Laws: words by node as the code reads and writes them, and the first piece of a request. Assumes nothing.
-use mathlib.Core.Path.{_≡_, refl, sym, ap, _∙_, subst}
+use mathlib.Core.Path.{_≡_, refl, sym, ap, subst}
 use mathlib.Core.Bool.{Bool, true, false, _||_}
 use mathlib.Core.List.{List, [], _∷_}
-use Prim.Native.Nat.{ℕ, zero, suc, _+_, _-_, _≤_, _<_}
+use Prim.Native.Nat.{ℕ, suc, _-_, _≤_, _<_}
 use native.Mathlib.Omega.{arith}
 use borrow.Author.Tests.{ltb-false, leb-false}
 use lib.Dec.{T, leb, ltb}
-use lib.ListN.{length, getD, set}
+use lib.ListN.{getD, set}
 use Rattle.tree.specs.Tree.{last, Node, units, wordCount}
 use Rattle.tree.specs.Level.{word-count}
-use Rattle.cover.specs.Cover.{In}
 use Rattle.cover.specs.Lowest.{Window}
 use Rattle.cover.specs.Search.{leastCover}
-use Rattle.cover.specs.Least.{least-cover, least-chain}
+use Rattle.cover.specs.Least.{least-chain}
 use Rattle.cover.specs.Chain.{Chain}
 use Rattle.cover.specs.Answer.{windowOutside}
 use Rattle.lock.specs.declared.Settings.{Settings}

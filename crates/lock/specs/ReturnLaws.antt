@@ -1,16 +1,13 @@
 -- Laws of returning, one for each way through its rules, as the code meets them. Assumes nothing.
-use mathlib.Core.Path.{_≡_, refl, sym, ap, ap₂, _∙_, subst}
+use mathlib.Core.Path.{_≡_, sym, ap, _∙_}
 use mathlib.Core.Bool.{Bool, true, false}
-use Prim.Native.Nat.{ℕ, zero, suc, _+_, _≤_, _<_}
+use Prim.Native.Nat.{ℕ, suc, _+_, _≤_, _<_}
 use native.Mathlib.Omega.{arith}
 use borrow.Author.Tests.{eqb-true}
-use lib.Dec.{eqb}
-use lib.ListN.{length}
 use Rattle.base.specs.Choice.{choose, choose-eq, choose-ne, choose-lt, choose-ge}
 use Rattle.word.specs.declared.Swap.{Swap}
 use Rattle.word.specs.Word.{tcnt, addTcnt, addDcnt, giveBits, returnOcc}
 use Rattle.tree.specs.Tree.{level}
-use Rattle.lock.specs.declared.Moved.{Moved}
 use Rattle.lock.specs.declared.Record.{Record}
 use Rattle.lock.specs.declared.Settings.{Settings}
 use Rattle.lock.specs.Types.{givenPiece, isLeaf, gripOf, noticesOf, withGiving, withGrip, withPlace, idleWith}

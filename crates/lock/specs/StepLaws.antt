@@ -1,9 +1,9 @@
 -- Laws of the next record of each phase, one for each way through its rule, as the code meets them. Assumes nothing.
-use mathlib.Core.Path.{_≡_, refl, sym, ap, _∙_, subst}
+use mathlib.Core.Path.{_≡_, sym, ap, _∙_, subst}
 use mathlib.Core.Bool.{Bool, true, false}
-use Prim.Native.Nat.{ℕ, zero, suc, _+_, _-_, _≤_, _<_, min}
+use Prim.Native.Nat.{ℕ, suc, _+_, _-_, _≤_, _<_, min}
 use native.Mathlib.Omega.{arith}
-use lib.Dec.{eqb, leb, ltb}
+use lib.Dec.{eqb}
 use lib.ListN.{length}
 use Rattle.base.specs.Choice.{choose, on-choose, choose-eq, choose-ne, choose-lt, choose-ge, choose-le, choose-gt}
 use Rattle.word.specs.Word.{occ, tcnt, dcnt, dmax}

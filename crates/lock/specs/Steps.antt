@@ -5,7 +5,6 @@ use Prim.Native.Nat.{ℕ, suc, _+_, _-_}
 use lib.Dec.{eqb, leb, ltb}
 use lib.ListN.{length, getD}
 use Rattle.base.specs.Choice.{choose}
-use Rattle.word.specs.declared.Swap.{Swap}
 use Rattle.word.specs.Word.{occ, tcnt, tmax, dcnt, dmax, addOcc, addTcnt, addTmax, addDcnt, addDmax, wantedBits, takeBits, giveBits, returnOcc}
 use Rattle.tree.specs.Tree.{left}
 use Rattle.tree.specs.Lists.{ancestors, notifyList, checkList}

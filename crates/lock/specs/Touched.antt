@@ -1,27 +1,26 @@
 -- Laws: a step touches only nodes of the tree, so only words inside the lent length; and a readable record is sound. Assumes nothing.
-use mathlib.Core.Path.{_≡_, refl, sym, ap, _∙_, subst}
+use mathlib.Core.Path.{_≡_, sym, ap, subst}
 use mathlib.Core.Bool.{false}
-use mathlib.Core.Logic.{_⊎_, inl, inr, ⊎-elim}
-use Prim.Native.Nat.{ℕ, zero, suc, _+_, _-_, _≤_, _<_}
+use mathlib.Core.Logic.{inl, inr, ⊎-elim}
+use Prim.Native.Nat.{ℕ, suc, _-_, _≤_, _<_}
 use native.Mathlib.Decide.{ℕ-discrete}
 use native.Mathlib.Omega.{arith}
-use lib.Dec.{eqb}
 use lib.ListN.{length, getD}
-use Rattle.base.specs.Choice.{choose, on-choose, by-lt}
-use Rattle.tree.specs.Tree.{climb, leftmost, first, level, Node, wordCount}
+use Rattle.base.specs.Choice.{choose}
+use Rattle.tree.specs.Tree.{climb, level, Node, wordCount}
 use Rattle.tree.specs.Lists.{ancestors, notifyList, checkList}
 use Rattle.tree.specs.Climb.{left-pos}
-use Rattle.tree.specs.Level.{level-pos, climb-level, node-counted}
+use Rattle.tree.specs.Level.{climb-level, node-counted}
 use Rattle.tree.specs.Ancestors.{ancestors-count, ancestors-place}
 use Rattle.tree.specs.Notify.{notify-count, notify-place, notify-node, notify-higher}
 use Rattle.tree.specs.Check.{checkNode, check-count, check-place, check-is}
 use Rattle.tree.specs.Code.{bounded}
 use Rattle.lock.specs.declared.Record.{Record}
 use Rattle.lock.specs.declared.Settings.{Settings}
-use Rattle.lock.specs.Types.{phaseOf, returning, pieces, pieceAt, currentPiece, givenPiece, idleWith}
+use Rattle.lock.specs.Types.{phaseOf, returning, pieces, pieceAt, currentPiece, givenPiece}
 use Rattle.lock.specs.Steps.{touchedIn}
 use Rattle.lock.specs.Readable.{unreadable}
-use Rattle.lock.specs.Active.{Settled, Active}
+use Rattle.lock.specs.Active.{Settled}
 use Rattle.lock.specs.ActiveLaws.{active, idle-readable}
 use Rattle.lock.specs.Placed.{Placed, placed, Sound, widen, given-notices}
 use Rattle.lock.specs.Phases.{on-phase}
@@ -64,10 +63,10 @@ module _ (s : Settings) (r : Record) (v : Settled s) (p : Placed s r) where
   returning-counted : r .phase ≡ 10 → touchedIn s r returning ≤ wordCount (s .levels)
   returning-counted e =
       elim (ℕ-discrete (r .place) 0) [
-        yes z ↦ omega (arith, touched-own s r z, piece-counted (r .giving) begun)
+        | yes z ↦ omega (arith, touched-own s r z, piece-counted (r .giving) begun)
         | no d ↦
-          let b : r .place - 1 < length (notifyList (s .distance) (givenPiece r)) = omega (arith, p .returning e, given-notices s r p) in
-          omega (arith, touched-notice s r d, notify-counted (s .levels) (givenPiece r) (p .meets (r .giving) begun .node) (s .distance) (v .levels-most) (v .distance-some) (v .distance-most) (r .place - 1) b)
+            let b : r .place - 1 < length (notifyList (s .distance) (givenPiece r)) = omega (arith, p .returning e, given-notices s r p) in
+            omega (arith, touched-notice s r d, notify-counted (s .levels) (givenPiece r) (p .meets (r .giving) begun .node) (s .distance) (v .levels-most) (v .distance-some) (v .distance-most) (r .place - 1) b)
       ]
 
   pub placed-counted : touchedIn s r (phaseOf (r .phase)) ≤ wordCount (s .levels)
@@ -101,12 +100,12 @@ pub record Readable (s : Settings) (last : ℕ) (r : Record) : Type 0 where
 pub readable : (s : Settings) (last : ℕ) (r : Record) → Settled s → unreadable s last r ≡ false → Readable s last r
 readable s last r v u =
     elim (ℕ-discrete (r .phase) 0) [
-      yes e ↦
-        let i = idle-readable s last r u e in
-        let a : r .t1 ≡ 0 = ap (λ x. x .t1) i in
-        let b : r .t0 ≡ 0 = ap (λ x. x .t0) i in
-        record { sound = inl e; t1-past = omega arith; t0-past = omega arith }
+      | yes e ↦
+          let i = idle-readable s last r u e in
+          let a : r .t1 ≡ 0 = ap (λ x. x .t1) i in
+          let b : r .t0 ≡ 0 = ap (λ x. x .t0) i in
+          record { sound = inl e; t1-past = omega arith; t0-past = omega arith }
       | no d ↦
-        let a = active s last r v u d in
-        record { sound = inr (placed s last r a); t1-past = a .t1-past; t0-past = a .t0-past }
+          let a = active s last r v u d in
+          record { sound = inr (placed s last r a); t1-past = a .t1-past; t0-past = a .t0-past }
     ]

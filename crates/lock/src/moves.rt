@@ -50,7 +50,12 @@ impl Record {
             4 => tree::ancestor_at(self.current_piece(), place),
             5 => self.current_piece(),
             6 => tree::notify_node(settings.distance, self.current_piece(), place),
-            8 => tree::check_node(settings.levels, settings.distance, self.current_piece(), place),
+            8 => tree::check_node(
+                settings.levels,
+                settings.distance,
+                self.current_piece(),
+                place,
+            ),
             10 => self.touched_returning(settings),
             _ => 0,
         }

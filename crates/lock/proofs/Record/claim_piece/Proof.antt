@@ -1,43 +1,18 @@
 -- `lock::Record::claim_piece` meets its contract. Assumes nothing.
-use mathlib.Core.Path.{_≡_, refl, sym, ap, ap₂, _∙_, subst}
-use mathlib.Core.Bool.{Bool, true, false}
-use Prim.Native.Nat.{ℕ, suc, _+_, _-_, _*_, _/_, _%_, _^_, _≤_, _<_}
-use native.Mathlib.Omega.{arith}
-use lib.Dec.{eqb}
-use lib.ListN.{length, getD}
-use Rattle.base.specs.Choice.{choose, choose-eq, choose-ne}
-use Rattle.word.specs.Word.{occ, tcnt, tmax, dcnt, dmax}
-use Rattle.tree.specs.Tree.{level, Node}
-use Rattle.tree.specs.Lists.{ancestors, notifyList, checkList}
-use Rattle.tree.specs.Ancestors.{ancestors-count}
-use Rattle.tree.specs.Level.{level-pos}
-use Rattle.tree.specs.Code.{count-small, bounded}
-use Rattle.lock.specs.Types.{pieces, pieceAt, currentPiece, isLeaf, change, toPhase, toBlocked, withOutcome, withGrip, withTicket, withPlace, withNotices, withT1, withT0}
-use Rattle.lock.specs.Steps.{startPhase, begin, taken, ticketTaken, goUp, allNotified}
-use Rattle.lock.specs.Pieces.{few-pieces}
-use Rattle.lock.specs.Placed.{Pieced}
-use mathlib.Core.Logic.{inl, inr}
-use Rattle.word.specs.Word.{addOcc, addTmax, addDmax, takeBits}
+use mathlib.Core.Path.{sym, ap, ap₂, _∙_, subst}
+use Prim.Native.Nat.{ℕ}
+use Rattle.tree.specs.Tree.{Node}
+use Rattle.lock.specs.Types.{isLeaf}
+use Rattle.lock.specs.Steps.{taken}
+use Rattle.word.specs.Word.{takeBits}
 use Rattle.cover.specs.Cover.{Meets}
-use Rattle.lock.specs.Types.{givenPiece, noticesOf}
-use Rattle.lock.specs.Steps.{leaves, wanted, touchedIn, movedIn, bitsClaimed, turnAwaited, climbed, unblocked, noticeGiven, waited, checkPassed}
-use Rattle.lock.specs.Placed.{Placed, pieced, widen, sound-placed, given-notices}
+use Rattle.lock.specs.Steps.{leaves, wanted}
+use Rattle.lock.specs.Placed.{pieced}
 use Rattle.lock.specs.ReturnLaws.{leaf-level}
-use Rattle.lock.specs.Phases.{at-ticket, at-turn, at-climb, at-blocked, at-claim, at-notify, at-wait, at-check, at-returning}
-use Rattle.lock.specs.MoveLaws.{touched-none, moved-none, touched-own, touched-notice, claim-leaf, claim-inner}
+use Rattle.lock.specs.MoveLaws.{claim-leaf, claim-inner}
 use borrow.Author.Needs.{needs}
 use Rattle.lock.proofs.Record.claim_piece.Statement.{statement}
 use Rattle.lock.proofs.Record.claim_piece.Tie as tie
-use Rattle.lock.proofs.Record.claim_piece.Reads as reads
-use Rattle.lock.proofs.Record.claim_piece.Lts as lts
-use Rattle.lock.proofs.Record.bits_claimed.Reads as bits-claimed-reads
-use Rattle.lock.proofs.Record.current_piece.Reads as current-piece-reads
-use Rattle.lock.proofs.Record.occ_claimed.Reads as occ-claimed-reads
-use Rattle.lock.proofs.Record.wanted.Reads as wanted-reads
-use Rattle.lock.proofs.Settings.is_leaf.Reads as is-leaf-reads
-use Rattle.lock.proofs.returning.leaves.Reads as leaves-reads
-use Rattle.word.proofs.add_occ.Reads as add-occ-reads
-use Rattle.word.proofs.take_bits.Reads as take-bits-reads
 
 current-piece-requires : tie.Need-current-piece-requires
 current-piece-requires c κs =

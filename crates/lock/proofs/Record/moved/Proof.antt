@@ -1,47 +1,14 @@
 -- `lock::Record::moved` meets its contract. Assumes nothing.
-use mathlib.Core.Path.{_≡_, refl, sym, ap, ap₂, _∙_, subst}
-use mathlib.Core.Bool.{Bool, true, false}
-use Prim.Native.Nat.{ℕ, suc, _+_, _-_, _*_, _/_, _%_, _^_, _≤_, _<_}
+use mathlib.Core.Path.{sym, ap, ap₂, _∙_}
 use native.Mathlib.Omega.{arith}
-use lib.Dec.{eqb}
-use lib.ListN.{length, getD}
-use Rattle.base.specs.Choice.{choose, choose-eq, choose-ne}
-use Rattle.word.specs.Word.{occ, tcnt, tmax, dcnt, dmax}
-use Rattle.tree.specs.Tree.{level, Node}
-use Rattle.tree.specs.Lists.{ancestors, notifyList, checkList}
-use Rattle.tree.specs.Ancestors.{ancestors-count}
-use Rattle.tree.specs.Level.{level-pos}
-use Rattle.tree.specs.Code.{count-small, bounded}
-use Rattle.lock.specs.Types.{pieces, pieceAt, currentPiece, isLeaf, change, toPhase, toBlocked, withOutcome, withGrip, withTicket, withPlace, withNotices, withT1, withT0}
-use Rattle.lock.specs.Steps.{startPhase, begin, taken, ticketTaken, goUp, allNotified}
-use Rattle.lock.specs.Pieces.{few-pieces}
-use Rattle.lock.specs.Placed.{Pieced}
-use mathlib.Core.Logic.{inl, inr}
-use Rattle.word.specs.Word.{addOcc, addTmax, addDmax, takeBits}
-use Rattle.cover.specs.Cover.{Meets}
-use Rattle.lock.specs.Types.{givenPiece, noticesOf}
-use Rattle.lock.specs.Steps.{leaves, wanted, touchedIn, movedIn, bitsClaimed, turnAwaited, climbed, unblocked, noticeGiven, waited, checkPassed}
-use Rattle.lock.specs.Placed.{Placed, pieced, widen, sound-placed, given-notices}
-use Rattle.lock.specs.ReturnLaws.{leaf-level}
+use mathlib.Core.Logic.{inl}
+use Rattle.lock.specs.Steps.{leaves, movedIn, climbed, unblocked, waited}
+use Rattle.lock.specs.Placed.{pieced, sound-placed}
 use Rattle.lock.specs.Phases.{at-ticket, at-turn, at-climb, at-blocked, at-claim, at-notify, at-wait, at-check, at-returning}
-use Rattle.lock.specs.MoveLaws.{touched-none, moved-none, touched-own, touched-notice, claim-leaf, claim-inner}
+use Rattle.lock.specs.MoveLaws.{moved-none}
 use borrow.Author.Needs.{needs}
 use Rattle.lock.proofs.Record.moved.Statement.{statement}
 use Rattle.lock.proofs.Record.moved.Tie as tie
-use Rattle.lock.proofs.Record.moved.Reads as reads
-use Rattle.lock.proofs.Record.moved.Lts as lts
-use Rattle.lock.proofs.Record.check_passed.Reads as check-passed-reads
-use Rattle.lock.proofs.Record.claim_piece.Reads as claim-piece-reads
-use Rattle.lock.proofs.Record.climbed.Reads as climbed-reads
-use Rattle.lock.proofs.Record.give_back.Reads as give-back-reads
-use Rattle.lock.proofs.Record.notice_given.Reads as notice-given-reads
-use Rattle.lock.proofs.Record.ticket_taken.Reads as ticket-taken-reads
-use Rattle.lock.proofs.Record.turn_awaited.Reads as turn-awaited-reads
-use Rattle.lock.proofs.Record.unblocked.Reads as unblocked-reads
-use Rattle.lock.proofs.Record.waited.Reads as waited-reads
-use Rattle.lock.proofs.returning.leaves.Reads as leaves-reads
-use Rattle.word.proofs.add_dmax.Reads as add-dmax-reads
-use Rattle.word.proofs.add_tmax.Reads as add-tmax-reads
 
 add-tmax-requires : tie.Need-add-tmax-requires
 add-tmax-requires c κs = search needs

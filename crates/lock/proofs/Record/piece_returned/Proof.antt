@@ -1,37 +1,13 @@
 -- `lock::Record::piece_returned` meets its contract. Assumes nothing.
-use mathlib.Core.Path.{_≡_, refl, sym, ap, ap₂, _∙_, subst}
-use mathlib.Core.Bool.{Bool, true, false}
-use Prim.Native.Nat.{ℕ, suc, _+_, _-_, _*_, _/_, _%_, _^_, _≤_, _<_}
+use mathlib.Core.Path.{sym, _∙_}
 use native.Mathlib.Omega.{arith}
-use lib.Dec.{eqb}
-use lib.ListN.{length, getD}
-use Rattle.base.specs.Choice.{choose, choose-eq, choose-ne}
-use Rattle.word.specs.Word.{occ, tcnt, tmax, dcnt, dmax}
-use Rattle.tree.specs.Tree.{level, Node}
-use Rattle.tree.specs.Lists.{ancestors, notifyList, checkList}
-use Rattle.tree.specs.Ancestors.{ancestors-count}
-use Rattle.tree.specs.Level.{level-pos}
-use Rattle.tree.specs.Code.{count-small, bounded}
-use Rattle.lock.specs.Types.{pieces, pieceAt, currentPiece, isLeaf, change, toPhase, toBlocked, withOutcome, withGrip, withTicket, withPlace, withNotices, withT1, withT0}
-use Rattle.lock.specs.Steps.{startPhase, begin, taken, ticketTaken, goUp, allNotified}
+use Rattle.lock.specs.Steps.{taken}
 use Rattle.lock.specs.Pieces.{few-pieces}
-use Rattle.lock.specs.Placed.{Pieced}
 use Rattle.tree.specs.Tree.{left}
-use Rattle.word.specs.Word.{addTcnt, addDcnt, returnOcc, giveBits, wantedBits}
-use Rattle.cover.specs.Cover.{Meets}
-use Rattle.lock.specs.declared.Moved.{Moved}
-use Rattle.lock.specs.declared.Record.{Record}
-use Rattle.lock.specs.Types.{givenPiece, gripOf, noticesOf}
-use Rattle.lock.specs.Steps.{leaves, wanted, pieceReturned, wordReturned, turnReturned}
-use Rattle.lock.specs.Placed.{pieced, widen, clipped}
-use Rattle.lock.specs.ReturnLaws.{piece-last, piece-next, turn-mine, turn-not-mine, word-more, word-last, bits-returned, bits-clear, inner-occ, inner-turn, inner-ticket, own-leaf, own-inner, own-notice, leaf-level}
+use Rattle.lock.specs.ReturnLaws.{piece-last, piece-next}
 use borrow.Author.Needs.{needs}
 use Rattle.lock.proofs.Record.piece_returned.Statement.{statement}
 use Rattle.lock.proofs.Record.piece_returned.Tie as tie
-use Rattle.lock.proofs.Record.piece_returned.Reads as reads
-use Rattle.lock.proofs.Record.piece_returned.Lts as lts
-use Rattle.lock.proofs.Record.grip_of.Reads as grip-of-reads
-use Rattle.lock.proofs.Record.idle_with.Reads as idle-with-reads
 
 add-next : tie.Need-add-next
 add-next c =

@@ -1,40 +1,17 @@
 -- `lock::Record::return_bits` meets its contract. Assumes nothing.
-use mathlib.Core.Path.{_≡_, refl, sym, ap, ap₂, _∙_, subst}
-use mathlib.Core.Bool.{Bool, true, false}
-use Prim.Native.Nat.{ℕ, suc, _+_, _-_, _*_, _/_, _%_, _^_, _≤_, _<_}
-use native.Mathlib.Omega.{arith}
-use lib.Dec.{eqb}
-use lib.ListN.{length, getD}
-use Rattle.base.specs.Choice.{choose, choose-eq, choose-ne}
-use Rattle.word.specs.Word.{occ, tcnt, tmax, dcnt, dmax}
-use Rattle.tree.specs.Tree.{level, Node}
-use Rattle.tree.specs.Lists.{ancestors, notifyList, checkList}
-use Rattle.tree.specs.Ancestors.{ancestors-count}
-use Rattle.tree.specs.Level.{level-pos}
-use Rattle.tree.specs.Code.{count-small, bounded}
-use Rattle.lock.specs.Types.{pieces, pieceAt, currentPiece, isLeaf, change, toPhase, toBlocked, withOutcome, withGrip, withTicket, withPlace, withNotices, withT1, withT0}
-use Rattle.lock.specs.Steps.{startPhase, begin, taken, ticketTaken, goUp, allNotified}
-use Rattle.lock.specs.Pieces.{few-pieces}
-use Rattle.lock.specs.Placed.{Pieced}
+use mathlib.Core.Path.{_≡_, sym, ap, _∙_, subst}
+use Prim.Native.Nat.{ℕ}
+use Rattle.tree.specs.Tree.{level}
+use Rattle.lock.specs.Steps.{taken}
 use Rattle.tree.specs.Tree.{left}
-use Rattle.word.specs.Word.{addTcnt, addDcnt, returnOcc, giveBits, wantedBits}
+use Rattle.word.specs.Word.{giveBits}
 use Rattle.cover.specs.Cover.{Meets}
-use Rattle.lock.specs.declared.Moved.{Moved}
-use Rattle.lock.specs.declared.Record.{Record}
-use Rattle.lock.specs.Types.{givenPiece, gripOf, noticesOf}
-use Rattle.lock.specs.Steps.{leaves, wanted, pieceReturned, wordReturned, turnReturned}
-use Rattle.lock.specs.Placed.{pieced, widen, clipped}
-use Rattle.lock.specs.ReturnLaws.{piece-last, piece-next, turn-mine, turn-not-mine, word-more, word-last, bits-returned, bits-clear, inner-occ, inner-turn, inner-ticket, own-leaf, own-inner, own-notice, leaf-level}
+use Rattle.lock.specs.Steps.{leaves, wanted}
+use Rattle.lock.specs.Placed.{pieced}
+use Rattle.lock.specs.ReturnLaws.{bits-returned, bits-clear}
 use borrow.Author.Needs.{needs}
 use Rattle.lock.proofs.Record.return_bits.Statement.{statement}
 use Rattle.lock.proofs.Record.return_bits.Tie as tie
-use Rattle.lock.proofs.Record.return_bits.Reads as reads
-use Rattle.lock.proofs.Record.return_bits.Lts as lts
-use Rattle.lock.proofs.Record.given_piece.Reads as given-piece-reads
-use Rattle.lock.proofs.Record.wanted.Reads as wanted-reads
-use Rattle.lock.proofs.Record.word_returned.Reads as word-returned-reads
-use Rattle.lock.proofs.returning.leaves.Reads as leaves-reads
-use Rattle.word.proofs.give_bits.Reads as give-bits-reads
 
 given-piece-requires : tie.Need-given-piece-requires
 given-piece-requires c κs = search needs

@@ -1,41 +1,12 @@
 -- `lock::Record::return_inner` meets its contract. Assumes nothing.
-use mathlib.Core.Path.{_≡_, refl, sym, ap, ap₂, _∙_, subst}
-use mathlib.Core.Bool.{Bool, true, false}
-use Prim.Native.Nat.{ℕ, suc, _+_, _-_, _*_, _/_, _%_, _^_, _≤_, _<_}
-use native.Mathlib.Omega.{arith}
-use lib.Dec.{eqb}
-use lib.ListN.{length, getD}
-use Rattle.base.specs.Choice.{choose, choose-eq, choose-ne}
-use Rattle.word.specs.Word.{occ, tcnt, tmax, dcnt, dmax}
-use Rattle.tree.specs.Tree.{level, Node}
-use Rattle.tree.specs.Lists.{ancestors, notifyList, checkList}
-use Rattle.tree.specs.Ancestors.{ancestors-count}
-use Rattle.tree.specs.Level.{level-pos}
-use Rattle.tree.specs.Code.{count-small, bounded}
-use Rattle.lock.specs.Types.{pieces, pieceAt, currentPiece, isLeaf, change, toPhase, toBlocked, withOutcome, withGrip, withTicket, withPlace, withNotices, withT1, withT0}
-use Rattle.lock.specs.Steps.{startPhase, begin, taken, ticketTaken, goUp, allNotified}
-use Rattle.lock.specs.Pieces.{few-pieces}
-use Rattle.lock.specs.Placed.{Pieced}
+use mathlib.Core.Path.{sym, ap, ap₂, _∙_}
+use Rattle.lock.specs.Steps.{taken}
 use Rattle.tree.specs.Tree.{left}
-use Rattle.word.specs.Word.{addTcnt, addDcnt, returnOcc, giveBits, wantedBits}
-use Rattle.cover.specs.Cover.{Meets}
-use Rattle.lock.specs.declared.Moved.{Moved}
-use Rattle.lock.specs.declared.Record.{Record}
-use Rattle.lock.specs.Types.{givenPiece, gripOf, noticesOf}
-use Rattle.lock.specs.Steps.{leaves, wanted, pieceReturned, wordReturned, turnReturned}
-use Rattle.lock.specs.Placed.{pieced, widen, clipped}
-use Rattle.lock.specs.ReturnLaws.{piece-last, piece-next, turn-mine, turn-not-mine, word-more, word-last, bits-returned, bits-clear, inner-occ, inner-turn, inner-ticket, own-leaf, own-inner, own-notice, leaf-level}
+use Rattle.lock.specs.Steps.{leaves}
+use Rattle.lock.specs.ReturnLaws.{inner-occ, inner-turn, inner-ticket}
 use borrow.Author.Needs.{needs}
 use Rattle.lock.proofs.Record.return_inner.Statement.{statement}
 use Rattle.lock.proofs.Record.return_inner.Tie as tie
-use Rattle.lock.proofs.Record.return_inner.Reads as reads
-use Rattle.lock.proofs.Record.return_inner.Lts as lts
-use Rattle.lock.proofs.Record.grip_of.Reads as grip-of-reads
-use Rattle.lock.proofs.Record.turn_returned.Reads as turn-returned-reads
-use Rattle.lock.proofs.Record.word_returned.Reads as word-returned-reads
-use Rattle.lock.proofs.returning.leaves.Reads as leaves-reads
-use Rattle.word.proofs.add_tcnt.Reads as add-tcnt-reads
-use Rattle.word.proofs.return_occ.Reads as return-occ-reads
 
 grip-of-requires : tie.Need-grip-of-requires
 grip-of-requires c κs = search needs

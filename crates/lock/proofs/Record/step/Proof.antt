@@ -1,41 +1,20 @@
 -- `lock::Record::step` meets its contract. Assumes nothing.
-use mathlib.Core.Path.{_≡_, refl, sym, ap, ap₂, _∙_, subst}
-use mathlib.Core.Bool.{Bool, true, false, not, _||_}
-use mathlib.Core.List.{[], _∷_}
-use Prim.Native.Nat.{ℕ, zero, suc, _+_, _-_, _*_, _/_, _%_, _^_, _≤_, _<_}
+use mathlib.Core.Path.{_≡_, sym, ap, ap₂, _∙_}
+use Prim.Native.Nat.{ℕ}
 use native.Mathlib.Omega.{arith}
 use borrow.Author.Needs.{needs}
-use borrow.Author.Tests.{lt-ltb, le-ltb, eq-eqb, ne-eqb}
-use lib.Dec.{eqb, ltb}
-use lib.ListN.{length, getD, set}
-use Rattle.base.specs.Choice.{choose, choose-eq, choose-ne}
-use Rattle.tree.specs.Tree.{last, Node, wordCount}
-use Rattle.cover.specs.Lowest.{Window}
-use Rattle.cover.specs.Search.{leastCover}
-use Rattle.cover.specs.Answer.{windowOutside}
-use Rattle.lock.specs.declared.Record.{Record}
-use Rattle.lock.specs.declared.Stepped.{Stepped}
-use Rattle.lock.specs.Types.{wordAt, written, gripOf, toPhase, withOutcome, idleWith}
-use Rattle.lock.specs.Steps.{touched, moved, startPhase}
-use Rattle.lock.specs.Readable.{differ, unreadable}
-use Rattle.lock.specs.Calls.{settingsOutside, requested, released, cancelled, firstCause, treeTests, requestTests, releaseTests, cancelTests, answered, requestNumber, requestAnswer, releaseAnswer, cancelAnswer, stepNumber, stepAnswer, stepWords}
-use Rattle.lock.specs.CallLaws.{cause-hit, cause-skip, TreeTested, tested-settings, tested-count, tested-passed, answer-accepted, refused-by, step-back, step-unreadable, step-clear, step-accepted, words-refused, words-accepted, own-unreadable, own-rest, step-refused, step-taken}
-use Rattle.lock.specs.CoverLaws.{cover-refused, cover-inside, cover-first, cover-second}
+use borrow.Author.Tests.{lt-ltb, le-ltb}
+use Rattle.tree.specs.Tree.{last}
+use Rattle.lock.specs.Types.{wordAt, written}
+use Rattle.lock.specs.Steps.{touched, moved}
+use Rattle.lock.specs.Readable.{unreadable}
+use Rattle.lock.specs.Calls.{stepNumber}
+use Rattle.lock.specs.CallLaws.{step-back, step-unreadable, step-clear, step-accepted, words-accepted, step-refused, step-taken}
 use Rattle.lock.specs.ActiveLaws.{settled}
-use Rattle.lock.specs.Touched.{touched-counted, Readable, readable}
-use Rattle.lock.specs.RequestLaws.{word-none, word-some, written-none, written-some, last-is-count, inside-window, first-node}
+use Rattle.lock.specs.Touched.{touched-counted, readable}
 use borrow.Author.Needs.{needs}
 use Rattle.lock.proofs.Record.step.Statement.{statement}
 use Rattle.lock.proofs.Record.step.Tie as tie
-use Rattle.lock.proofs.Record.step.Reads as reads
-use Rattle.lock.proofs.Record.step.Lts as lts
-use Rattle.lock.proofs.Record.moved.Reads as moved-reads
-use Rattle.lock.proofs.Record.refused.Reads as refused-reads
-use Rattle.lock.proofs.Record.touched.Reads as touched-reads
-use Rattle.lock.proofs.Record.unreadable.Reads as unreadable-reads
-use Rattle.lock.proofs.Settings.tree_cause.Reads as tree-cause-reads
-use Rattle.lock.proofs.calls.put_word.Reads as put-word-reads
-use Rattle.lock.proofs.calls.word_at.Reads as word-at-reads
 
 tree-cause-requires : tie.Need-tree-cause-requires
 tree-cause-requires c κs = search needs
@@ -206,9 +185,10 @@ returns-5 c =
     let f = readable s (a .call .last) r v u in
     let w : c .before .before .before .before .before .before .before .moved .result ≡ moved s r (wordAt ws (touched s r)) (a .call .a) =
     c .before .before .before .before .before .before .before .moved .ensures ∙ ap (λ (x : ℕ). moved s r x (a .call .a)) (c .before .before .before .before .before .before .before .before .word-at .ensures ∙ ap (wordAt ws) (c .before .before .before .before .before .before .before .before .before .before .touched .ensures)) in
-    let k = step-accepted s (a .call .last) r ws (a .call .a) o n l u (ap (λ x. x .number) (sym w) ∙ c .before .before .before .before .before .if4 .left) in
-    (step-taken s (a .call .last) r ws (a .call .a) (c .before .before .before .before .before .before .before .moved .result .next) k (ap (λ x. x .next) w),
-    c .before .before .before .put-word .ensures ∙ ap₂ (λ (x y : ℕ). written ws x y) (c .before .before .before .before .before .before .before .before .before .before .touched .ensures) (ap (λ x. x .word) w) ∙ words-accepted s (a .call .last) r ws (a .call .a) k)
+    let k = step-accepted s (a .call .last) r ws (a .call .a) o n l u (ap (λ x. x .number) (sym w) ∙ c .before .before .before .before .before .if4 .left) in (
+      step-taken s (a .call .last) r ws (a .call .a) (c .before .before .before .before .before .before .before .moved .result .next) k (ap (λ x. x .next) w),
+      c .before .before .before .put-word .ensures ∙ ap₂ (λ (x y : ℕ). written ws x y) (c .before .before .before .before .before .before .before .before .before .before .touched .ensures) (ap (λ x. x .word) w) ∙ words-accepted s (a .call .last) r ws (a .call .a) k,
+    )
 
 pub step-spec : {M : Type 1} → statement M
 step-spec =

@@ -1,39 +1,17 @@
 -- `lock::Record::touched` meets its contract. Assumes nothing.
-use mathlib.Core.Path.{_≡_, refl, sym, ap, ap₂, _∙_, subst}
-use mathlib.Core.Bool.{Bool, true, false}
-use Prim.Native.Nat.{ℕ, suc, _+_, _-_, _*_, _/_, _%_, _^_, _≤_, _<_}
+use mathlib.Core.Path.{sym, ap, _∙_, subst}
+use Prim.Native.Nat.{ℕ, _<_}
 use native.Mathlib.Omega.{arith}
-use lib.Dec.{eqb}
 use lib.ListN.{length, getD}
-use Rattle.base.specs.Choice.{choose, choose-eq, choose-ne}
-use Rattle.word.specs.Word.{occ, tcnt, tmax, dcnt, dmax}
-use Rattle.tree.specs.Tree.{level, Node}
+use Rattle.tree.specs.Tree.{Node}
 use Rattle.tree.specs.Lists.{ancestors, notifyList, checkList}
-use Rattle.tree.specs.Ancestors.{ancestors-count}
-use Rattle.tree.specs.Level.{level-pos}
-use Rattle.tree.specs.Code.{count-small, bounded}
-use Rattle.lock.specs.Types.{pieces, pieceAt, currentPiece, isLeaf, change, toPhase, toBlocked, withOutcome, withGrip, withTicket, withPlace, withNotices, withT1, withT0}
-use Rattle.lock.specs.Steps.{startPhase, begin, taken, ticketTaken, goUp, allNotified}
-use Rattle.lock.specs.Pieces.{few-pieces}
-use Rattle.lock.specs.Placed.{Pieced}
 use mathlib.Core.Logic.{inl, inr}
-use Rattle.word.specs.Word.{addOcc, addTmax, addDmax, takeBits}
-use Rattle.cover.specs.Cover.{Meets}
-use Rattle.lock.specs.Types.{givenPiece, noticesOf}
-use Rattle.lock.specs.Steps.{leaves, wanted, touchedIn, movedIn, bitsClaimed, turnAwaited, climbed, unblocked, noticeGiven, waited, checkPassed}
-use Rattle.lock.specs.Placed.{Placed, pieced, widen, sound-placed, given-notices}
-use Rattle.lock.specs.ReturnLaws.{leaf-level}
-use Rattle.lock.specs.Phases.{at-ticket, at-turn, at-climb, at-blocked, at-claim, at-notify, at-wait, at-check, at-returning}
-use Rattle.lock.specs.MoveLaws.{touched-none, moved-none, touched-own, touched-notice, claim-leaf, claim-inner}
+use Rattle.lock.specs.Steps.{touchedIn}
+use Rattle.lock.specs.Placed.{pieced, sound-placed}
+use Rattle.lock.specs.Phases.{at-ticket, at-turn, at-climb, at-blocked, at-claim, at-notify, at-check, at-returning}
+use Rattle.lock.specs.MoveLaws.{touched-none}
 use Rattle.lock.proofs.Record.touched.Statement.{statement}
 use Rattle.lock.proofs.Record.touched.Tie as tie
-use Rattle.lock.proofs.Record.touched.Reads as reads
-use Rattle.lock.proofs.Record.touched.Lts as lts
-use Rattle.lock.proofs.Record.current_piece.Reads as current-piece-reads
-use Rattle.lock.proofs.Record.touched_returning.Reads as touched-returning-reads
-use Rattle.tree.proofs.ancestor_at.Reads as ancestor-at-reads
-use Rattle.tree.proofs.check_node.Reads as check-node-reads
-use Rattle.tree.proofs.notify_node.Reads as notify-node-reads
 
 current-piece-requires : tie.Need-current-piece-requires
 current-piece-requires c κs =
@@ -113,10 +91,12 @@ notify-node-requires c κs =
     let q = c .before .before .pre in
     let e = c .before .match .keys6 in
     let v = sound-placed (a .settings) (a .self) (q .1) (omega arith) in
-    let p = pieced (a .settings) (a .self) (q .0) v in
-    (q .0 .distance-some, q .0 .distance-most,
-    subst (λ (n : ℕ). Node 12 n) (sym (c .current-piece6 .ensures)) (p .nodes (a .self .current) (p .exists)),
-    subst (λ (n : ℕ). a .self .place < length (notifyList (a .settings .distance) n)) (sym (c .current-piece6 .ensures)) (v .notifying e))
+    let p = pieced (a .settings) (a .self) (q .0) v in (
+      q .0 .distance-some,
+      q .0 .distance-most,
+      subst (λ (n : ℕ). Node 12 n) (sym (c .current-piece6 .ensures)) (p .nodes (a .self .current) (p .exists)),
+      subst (λ (n : ℕ). a .self .place < length (notifyList (a .settings .distance) n)) (sym (c .current-piece6 .ensures)) (v .notifying e),
+    )
 
 current-piece-requires-7 : tie.Need-current-piece-requires-7
 current-piece-requires-7 c κs =
@@ -133,10 +113,12 @@ check-node-requires c κs =
     let q = c .before .before .pre in
     let e = c .before .match .keys7 in
     let v = sound-placed (a .settings) (a .self) (q .1) (omega arith) in
-    let p = pieced (a .settings) (a .self) (q .0) v in
-    (q .0 .levels-most, q .0 .distance-some,
-    subst (λ (n : ℕ). Node (a .settings .levels) n) (sym (c .current-piece7 .ensures)) (v .meets (a .self .current) (v .exists) .node),
-    subst (λ (n : ℕ). a .self .place < length (checkList (a .settings .levels) (a .settings .distance) n)) (sym (c .current-piece7 .ensures)) (v .checking e))
+    let p = pieced (a .settings) (a .self) (q .0) v in (
+      q .0 .levels-most,
+      q .0 .distance-some,
+      subst (λ (n : ℕ). Node (a .settings .levels) n) (sym (c .current-piece7 .ensures)) (v .meets (a .self .current) (v .exists) .node),
+      subst (λ (n : ℕ). a .self .place < length (checkList (a .settings .levels) (a .settings .distance) n)) (sym (c .current-piece7 .ensures)) (v .checking e),
+    )
 
 touched-returning-requires : tie.Need-touched-returning-requires
 touched-returning-requires c κs =

@@ -1,28 +1,11 @@
 -- `lock::Record::unblocked` meets its contract. Assumes nothing.
-use mathlib.Core.Path.{_≡_, refl, sym, ap, ap₂, _∙_, subst}
-use mathlib.Core.Bool.{Bool, true, false}
-use Prim.Native.Nat.{ℕ, suc, _+_, _-_, _*_, _/_, _%_, _^_, _≤_, _<_}
-use native.Mathlib.Omega.{arith}
-use lib.Dec.{eqb}
-use lib.ListN.{length, getD}
-use Rattle.base.specs.Choice.{choose, choose-eq, choose-ne}
-use Rattle.word.specs.Word.{occ, tcnt, tmax, dcnt, dmax}
-use Rattle.tree.specs.Tree.{level, Node}
-use Rattle.tree.specs.Lists.{ancestors, notifyList, checkList}
-use Rattle.tree.specs.Ancestors.{ancestors-count}
-use Rattle.tree.specs.Level.{level-pos}
-use Rattle.tree.specs.Code.{count-small, bounded}
-use Rattle.lock.specs.Types.{pieces, pieceAt, currentPiece, isLeaf, change, toPhase, toBlocked, withOutcome, withGrip, withTicket, withPlace, withNotices, withT1, withT0}
-use Rattle.lock.specs.Steps.{startPhase, begin, taken, ticketTaken, goUp, allNotified}
-use Rattle.lock.specs.Pieces.{few-pieces}
-use Rattle.lock.specs.Placed.{Pieced}
-use Rattle.lock.specs.StepLaws.{pieced-change, turn-stays, turn-root, turn-other, up-more, up-last, noted-fine, climb-set, climb-clear, unblocked-now, unblocked-not, bits-won, bits-lost, occ-root, occ-other, start-leaf, start-inner, begin-is, taken-more, taken-last, notified-late, notified-leaf, notified-inner, notice-more, notice-last, wait-over, wait-on, check-stays, check-more, check-last, check-small}
+use mathlib.Core.Path.{sym, _∙_}
+use Rattle.word.specs.Word.{occ}
+use Rattle.lock.specs.Steps.{taken}
+use Rattle.lock.specs.StepLaws.{unblocked-now, unblocked-not}
 use borrow.Author.Needs.{needs}
 use Rattle.lock.proofs.Record.unblocked.Statement.{statement}
 use Rattle.lock.proofs.Record.unblocked.Tie as tie
-use Rattle.lock.proofs.Record.unblocked.Reads as reads
-use Rattle.lock.proofs.Record.unblocked.Lts as lts
-use Rattle.word.proofs.occ.Reads as occ-reads
 
 occ-requires : tie.Need-occ-requires
 occ-requires c κs = search needs
