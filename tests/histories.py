@@ -6,6 +6,7 @@ from typing import NamedTuple
 
 from model import tree
 from model.history import Call, Opened, held_apart, holds, idle, left_clean
+from model.owned import conserved
 from model.record import IDLE, Settings
 
 TOP = 2 ** 64 - 1
@@ -143,6 +144,10 @@ class Watch:
         self.counts["claim", 2] += not left_clean(self.opened.settings, self.opened.words, self.idles)
         self.count_kind(made)
 
+    def look_at_owned(self):
+        """Counts when some word is not what the records own of it."""
+        self.counts["unlike what is owned"] += not conserved(self.opened.settings, self.opened.words, self.opened.records)
+
     def count_kind(self, made):
         """Counts what the call shows: its phase and outcome, its number, two holders at once, and all idle again."""
         self.counts["number", made.number] += 1
@@ -160,12 +165,22 @@ def opened(shape):
     return Opened(shape.settings, words, [IDLE] * shape.clients)
 
 
-def counts_of(shape, seed, until=lambda counts: False):
-    """The counts of one random history, which may end early."""
+def counts_of(shape, seed):
+    """The counts of one random history."""
     lock = opened(shape)
     driver, watch = Driver(lock, seed), Watch(lock)
     for _ in range(shape.calls):
         watch.look(lock.make(driver.next_call()))
-        if until(watch.counts):
-            break
+        watch.look_at_owned()
     return watch.counts
+
+
+def breaks_a_claim(shape, seed):
+    """Whether a claim fails after some call of one random history."""
+    lock = opened(shape)
+    driver, watch = Driver(lock, seed), Watch(lock)
+    for _ in range(shape.calls):
+        watch.look(lock.make(driver.next_call()))
+        if watch.counts["claim", 1] or watch.counts["claim", 2]:
+            return True
+    return False

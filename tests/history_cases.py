@@ -6,7 +6,7 @@ from functools import lru_cache
 
 from broken_rules import RULES, SHAPES, broken
 from compare import NAMES, case
-from histories import Shape, counts_of
+from histories import Shape, breaks_a_claim, counts_of
 from model import table
 from model.history import Call, Opened
 from model.record import IDLE, Record, Settings
@@ -15,8 +15,9 @@ NAMES["line"] = ("call",), ("number", "phase", "left", "right")
 NAMES["opening"] = ("clients",), ("number", "clock")
 NAMES["refusal"] = ("kind", "causes taken away"), ("number", "changed")
 NAMES["history"] = ("levels", "distance", "wait", "clients", "calls", "seed"), ("overlaps", "words left", "refused by 6", "refused by 9")
+NAMES["owned"] = NAMES["history"][0], ("unlike what is owned",)
 NAMES["occurs"] = ("place in the list of what must occur",), ("occurs",)
-NAMES["broken rule"] = ("place in the list of rules",), ("caught",)
+NAMES["broken rule"] = ("place in the list of rules",), ("caught", "caught with the model's own rule")
 
 WHOLE_CASE = """\
 0 request 0 0 3 10 20
@@ -131,6 +132,12 @@ def demand_3():
         yield case("history", [*shape.settings, shape.clients, shape.calls, seed], 0), found
 
 
+def owned():
+    """After every call of every history each word holds what the records together own of it."""
+    for shape, seed, counts in histories():
+        yield case("owned", [*shape.settings, shape.clients, shape.calls, seed], 0), counts["unlike what is owned"]
+
+
 MUST_OCCUR = [
     *(("phase", phase) for phase in range(11)),
     *(("outcome", outcome) for outcome in range(4)),
@@ -158,15 +165,12 @@ def what_occurs():
 SEEDS = 200
 
 
-def claim_fails(counts):
-    return counts["claim", 1] > 0 or counts["claim", 2] > 0
-
-
 def caught(rule):
-    """With the rule broken, some history breaks a claim."""
+    """With the rule broken, some history breaks a claim; with the model's own rule the history of the same seed does not."""
     with broken(rule):
-        found = any(claim_fails(counts_of(SHAPES[rule], seed, claim_fails)) for seed in range(SEEDS))
-    yield case("broken rule", [list(RULES).index(rule)], 1), int(found)
+        seed = next((seed for seed in range(SEEDS) if breaks_a_claim(SHAPES[rule], seed)), None)
+    caught_then = seed is not None, seed is not None and breaks_a_claim(SHAPES[rule], seed)
+    yield case("broken rule", [list(RULES).index(rule)], (1, 0)), tuple(map(int, caught_then))
 
 
 SUITES = {
@@ -175,6 +179,7 @@ SUITES = {
     "document 01, 32,767 clients open, 32,768 are refused 3": openings,
     "calls, refused in order of testing": refusals_in_order,
     "histories, demand 3 after every call": demand_3,
+    "histories, each word holds what the records own of it": owned,
     "histories, every phase, outcome and refusal occurs": what_occurs,
     **{f"histories, a claim fails with a broken rule: {rule}": lambda rule=rule: caught(rule) for rule in RULES},
 }
