@@ -1,5 +1,5 @@
-"""The calls by value on one record. Each gives the number (0 accepted), the clock after and the record after, and writes at most one
-of the lent words; a refused call leaves words, record and clock as they were."""
+"""The calls by value on one record. Each gives the number (0 accepted), the clock after and the record after, and
+writes at most one of the lent words; a refused call leaves words, record and clock as they were."""
 
 from typing import NamedTuple
 

@@ -1,4 +1,5 @@
-"""The section "Histories": a history of calls, who holds or is idle after it, said from the history alone, and the two claims of demand 3."""
+"""The section "Histories": a history of calls, who holds or is idle after it, said from the history alone, and the two
+claims of demand 3."""
 
 from typing import NamedTuple
 
@@ -17,7 +18,8 @@ class Call(NamedTuple):
 
 
 class Made(NamedTuple):
-    """A call that was made: its number (0 accepted), and the phase in which it gave the client's record back (None without one)."""
+    """A call that was made: its number (0 accepted), and the phase in which it gave the client's record back (None
+    without one)."""
 
     call: Call
     number: int
@@ -35,7 +37,8 @@ class Opened:
             raise ValueError(f"the opening is refused by {number}")
 
     def answer(self, call):
-        """Every call is made with that opening's H, m and T, on the words, records and last clock that the call before left."""
+        """Every call is made with that opening's H, m and T, on the words, records and last clock that the call before
+        left."""
         lent = self.settings, self.words, self.records, call.client
         if call.kind == "request":
             return table.request(*lent, call.a, call.b, self.clock)
@@ -64,8 +67,9 @@ def accepted_since_request(history, client):
 
 
 def holds(history, client):
-    """After a history a client holds [l, r) if these are the edges of its last accepted request, an accepted step of it since then
-    gave its record back in phase 9, and no release of it has been accepted since that request. None if it holds no window."""
+    """After a history a client holds [l, r) if these are the edges of its last accepted request, an accepted step of
+    it since then gave its record back in phase 9, and no release of it has been accepted since that request. None if
+    it holds no window."""
     request, since = accepted_since_request(history, client)
     if request is None:
         return None
@@ -75,8 +79,8 @@ def holds(history, client):
 
 
 def idle(history, client):
-    """It is idle if no request of it was accepted, or an accepted call of it since the last such request gave its record back in
-    phase 0."""
+    """It is idle if no request of it was accepted, or an accepted call of it since the last such request gave its
+    record back in phase 0."""
     request, since = accepted_since_request(history, client)
     return request is None or any(made.phase == 0 for made in since)
 

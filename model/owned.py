@@ -62,7 +62,8 @@ def holds_of_leaf(settings, owned, n, found):
 
 
 def holds_of_inner(owned, n, found):
-    """TMax - TCnt is the tickets, Occ the claims and DMax - DCnt the notices that are owned here; one client at most has its turn."""
+    """TMax - TCnt is the tickets, Occ the claims and DMax - DCnt the notices that are owned here; one client at most
+    has its turn."""
     inner = word.unpack(found)
     tickets = word.wrapped(inner.tmax - inner.tcnt, word.WIDTH.tmax)
     notices = word.wrapped(inner.dmax - inner.dcnt, word.WIDTH.dmax)

@@ -1,4 +1,5 @@
-"""The paragraph "Unreadable": a function for each clause, in its order. Each speaks of a record that no clause before it finds unreadable."""
+"""The paragraph "Unreadable": a function for each clause, in its order. Each speaks of a record that no clause before
+it finds unreadable."""
 
 from model import record as records
 from model import tree

@@ -17,9 +17,9 @@ class Settings(NamedTuple):
 
 
 class Record(NamedTuple):
-    """Phase, outcome, window, the numbers of its two pieces (0 for none), the current piece (0 or 1, the last begun), the piece
-    being given back, the current piece's grip (0 nothing, 1 ticket, 2 turn, 3 leaf bits or Occ), ticket, its place from 0 in the
-    list it walks, how many notices the current piece gave, and noted times t1 and t0."""
+    """Phase, outcome, window, the numbers of its two pieces (0 for none), the current piece (0 or 1, the last begun),
+    the piece being given back, the current piece's grip (0 nothing, 1 ticket, 2 turn, 3 leaf bits or Occ), ticket, its
+    place from 0 in the list it walks, how many notices the current piece gave, and noted times t1 and t0."""
 
     phase: int = 0
     outcome: int = 0
@@ -86,15 +86,15 @@ def grip_of(record, i):
 
 
 def notified(settings, record, i):
-    """The ancestors that piece i has notified: a piece before the current one has all its notices, the current one as many as
-    the record counts."""
+    """The ancestors that piece i has notified: a piece before the current one has all its notices, the current one as
+    many as the record counts."""
     nodes = notify_list(settings.distance, pieces(record)[i])
     return nodes if i < record.current else nodes[:record.notices]
 
 
 def returned(settings, record):
-    """The list walked in 10: the piece being given back with its own word at place 0 and its notices after it. A piece past the
-    current one has nothing to give back."""
+    """The list walked in 10: the piece being given back with its own word at place 0 and its notices after it. A piece
+    past the current one has nothing to give back."""
     if record.giving > record.current:
         return []
     return [pieces(record)[record.giving], *notified(settings, record, record.giving)]

@@ -86,7 +86,8 @@ def turn(settings, record, words, clock):
 
 
 def climb(settings, record, words, clock):
-    """3 climb: read the ancestor, parent first. Occ set: to 4. Clear: note t1 if it is the parent; go up, after the root to 5."""
+    """3 climb: read the ancestor, parent first. Occ set: to 4. Clear: note t1 if it is the parent; go up, after the
+    root to 5."""
     nodes = records.walked(settings, record)
     if inner_at(words, nodes[record.place]).occ == 1:
         return read(record._replace(phase=4))
@@ -161,8 +162,8 @@ def check(settings, record, words, clock):
 
 
 def given_on(settings, record):
-    """The record after a word was given back: the next word of the piece, or of the next piece with something to give. The step
-    that gives back the last word makes the record idle: all zero but the outcome."""
+    """The record after a word was given back: the next word of the piece, or of the next piece with something to give.
+    The step that gives back the last word makes the record idle: all zero but the outcome."""
     if record.place + 1 < len(records.returned(settings, record)):
         return record._replace(place=record.place + 1)
     for i in range(record.giving + 1, record.current + 1):
@@ -210,7 +211,10 @@ def give_back(settings, record, words, clock):
     return Step(0, given_on(settings, record), n, word.add(word_at(words, n), "dcnt", 1))
 
 
-ROWS = {0: nothing, 1: ticket, 2: turn, 3: climb, 4: blocked, 5: claim, 6: notify, 7: wait, 8: check, 9: nothing, 10: give_back}
+ROWS = {
+    0: nothing, 1: ticket, 2: turn, 3: climb, 4: blocked, 5: claim,
+    6: notify, 7: wait, 8: check, 9: nothing, 10: give_back,
+}
 
 
 def step(settings, record, words, clock):

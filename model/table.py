@@ -1,5 +1,5 @@
-"""The calls over a lent table of records: causes 1 to 4, then the call by value on the client's record. Each gives the number and the
-clock after, and writes the lent words and records in place if it is accepted."""
+"""The calls over a lent table of records: causes 1 to 4, then the call by value on the client's record. Each gives the
+number and the clock after, and writes the lent words and records in place if it is accepted."""
 
 from typing import NamedTuple
 

@@ -1,4 +1,5 @@
-"""Rules broken on purpose, each put in the place of the model's own while a `with` lasts: histories must then break a claim."""
+"""Rules broken on purpose, each put in the place of the model's own while a `with` lasts: histories must then break a
+claim."""
 
 from contextlib import contextmanager
 from unittest.mock import patch

@@ -6,7 +6,7 @@ from library import ANSWER, signatures
 
 SHOWN = 5
 
-# The names of each call's arguments and results. Those of the library's calls are in its header; a module adds those of other calls.
+# The names of each call's arguments and results: those of the library's calls from its header; other modules add theirs.
 NAMES = signatures()
 
 

@@ -1,4 +1,5 @@
-"""Random histories on small trees: contended windows, clocks that stand still, jump or go back, cancels, releases and refused calls."""
+"""Random histories on small trees: contended windows, clocks that stand still, jump or go back, cancels, releases and
+refused calls."""
 
 from collections import Counter
 from random import Random
@@ -57,7 +58,8 @@ def contended_windows(rng, h):
 
 
 class Driver:
-    """Draws the next call from what the clients are doing. It is busy for a while, then asks for no new window until all are idle."""
+    """Draws the next call from what the clients are doing. It is busy for a while, then asks for no new window until
+    all are idle."""
 
     def __init__(self, opened, seed):
         self.opened, self.rng = opened, Random(seed)
@@ -86,12 +88,14 @@ class Driver:
         return [end - before for end in ends for before in (0, 1)]
 
     def refused(self):
-        """A call that is often refused: a window outside the tree, a client that there isn't, or a kind at a wrong time."""
+        """A call that is often refused: a window outside the tree, a client that there isn't, or a kind at a wrong
+        time."""
         n, clients = tree.units(self.opened.settings.levels), len(self.opened.records)
         client = self.rng.randrange(clients)
         return self.rng.choice([
             Call("request", client, n - 1, n + 1), Call("request", client, 5, 5), Call("request", client, *self.windows[0]),
-            Call("step", clients, self.opened.clock), Call("release", clients + 2 ** 40), Call("release", client), Call("cancel", client),
+            Call("step", clients, self.opened.clock), Call("release", clients + 2 ** 40),
+            Call("release", client), Call("cancel", client),
         ])
 
     def request(self):
@@ -126,7 +130,8 @@ class Driver:
 
 
 class Watch:
-    """What each client holds and who is idle after a history. A call speaks of its own client only, so the others stay as they were."""
+    """What each client holds and who is idle after a history. A call speaks of its own client only, so the others stay
+    as they were."""
 
     def __init__(self, opened):
         self.opened = opened

@@ -1,5 +1,5 @@
-"""The whole machine in the model: the whole case of document 01, openings, refusals in their order, and demand 3 over random histories.
-The library takes no part."""
+"""The whole machine in the model: the whole case of document 01, openings, refusals in their order, and demand 3 over
+random histories. The library takes no part."""
 
 from collections import Counter
 from functools import lru_cache
@@ -14,8 +14,9 @@ from model.record import IDLE, Record, Settings
 NAMES["line"] = ("call",), ("number", "phase", "left", "right")
 NAMES["opening"] = ("clients",), ("number", "clock")
 NAMES["refusal"] = ("kind", "causes taken away"), ("number", "changed")
-NAMES["history"] = ("levels", "distance", "wait", "clients", "calls", "seed"), ("overlaps", "words left", "refused by 6", "refused by 9")
-NAMES["owned"] = NAMES["history"][0], ("unlike what is owned",)
+SHAPE = ("levels", "distance", "wait", "clients", "calls", "seed")
+NAMES["history"] = SHAPE, ("overlaps", "words left", "refused by 6", "refused by 9")
+NAMES["owned"] = SHAPE, ("unlike what is owned",)
 NAMES["occurs"] = ("place in the list of what must occur",), ("occurs",)
 NAMES["broken rule"] = ("place in the list of rules",), ("caught", "caught with the model's own rule")
 
@@ -38,7 +39,8 @@ WHOLE_CASE = """\
 
 
 def whole_case(clock_of_call_7):
-    """H 2, m 1, T 5, two clients; request 0 [10, 20); request 1 [0, 256); then the steps as client/clock, and the release."""
+    """H 2, m 1, T 5, two clients; request 0 [10, 20); request 1 [0, 256); then the steps as client/clock, and the
+    release."""
     steps = [(0, 1), (1, 2), (1, 2), (1, 3), (0, 4), (0, clock_of_call_7), (1, 8), (1, 8)]
     yield from (Call("request", 0, 10, 20), Call("request", 1, 0, 256))
     yield from (Call("step", client, clock) for client, clock in steps)
@@ -79,7 +81,12 @@ def openings():
         yield case("opening", [clients], expected), tuple(answer) if zeroed == (answer.number == 0) else (99, 99)
 
 
-KINDS = {"request": (1, 2, 3, 4, 6, 7, 8), "step": (1, 2, 3, 4, 5, 6, 9), "release": (1, 2, 3, 4, 6, 8), "cancel": (1, 2, 3, 4, 6, 8)}
+CAUSES = {
+    "request": (1, 2, 3, 4, 6, 7, 8),
+    "step": (1, 2, 3, 4, 5, 6, 9),
+    "release": (1, 2, 3, 4, 6, 8),
+    "cancel": (1, 2, 3, 4, 6, 8),
+}
 
 # A client in 10 with the bits of leaf 2 still to be given back.
 RETURNING = Record(phase=10, outcome=1, left=0, right=64, first=2, grip=3, notices=1)
@@ -97,9 +104,9 @@ def lent_with_causes(kind, causes):
 
 
 def refusals_in_order():
-    """Each kind with all of its causes, then with the first of them taken away, and so on: the first that is left is the number, and
-    nothing is changed."""
-    for place, (kind, causes) in enumerate(KINDS.items()):
+    """Each kind with all of its causes, then with the first of them taken away, and so on: the first that is left is
+    the number, and nothing is changed."""
+    for place, (kind, causes) in enumerate(CAUSES.items()):
         for away in range(len(causes)):
             lent = lent_with_causes(kind, causes[away:])
             before = [list(lent[1]), list(lent[2])]
@@ -125,8 +132,8 @@ def histories():
 
 
 def demand_3():
-    """After every call of every history: no two different clients hold overlapping windows, and if all are idle every word is at rest.
-    No call from an opened tree is refused by 6 or 9."""
+    """After every call of every history: no two different clients hold overlapping windows, and if all are idle every
+    word is at rest. No call from an opened tree is refused by 6 or 9."""
     for shape, seed, counts in histories():
         found = counts["claim", 1], counts["claim", 2], counts["number", 6], counts["number", 9]
         yield case("history", [*shape.settings, shape.clients, shape.calls, seed], 0), found
@@ -166,7 +173,8 @@ SEEDS = 200
 
 
 def caught(rule):
-    """With the rule broken, some history breaks a claim; with the model's own rule the history of the same seed does not."""
+    """With the rule broken, some history breaks a claim; with the model's own rule the history of the same seed does
+    not."""
     with broken(rule):
         seed = next((seed for seed in range(SEEDS) if breaks_a_claim(SHAPES[rule], seed)), None)
     caught_then = seed is not None, seed is not None and breaks_a_claim(SHAPES[rule], seed)

@@ -22,7 +22,8 @@ for name in ("request", "step", "release", "cancel", "unreadable"):
 
 
 def above_pieces(state):
-    """The pieces and the nodes above them, as far as they are nodes of the lent tree: a wrong step would write here first."""
+    """The pieces and the nodes above them, as far as they are nodes of the lent tree: a wrong step would write here
+    first."""
     lent = tree.node_count(state.settings.levels) if state.settings.levels in tree.LEVELS else 0
     return [n for piece in state.record[4:6] if 1 <= piece <= lent for n in (piece, *records.ancestors(piece))]
 
@@ -58,15 +59,17 @@ def record_case(rng, state, call):
 def any_window(rng, h):
     """A window of the tree more often than not, else one that is refused or just not."""
     n = tree.units(h)
-    refused = [(5, 5), (n - 1, n + 1), (0, n), (0, n + 1), (n, n), (TOP, 0), (0, TOP), (TOP - 1, TOP), (1, 0), (rng.getrandbits(64), rng.getrandbits(64))]
-    return rng.choice([rng.choice(windows(h)), rng.choice(windows(h)), rng.choice(refused)])
+    at_the_end = [(n - 1, n + 1), (0, n), (0, n + 1), (n, n), (0, TOP), (TOP - 1, TOP)]
+    others = [(5, 5), (1, 0), (TOP, 0), (rng.getrandbits(64), rng.getrandbits(64))]
+    return rng.choice([rng.choice(windows(h)), rng.choice(windows(h)), rng.choice(at_the_end + others)])
 
 
 def step_clock(rng, state):
     """About the last clock, about the moments at which a wait is over or a claim is late, and far away."""
     wait, last = state.settings.wait, state.last
     ends = state.record.t1 + wait, state.record.t0 + wait
-    chosen = rng.choice([last, last + 1, last - 1, *ends, *ends, *(end - 1 for end in ends), *(end + 1 for end in ends), TOP, any_clock(rng)])
+    moments = [end + beside for end in ends for beside in (-1, 0, 0, 1)]
+    chosen = rng.choice([last, last + 1, last - 1, *moments, TOP, any_clock(rng)])
     return min(max(chosen, rng.choice([0, last, last, last])), TOP)
 
 
@@ -110,8 +113,8 @@ def cases_built(h):
 
 
 def with_all_rows(cases):
-    """The cases, after seeing that each phase is stepped from and to, and that each refusal of a readable record occurs. A step goes to
-    1 only at an inner second piece, which H 2 has not."""
+    """The cases, after seeing that each phase is stepped from and to, and that each refusal of a readable record
+    occurs. A step goes to 1 only at an inner second piece, which H 2 has not."""
     steps = [case for case in cases if case.call == "step" and case.expected[0] == 0]
     before, after = {case.arguments[3] for case in steps}, {case.expected[2] for case in steps}
     numbers = {case.expected[0] for case in cases}

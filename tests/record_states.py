@@ -75,7 +75,8 @@ class Fresh(Opened):
 
 
 def reached(rng, h, calls):
-    """Each call of a random history that names a client of the table, with the state before it. Its clock may start far on."""
+    """Each call of a random history that names a client of the table, with the state before it. Its clock may start
+    far on."""
     lock = Fresh(any_settings(rng, h), rng.randint(2, 4))
     driver = Driver(lock, rng.getrandbits(32))
     lock.make(Call("step", 0, any_clock(rng)))
@@ -95,7 +96,8 @@ def phases_at(settings, n):
 
 def noted_time(rng, settings, last):
     """A time not after the last clock: at its ends, or about T before it."""
-    chosen = rng.choice([0, last, last - 1, last - settings.wait, last - settings.wait + 1, last - settings.wait - 1, rng.randint(0, last)])
+    before = last - settings.wait
+    chosen = rng.choice([0, last, last - 1, before - 1, before, before + 1, rng.randint(0, last)])
     return min(max(chosen, 0), last)
 
 
@@ -176,29 +178,33 @@ def built_state(rng, h):
     return State(settings, record, words_for(rng, settings, record), tree.node_count(h), last)
 
 
-def bounds(settings, state):
+def bounds(state):
     """For each field the numbers at and beside its bounds."""
-    n, last, nodes = tree.units(settings.levels), state.last, tree.node_count(settings.levels)
-    node = (1, 2, tree.parent(state.record.first), nodes, nodes + 1, state.record.second, state.record.first)
-    length = tree.LEVELS[-1]
-    times = (last, last + 1, last - 1)
+    record, n, count = state.record, tree.units(state.settings.levels), state.count
+    nodes = (1, 2, tree.parent(record.first), record.first, record.second, count, count + 1)
+    times = (state.last - 1, state.last, state.last + 1)
     return Record(
-        phase=range(13), outcome=range(5), left=(n - 1, n, state.record.right), right=(n, n + 1, state.record.left),
-        first=node, second=node, current=range(3), giving=range(3), grip=range(5), ticket=(32767, 32768, 65536 + state.record.ticket),
-        place=range(length), notices=range(length), t1=times, t0=times)
+        phase=range(13), outcome=range(5), left=(n - 1, n, record.right), right=(n, n + 1, record.left),
+        first=nodes, second=nodes, current=range(3), giving=range(3), grip=range(5),
+        ticket=(32767, 32768, 65536 + record.ticket), place=range(12), notices=range(12), t1=times, t0=times)
 
 
 def perturbed(rng, state):
     """The state with one field of its record changed: to 0, 1, the greatest number, a neighbour, or about a bound."""
     name = rng.choice(Record._fields)
-    value = getattr(state.record, name)
-    chosen = rng.choice([0, 1, value + 1, value - 1, TOP, TOP - 1, 2 ** 32 + value, *3 * tuple(getattr(bounds(state.settings, state), name))])
+    value, near = getattr(state.record, name), tuple(getattr(bounds(state), name))
+    chosen = rng.choice([0, 1, value + 1, value - 1, TOP, TOP - 1, 2 ** 32 + value, *3 * near])
     return state._replace(record=state.record._replace(**{name: chosen % 2 ** 64}))
 
 
+def any_number(rng):
+    return rng.choice([0, 0, 1, 2, 3, rng.randrange(20), TOP, rng.getrandbits(64)])
+
+
 def any_state(rng, h):
-    """A record each of whose fields is at times that of a readable one, at times any small or great number; any phase up to 12."""
+    """A record each of whose fields is at times that of a readable one, at times any small or great number; any phase
+    up to 12."""
     state = built_state(rng, h)
     share = rng.choice([0.1, 0.5, 0.9])
-    fields = [value if rng.random() < share else rng.choice([0, 0, 1, 2, 3, rng.randrange(20), TOP, rng.getrandbits(64)]) for value in state.record]
+    fields = [value if rng.random() < share else any_number(rng) for value in state.record]
     return state._replace(record=Record(*fields)._replace(phase=rng.randrange(13)))

@@ -1,11 +1,11 @@
-/* Answers queries about the compiled calls on one record. A query is the call's place in the table below, how many pairs end
-   the query, settings, record, word count and call, and then the pairs: a node and its word. Every word that is not in a pair is 0. An
-   answer is what the call gives, how many words it changed, and of these the lowest node and its word after the call. All are
-   64-bit numbers. Queries are read from standard input to its end and answered in order on standard output. With the argument `names`
-   it writes the table's names in order instead, one to a line.
+/* Answers queries about the compiled calls on one record. A query is the call's place in the table below, how many pairs
+   end the query, settings, record, word count and call, and then the pairs: a node and its word. Every word that is not in
+   a pair is 0. An answer is what the call gives, how many words it changed, and of these the lowest node and its word after
+   the call. All are 64-bit numbers. Queries are read from standard input to its end and answered in order on standard
+   output. With the argument `names` it writes the table's names in order instead, one to a line.
 
-   One tree a level is kept, and is all 0 between queries. After a query a small tree is looked through as a whole, a large one
-   where the pairs are; at the end every tree must be all 0 again, or the status is 4. */
+   One tree is kept for each H, and is all 0 between queries. After a query a small tree is looked through as a whole, a
+   large one where the pairs are; at the end every tree must be all 0 again, or the status is 4. */
 #include <stdio.h>
 #include <stdlib.h>
 #include <string.h>
@@ -53,7 +53,8 @@ static size_t node_count(uint64_t levels)
     return (((size_t)1 << 2 * levels) - 1) / 3;
 }
 
-/* The tree that is lent: the lowest one where H is outside its range. One word more is kept for a word count that is too great. */
+/* The H of the tree that is lent: the lowest where H is outside its range. A tree has one word more, for a word count that
+   is too great. */
 static uint64_t lent_levels(const struct query *q)
 {
     uint64_t levels = q->settings.levels;

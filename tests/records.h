@@ -14,7 +14,7 @@ struct record {
     uint64_t phase, outcome, left, right, first, second, current, giving, grip, ticket, place, notices, t1, t0;
 };
 
-/* Request: a = l, b = r. Step: a = clock. `last` is the last clock. Kind and client are not looked at by a call on one record. */
+/* Request: a = l, b = r. Step: a = clock. `last` is the last clock. A call on one record does not look at kind and client. */
 struct call {
     uint64_t kind, client, a, b, last;
 };
