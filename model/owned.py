@@ -1,6 +1,6 @@
 """What the records own of the words: after every history a word holds exactly what the records together own of it."""
 
-from collections import Counter
+from collections import Counter, defaultdict
 from typing import NamedTuple
 
 from model import record as records
@@ -9,13 +9,14 @@ from model.step import wanted
 
 
 class Owned(NamedTuple):
-    """For each inner node how many tickets, turns, Occ and notices are owned there, and for each unit how often it is."""
+    """For each inner node how many tickets, turns, Occ and notices are owned there, and for each leaf the bits that one
+    record or another owns, a word for each."""
 
     tickets: Counter
     turns: Counter
     occs: Counter
     notices: Counter
-    units: Counter
+    bits: defaultdict
 
 
 def begun(record):
@@ -34,8 +35,7 @@ def add_own_word(owned, settings, record, i):
     """What piece i owns of its own word while that is not given back."""
     n, grip = records.pieces(record)[i], records.grip_of(record, i)
     if tree.is_leaf(settings.levels, n):
-        left, right = tree.node_range(settings.levels, n)
-        owned.units.update(range(max(left, record.left), min(right, record.right)) if grip == 3 else ())
+        owned.bits[n] += [wanted(settings, record, n)] if grip == 3 else []
     else:
         owned.tickets[n] += grip >= 1
         owned.turns[n] += grip >= 2
@@ -44,7 +44,7 @@ def add_own_word(owned, settings, record, i):
 
 def owned_by(settings, all_records):
     """All that these records own."""
-    owned = Owned(Counter(), Counter(), Counter(), Counter(), Counter())
+    owned = Owned(Counter(), Counter(), Counter(), Counter(), defaultdict(list))
     for record in all_records:
         for i in begun(record):
             returned = words_returned(record, i)
@@ -55,10 +55,12 @@ def owned_by(settings, all_records):
     return owned
 
 
-def holds_of_leaf(settings, owned, n, found):
-    """Each bit is how often its unit is owned, which is once at most."""
-    left, _ = tree.node_range(settings.levels, n)
-    return all(owned.units[left + b] == bit for b, bit in enumerate(word.bits(found)))
+def holds_of_leaf(owned, n, found):
+    """A bit is 1 if some record owns it, and as many bits are 1 as are owned, so that none is owned twice."""
+    union = 0
+    for bits in owned.bits[n]:
+        union |= bits
+    return found == union and found.bit_count() == sum(bits.bit_count() for bits in owned.bits[n])
 
 
 def holds_of_inner(owned, n, found):
@@ -74,11 +76,6 @@ def holds_of_inner(owned, n, found):
 def conserved(settings, words, all_records):
     """Every word holds what is owned of it. A word 0 of which nothing is owned does."""
     owned = owned_by(settings, all_records)
-    concerned = {n for n, found in enumerate(words, 1) if found != 0} | {n for counts in owned[:4] for n in counts}
-    concerned |= {tree.leaf_of(settings.levels, unit) for unit in owned.units}
-    for n in concerned:
-        found = words[n - 1]
-        leaf = tree.is_leaf(settings.levels, n)
-        if not (holds_of_leaf(settings, owned, n, found) if leaf else holds_of_inner(owned, n, found)):
-            return False
-    return True
+    concerned = {n for n, found in enumerate(words, 1) if found != 0} | {n for by_node in owned for n in by_node}
+    kinds = {True: holds_of_leaf, False: holds_of_inner}
+    return all(kinds[tree.is_leaf(settings.levels, n)](owned, n, words[n - 1]) for n in concerned)

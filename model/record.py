@@ -3,7 +3,7 @@
 from functools import lru_cache
 from typing import NamedTuple
 
-from model import cover, tree
+from model import cover, tree, word
 
 CACHED = 2 ** 16
 
@@ -63,6 +63,12 @@ def notify_list(m, n):
 def check_list(h, m, n):
     """The node itself and its inner descendants at levels L..L+m-1, by rising number."""
     return tree.check_list(h, m, n)
+
+
+@lru_cache(maxsize=CACHED)
+def wanted_bits(h, l, r, n):
+    """The bits of leaf n that the window wants."""
+    return word.wanted(tree.node_range(h, n)[0], l, r)
 
 
 def pieces(record):

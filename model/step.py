@@ -105,7 +105,7 @@ def blocked(settings, record, words, clock):
 
 def wanted(settings, record, n):
     """The wanted bits of a leaf."""
-    return word.wanted(tree.node_range(settings.levels, n)[0], record.left, record.right)
+    return records.wanted_bits(settings.levels, record.left, record.right, n)
 
 
 def claim_leaf(settings, record, words, clock):

@@ -170,6 +170,15 @@ def opened(shape):
     return Opened(shape.settings, words, [IDLE] * shape.clients)
 
 
+def history_of(shape, seed):
+    """What one random history leaves."""
+    lock = opened(shape)
+    driver = Driver(lock, seed)
+    for _ in range(shape.calls):
+        lock.make(driver.next_call())
+    return lock
+
+
 def counts_of(shape, seed):
     """The counts of one random history."""
     lock = opened(shape)

@@ -6,9 +6,10 @@ from functools import lru_cache
 
 from broken_rules import RULES, SHAPES, broken
 from compare import NAMES, case
-from histories import Shape, breaks_a_claim, counts_of
+from histories import Shape, breaks_a_claim, counts_of, history_of
 from model import table
 from model.history import Call, Opened
+from model.owned import conserved
 from model.record import IDLE, Record, Settings
 
 NAMES["line"] = ("call",), ("number", "phase", "left", "right")
@@ -17,6 +18,7 @@ NAMES["refusal"] = ("kind", "causes taken away"), ("number", "changed")
 SHAPE = ("levels", "distance", "wait", "clients", "calls", "seed")
 NAMES["history"] = SHAPE, ("overlaps", "words left", "refused by 6", "refused by 9")
 NAMES["owned"] = SHAPE, ("unlike what is owned",)
+NAMES["changed word"] = ("node", "bit"), ("unlike what is owned",)
 NAMES["occurs"] = ("place in the list of what must occur",), ("occurs",)
 NAMES["broken rule"] = ("place in the list of rules",), ("caught", "caught with the model's own rule")
 
@@ -145,6 +147,17 @@ def owned():
         yield case("owned", [*shape.settings, shape.clients, shape.calls, seed], 0), counts["unlike what is owned"]
 
 
+def changed_words():
+    """In the middle of a history any one bit changed in any word makes it unlike what the records own."""
+    lock = history_of(Shape(Settings(3, 2, 4), 5, 300), 1)
+    for place, found in enumerate(lock.words):
+        for bit in range(64):
+            lock.words[place] = found ^ 1 << bit
+            unlike = not conserved(lock.settings, lock.words, lock.records)
+            yield case("changed word", [place + 1, bit], 1), int(unlike)
+        lock.words[place] = found
+
+
 MUST_OCCUR = [
     *(("phase", phase) for phase in range(11)),
     *(("outcome", outcome) for outcome in range(4)),
@@ -188,6 +201,7 @@ SUITES = {
     "calls, refused in order of testing": refusals_in_order,
     "histories, demand 3 after every call": demand_3,
     "histories, each word holds what the records own of it": owned,
+    "histories, a word with one bit changed is unlike what the records own": changed_words,
     "histories, every phase, outcome and refusal occurs": what_occurs,
     **{f"histories, a claim fails with a broken rule: {rule}": lambda rule=rule: caught(rule) for rule in RULES},
 }

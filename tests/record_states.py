@@ -141,7 +141,7 @@ def built(rng, settings, last):
 
 def leaf_word(rng, settings, record, n):
     """The wanted bits all 0, all 1, or all but one of either, among other bits that are random."""
-    wanted = word.wanted(tree.node_range(settings.levels, n)[0], record.left, record.right)
+    wanted = records.wanted_bits(settings.levels, record.left, record.right, n)
     others = rng.choice([0, TOP, rng.getrandbits(64)])
     clear, full = others & ~wanted, others | wanted
     return rng.choice([clear, full, clear, full, clear | wanted & -wanted, full ^ (wanted & -wanted)])
@@ -156,19 +156,20 @@ def inner_word(rng, record):
 
 
 def touched(settings, record):
-    """The pieces, every node above them, and the node at the place of the list that is walked."""
-    nodes = {n for piece in records.pieces(record) for n in (piece, *records.ancestors(piece))}
+    """The pieces, and the node at the place of the list that is walked."""
     walked = records.walked(settings, record)
-    return nodes | ({walked[record.place]} if walked else set())
+    return [*records.pieces(record), *([walked[record.place]] if walked else [])]
+
+
+def any_word(rng, settings, record, n):
+    return leaf_word(rng, settings, record, n) if tree.is_leaf(settings.levels, n) else inner_word(rng, record)
 
 
 def words_for(rng, settings, record):
-    """A word for each node that a step may touch, now and then 0."""
-    words = {}
-    for n in touched(settings, record):
-        of_its_kind = leaf_word(rng, settings, record, n) if tree.is_leaf(settings.levels, n) else inner_word(rng, record)
-        words[n] = 0 if rng.random() < 0.05 else of_its_kind
-    return words
+    """A word for nearly each node that a step may touch, and for some of those above."""
+    above = {n for piece in records.pieces(record) for n in records.ancestors(piece)}
+    chosen = {n for n in touched(settings, record) if rng.random() > 0.05} | {n for n in above if rng.random() < 0.3}
+    return {n: any_word(rng, settings, record, n) for n in sorted(chosen)}
 
 
 def built_state(rng, h):
