@@ -90,7 +90,10 @@ def forget_lists():
 
 @contextmanager
 def broken(rule):
+    """The rule is broken while this lasts."""
     forget_lists()
-    with RULES[rule]():
-        yield
-    forget_lists()
+    try:
+        with RULES[rule]():
+            yield
+    finally:
+        forget_lists()
