@@ -6,6 +6,9 @@ from library import ANSWER, signatures
 
 SHOWN = 5
 
+# The names of each call's arguments and results: those of the library's calls from its header; other modules add theirs.
+NAMES = signatures()
+
 
 class Case(NamedTuple):
     """A call, its arguments, and the numbers that it must give."""
@@ -38,11 +41,11 @@ def altered(answer, at):
 
 
 def unreported(cases, answers):
-    """Puts an altered answer in the place of an expected one, altering in turn each of its four numbers, and gives those that
-    the comparer does not report. Without this a comparer that finds nothing would look like code without faults."""
-    missed = []
-    for at in range(ANSWER):
-        place = len(cases) * at // ANSWER
+    """Puts an altered answer in the place of an expected one, altering in turn each of its numbers, and gives those that the
+    comparer does not report. Without this a comparer that finds nothing would look like code without faults."""
+    missed, numbers = [], len(cases[0].expected)
+    for at in range(numbers):
+        place = len(cases) * at // numbers
         changed = [*answers[:place], altered(cases[place].expected, at), *answers[place + 1:]]
         if (cases[place], changed[place]) not in differences(cases, changed):
             missed.append((cases[place], changed[place]))
@@ -62,9 +65,8 @@ def report(name, count, found):
     """One line for the test, and a line for each of the first few differences."""
     verdict = "ok" if not found else f"FAILED, {len(found)} differ"
     print(f"{name}: {count} cases, {verdict}", flush=True)
-    names = signatures()
     for case, answer in found[:SHOWN]:
-        arguments, results = names[case.call]
+        arguments, results = NAMES[case.call]
         print(f"    {case.call} of {named(arguments, case.arguments)}")
         print(f"        expected {named(results, case.expected)}")
         print(f"        got      {named(results, answer)}")

@@ -8,10 +8,13 @@ from pathlib import Path
 ROOT = Path(__file__).resolve().parent.parent
 HEADER = ROOT / "tests" / "probe.h"
 SOURCE = ROOT / "tests" / "probe.c"
+RECORDS = ROOT / "tests" / "records.c"
 LIBRARY = ROOT / "target" / "staticlib" / "libprobe.a"
 
 QUERY = 8
 ANSWER = 4
+BEFORE_PAIRS = 23
+RECORD_ANSWER = 19
 SECONDS = 30
 
 RESULTS = {"uint64_t": ("result",), "struct swap": ("done", "word"), "struct cover": ("number", "first", "second", "over")}
@@ -45,15 +48,15 @@ def build_library():
     return LIBRARY
 
 
-def build_program(library):
+def build_program(library, source):
     """The program that answers queries, linked with the library."""
-    program = ROOT / "target" / "tests" / "probe"
+    program = ROOT / "target" / "tests" / source.stem
     program.parent.mkdir(parents=True, exist_ok=True)
-    command("gcc", "-std=c11", "-O2", "-Wall", "-Wextra", "-Werror", SOURCE, library.resolve(), "-o", program)
+    command("gcc", "-std=c11", "-O2", "-Wall", "-Wextra", "-Werror", source, library.resolve(), "-o", program)
     return program
 
 
-class Probe:
+class Program:
     """Answers many queries in one run of the program."""
 
     def __init__(self, program):
@@ -61,13 +64,31 @@ class Probe:
         names = subprocess.run([program, "names"], check=True, capture_output=True, text=True).stdout.split()
         self.place = {name: place for place, name in enumerate(names)}
 
+    def run(self, queries, width):
+        """The answers to the queries, each of `width` numbers. A call that does not end is given up."""
+        run = subprocess.run([self.program], input=queries.tobytes(), check=True, capture_output=True, timeout=SECONDS)
+        numbers = array("Q")
+        numbers.frombytes(run.stdout)
+        return [tuple(numbers[at:at + width]) for at in range(0, len(numbers), width)]
+
+
+class Probe(Program):
+    """The functions of the words, the tree and the cover: a query of eight numbers, an answer of four."""
+
     def answers(self, cases):
-        """The answer to each case's call, as the four numbers that the program writes. A call that does not end is given up."""
         queries = array("Q")
         for case in cases:
             unused = (0,) * (QUERY - 1 - len(case.arguments))
             queries.extend((self.place[case.call], *case.arguments, *unused))
-        run = subprocess.run([self.program], input=queries.tobytes(), check=True, capture_output=True, timeout=SECONDS)
-        numbers = array("Q")
-        numbers.frombytes(run.stdout)
-        return [tuple(numbers[at:at + ANSWER]) for at in range(0, len(numbers), ANSWER)]
+        return self.run(queries, ANSWER)
+
+
+class Records(Program):
+    """The calls on one record: a query ends with as many pairs of a node and its word as it says."""
+
+    def answers(self, cases):
+        queries = array("Q")
+        for case in cases:
+            pairs = (len(case.arguments) - BEFORE_PAIRS) // 2
+            queries.extend((self.place[case.call], pairs, *case.arguments))
+        return self.run(queries, RECORD_ANSWER)

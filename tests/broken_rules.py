@@ -1,0 +1,99 @@
+"""Rules broken on purpose, each put in the place of the model's own while a `with` lasts: histories must then break a
+claim."""
+
+from contextlib import contextmanager
+from unittest.mock import patch
+
+from histories import Shape
+from model import record as records
+from model import step, tree
+from model.record import Settings
+
+notify_levels = tree.notify_levels
+
+
+def late_with_greater(settings, record, clock):
+    """Late tested with > for >=."""
+    return clock - record.t1 > settings.wait
+
+
+def waited_one_less(settings, record, clock):
+    """A wait of T - 1."""
+    return clock - record.t0 >= settings.wait - 1
+
+
+def no_notice_at_m(m, d):
+    """No notice at level m from below it, save from the next level."""
+    return [level for level in notify_levels(m, d) if level != m or d <= m + 1]
+
+
+def nothing_notified(settings, record, i):
+    """No notice is given back."""
+    return []
+
+
+def only_itself(h, m, n):
+    """A node checks itself and none of its descendants."""
+    return [n]
+
+
+def held_after_any_piece(settings, record):
+    """A taken first piece gives 9."""
+    return step.to(record, 9)
+
+
+def blocked_goes_on(settings, record, words, clock):
+    """After a wait t1 is noted, and the lower ancestors aren't read again."""
+    ancestor = records.walked(settings, record)[record.place]
+    if step.inner_at(words, ancestor).occ == 1:
+        return step.read(record)
+    return step.read(record._replace(phase=3, t1=clock))
+
+
+def climb_notes_at_the_root(settings, record, words, clock):
+    """t1 is noted at the root and not at the parent."""
+    done = step.climb(settings, record, words, clock)
+    return done._replace(record=done.record._replace(t1=clock if done.record.phase == 5 else record.t1))
+
+
+RULES = {
+    "late tested with > for >=": lambda: patch.object(step, "late", late_with_greater),
+    "a wait of T - 1": lambda: patch.object(step, "waited", waited_one_less),
+    "no notice at level m": lambda: patch.object(tree, "notify_levels", no_notice_at_m),
+    "a node checks only itself": lambda: patch.object(tree, "check_list", only_itself),
+    "a cancelled ticket passed on out of turn": lambda: patch.dict(step.GIVE_INNER, {1: step.give_turn}),
+    "a climb that goes on after a wait": lambda: patch.dict(step.ROWS, {4: blocked_goes_on}),
+    "t1 noted at the root": lambda: patch.dict(step.ROWS, {3: climb_notes_at_the_root}),
+    "a taken first piece gives 9": lambda: patch.object(step, "taken", held_after_any_piece),
+    "no notice is given back": lambda: patch.object(records, "notified", nothing_notified),
+}
+
+# Settings and clients with which a few ten histories find each out.
+SHAPES = {
+    "late tested with > for >=": Shape(Settings(2, 1, 2), 5, 600),
+    "a wait of T - 1": Shape(Settings(2, 1, 1), 2, 600),
+    "no notice at level m": Shape(Settings(3, 1, 2), 3, 600),
+    "a node checks only itself": Shape(Settings(3, 2, 2), 3, 600),
+    "a cancelled ticket passed on out of turn": Shape(Settings(2, 1, 2), 5, 600),
+    "a climb that goes on after a wait": Shape(Settings(4, 2, 9), 4, 600),
+    "t1 noted at the root": Shape(Settings(3, 1, 9), 3, 600),
+    "a taken first piece gives 9": Shape(Settings(2, 1, 2), 3, 600),
+    "no notice is given back": Shape(Settings(2, 1, 2), 3, 600),
+}
+
+
+def forget_lists():
+    """The lists kept from one call to the next were made by the rule before."""
+    records.notify_list.cache_clear()
+    records.check_list.cache_clear()
+
+
+@contextmanager
+def broken(rule):
+    """The rule is broken while this lasts."""
+    forget_lists()
+    try:
+        with RULES[rule]():
+            yield
+    finally:
+        forget_lists()
