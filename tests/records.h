@@ -2,6 +2,7 @@
 #ifndef RECORDS_H
 #define RECORDS_H
 
+#include <stdbool.h>
 #include <stddef.h>
 #include <stdint.h>
 
@@ -30,7 +31,7 @@ struct stepped probe_step(struct record self, uint64_t *words, size_t count, str
 struct stepped probe_release(struct record self, uint64_t *words, size_t count, struct settings s, struct call c);
 struct stepped probe_cancel(struct record self, uint64_t *words, size_t count, struct settings s, struct call c);
 
-/* 1 if the record is unreadable, else 0; H, m and T are within their ranges. */
-uint64_t probe_unreadable(struct record self, struct settings s, uint64_t last);
+/* Whether the record is unreadable; H, m and T are within their ranges. */
+bool probe_unreadable(struct record self, struct settings s, uint64_t last);
 
 #endif

@@ -1,4 +1,4 @@
-// The functions of the crates word, tree and cover under names that C can link, each with its own contract, for the comparison with the model and
+// The functions of the crates word, tree, cover and lock under names that C can link, each with its own contract, for the comparison with the model and
 // for the benchmark.
 ghost use mathlib.Core.Path.{_≡_};
 ghost use Prim.Native.Nat.{_+_, _^_, _≤_, _<_};
@@ -7,6 +7,9 @@ ghost use Rattle.word.specs.Word.{Place, field, addField, occ, tcnt, tmax, dcnt
 ghost use Rattle.tree.specs.Tree.{parent, child, first, last, level, Node, size, left};
 ghost use Rattle.tree.specs.Lists.{ancestor, ancestors, notifyList, checkList};
 ghost use Rattle.cover.specs.Answer.{answer};
+ghost use Rattle.lock.specs.Active.{Settled};
+ghost use Rattle.lock.specs.Readable.{unreadable};
+ghost use Rattle.lock.specs.Calls.{requestAnswer, releaseAnswer, cancelAnswer, stepAnswer, stepWords};
 
 #[no_mangle]
 pub extern "C" fn probe_field(word: u64, shift: u64, width: u64) -> u64
@@ -252,4 +255,68 @@ pub extern "C" fn probe_cover(h: u64, l: u64, r: u64) -> cover::Answer
     ensures { λ a. ⌜ a ≡ answer h l r ⌝ }
 {
     cover::cover(h, l, r)
+}
+
+#[no_mangle]
+pub extern "C" fn probe_request(
+    client: lock::Record,
+    words: &mut [u64],
+    settings: lock::Settings,
+    call: lock::Call,
+) -> lock::Stepped
+    ensures answer { λ s. ⌜ s ≡ requestAnswer settings (call .last) client (now (words .entry)) (call .a) (call .b) ⌝ }
+    ensures words { λ s. ⌜ now (words .exit) ≡ now (words .entry) ⌝ }
+{
+    client.request(words, settings, call)
+}
+
+#[no_mangle]
+pub extern "C" fn probe_step(
+    client: lock::Record,
+    words: &mut [u64],
+    settings: lock::Settings,
+    call: lock::Call,
+) -> lock::Stepped
+    ensures answer { λ s. ⌜ s ≡ stepAnswer settings (call .last) client (now (words .entry)) (call .a) ⌝ }
+    ensures words { λ s. ⌜ now (words .exit) ≡ stepWords settings (call .last) client (now (words .entry)) (call .a) ⌝ }
+{
+    client.step(words, settings, call)
+}
+
+#[no_mangle]
+pub extern "C" fn probe_release(
+    client: lock::Record,
+    words: &mut [u64],
+    settings: lock::Settings,
+    call: lock::Call,
+) -> lock::Stepped
+    ensures answer { λ s. ⌜ s ≡ releaseAnswer settings (call .last) client (now (words .entry)) ⌝ }
+    ensures words { λ s. ⌜ now (words .exit) ≡ now (words .entry) ⌝ }
+{
+    client.release(words, settings, call)
+}
+
+#[no_mangle]
+pub extern "C" fn probe_cancel(
+    client: lock::Record,
+    words: &mut [u64],
+    settings: lock::Settings,
+    call: lock::Call,
+) -> lock::Stepped
+    ensures answer { λ s. ⌜ s ≡ cancelAnswer settings (call .last) client (now (words .entry)) ⌝ }
+    ensures words { λ s. ⌜ now (words .exit) ≡ now (words .entry) ⌝ }
+{
+    client.cancel(words, settings, call)
+}
+
+#[no_mangle]
+pub extern "C" fn probe_unreadable(
+    client: lock::Record,
+    settings: lock::Settings,
+    last: u64,
+) -> bool
+    requires { ⌜ Settled settings ⌝ }
+    ensures { λ b. ⌜ b ≡ unreadable settings last client ⌝ }
+{
+    client.unreadable(settings, last)
 }
