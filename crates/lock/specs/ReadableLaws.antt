@@ -14,9 +14,10 @@ use Rattle.cover.specs.Search.{leastCover}
 use Rattle.cover.specs.Answer.{windowOutside, answer}
 use Rattle.lock.specs.declared.Record.{Record}
 use Rattle.lock.specs.declared.Settings.{Settings}
-use Rattle.lock.specs.Types.{Phase, idle, ticket, turn, climb, blocked, claim, notify, wait, check, held, returning, unknown, phaseOf, pieces, pieceAt, currentPiece, isLeaf, isRoot, noticesOf}
+use Rattle.lock.specs.Types.{ticket, phaseOf, pieces, pieceAt, currentPiece, isLeaf, isRoot, noticesOf}
 use Rattle.lock.specs.Readable.{nonzero, differ, notCovered, ticketTooLarge, listLength, placePast, noticesWrong, timeAhead, phaseElsewhere, heldEarly, outcomeWrong, gripLacking, givingWrong}
 use Rattle.lock.specs.CoverLaws.{cover-refused, cover-inside, cover-first, cover-second}
+use Rattle.lock.specs.Phases.{on-phase}
 use Rattle.lock.specs.Active.{Settled}
 
 -- ---- tests joined by `||`, one after the other
@@ -30,30 +31,6 @@ true-later false b e = e
 
 pub next-test : (x a b : Bool) → a ≡ false → x ≡ b → x ≡ (a || b)
 next-test x a b e f = f ∙ ap (λ c. c || b) (sym e)
-
--- ---- a phase by its number
-
--- the test of one number, where it is known that p is not below it
-on-number : (P : Phase → Type 0) (p k : ℕ) (x y : Phase) → k ≤ p → (p ≡ k → P x) → (k < p → P y) → P (choose (eqb p k) x y)
-on-number P p k x y b f g =
-    by-lt k p (λ q. subst P (sym (choose-ne p k x y (λ e. omega arith))) (g q)) (λ q. let e : p ≡ k = omega arith in subst P (sym (choose-eq p k x y e)) (f e))
-
-pub by-phase : (P : Phase → Type 0) (p : ℕ)
-    → (p ≡ 0 → P idle) → (p ≡ 1 → P ticket) → (p ≡ 2 → P turn) → (p ≡ 3 → P climb) → (p ≡ 4 → P blocked) → (p ≡ 5 → P claim) → (p ≡ 6 → P notify)
-    → (p ≡ 7 → P wait) → (p ≡ 8 → P check) → (p ≡ 9 → P held) → (p ≡ 10 → P returning) → (10 < p → P unknown) → P (phaseOf p)
-unfolding phaseOf
-by-phase P p f0 f1 f2 f3 f4 f5 f6 f7 f8 f9 f10 f =
-    on-number P p 0 _ _ (omega arith) f0 λ b0.
-    on-number P p 1 _ _ b0 f1 λ b1.
-    on-number P p 2 _ _ b1 f2 λ b2.
-    on-number P p 3 _ _ b2 f3 λ b3.
-    on-number P p 4 _ _ b3 f4 λ b4.
-    on-number P p 5 _ _ b4 f5 λ b5.
-    on-number P p 6 _ _ b5 f6 λ b6.
-    on-number P p 7 _ _ b6 f7 λ b7.
-    on-number P p 8 _ _ b7 f8 λ b8.
-    on-number P p 9 _ _ b8 f9 λ b9.
-    on-number P p 10 _ _ b9 f10 f
 
 -- ---- what the clauses after the cover and the current piece stand on
 
@@ -131,7 +108,7 @@ module _ (s : Settings) (r : Record) where
     pub list-climbing : 3 ≤ p → p < 5 → length (ancestors (currentPiece r)) ≡ listLength s r (phaseOf p)
     unfolding listLength
     list-climbing a b =
-        by-phase (λ f. length (ancestors (currentPiece r)) ≡ listLength s r f) p
+        on-phase p (λ f. length (ancestors (currentPiece r)) ≡ listLength s r f)
         (λ e. absurd (omega arith)) (λ e. absurd (omega arith)) (λ e. absurd (omega arith)) (λ e. refl) (λ e. refl) (λ e. absurd (omega arith))
         (λ e. absurd (omega arith)) (λ e. absurd (omega arith)) (λ e. absurd (omega arith)) (λ e. absurd (omega arith)) (λ e. absurd (omega arith)) (λ e. absurd (omega arith))
 
@@ -150,7 +127,7 @@ module _ (s : Settings) (r : Record) where
     pub list-none : (3 ≤ p → p < 5 → ⊥) → (p ≡ 6 → ⊥) → (p ≡ 8 → ⊥) → (p ≡ 10 → ⊥) → 0 ≡ listLength s r (phaseOf p)
     unfolding listLength
     list-none a d6 d8 d10 =
-        by-phase (λ f. 0 ≡ listLength s r f) p (λ e. refl) (λ e. refl) (λ e. refl) (λ e. absurd (a (omega arith) (omega arith))) (λ e. absurd (a (omega arith) (omega arith)))
+        on-phase p (λ f. 0 ≡ listLength s r f) (λ e. refl) (λ e. refl) (λ e. refl) (λ e. absurd (a (omega arith) (omega arith))) (λ e. absurd (a (omega arith) (omega arith)))
         (λ e. refl) (λ e. absurd (d6 e)) (λ e. refl) (λ e. absurd (d8 e)) (λ e. refl) (λ e. absurd (d10 e)) (λ e. refl)
 
     -- ---- where a phase may not be
@@ -158,21 +135,21 @@ module _ (s : Settings) (r : Record) where
     pub elsewhere-leaf : 1 ≤ p → p < 9 → (3 ≤ p → p < 7 → ⊥) → isLeaf s (currentPiece r) ≡ phaseElsewhere s r (phaseOf p)
     unfolding phaseElsewhere
     elsewhere-leaf a b c =
-        by-phase (λ f. isLeaf s (currentPiece r) ≡ phaseElsewhere s r f) p
+        on-phase p (λ f. isLeaf s (currentPiece r) ≡ phaseElsewhere s r f)
         (λ e. absurd (omega arith)) (λ e. refl) (λ e. refl) (λ e. absurd (c (omega arith) (omega arith))) (λ e. absurd (c (omega arith) (omega arith))) (λ e. absurd (c (omega arith) (omega arith)))
         (λ e. absurd (c (omega arith) (omega arith))) (λ e. refl) (λ e. refl) (λ e. absurd (omega arith)) (λ e. absurd (omega arith)) (λ e. absurd (omega arith))
 
     pub elsewhere-root : 3 ≤ p → p < 7 → (p ≡ 5 → ⊥) → isRoot (currentPiece r) ≡ phaseElsewhere s r (phaseOf p)
     unfolding phaseElsewhere
     elsewhere-root a b d =
-        by-phase (λ f. isRoot (currentPiece r) ≡ phaseElsewhere s r f) p
+        on-phase p (λ f. isRoot (currentPiece r) ≡ phaseElsewhere s r f)
         (λ e. absurd (omega arith)) (λ e. absurd (omega arith)) (λ e. absurd (omega arith)) (λ e. refl) (λ e. refl) (λ e. absurd (omega arith))
         (λ e. refl) (λ e. absurd (omega arith)) (λ e. absurd (omega arith)) (λ e. absurd (omega arith)) (λ e. absurd (omega arith)) (λ e. absurd (omega arith))
 
     pub elsewhere-none : (1 ≤ p → p < 5 → ⊥) → (6 ≤ p → p < 9 → ⊥) → false ≡ phaseElsewhere s r (phaseOf p)
     unfolding phaseElsewhere
     elsewhere-none c d =
-        by-phase (λ f. false ≡ phaseElsewhere s r f) p
+        on-phase p (λ f. false ≡ phaseElsewhere s r f)
         (λ e. refl) (λ e. absurd (c (omega arith) (omega arith))) (λ e. absurd (c (omega arith) (omega arith))) (λ e. absurd (c (omega arith) (omega arith))) (λ e. absurd (c (omega arith) (omega arith))) (λ e. refl)
         (λ e. absurd (d (omega arith) (omega arith))) (λ e. absurd (d (omega arith) (omega arith))) (λ e. absurd (d (omega arith) (omega arith))) (λ e. refl) (λ e. refl) (λ e. refl)
 
@@ -189,14 +166,14 @@ module _ (s : Settings) (r : Record) where
     pub grip-climbing : 3 ≤ p → p < 6 → differ (r .grip) (choose (isLeaf s (currentPiece r)) 0 2) ≡ gripLacking s r (phaseOf p)
     unfolding gripLacking
     grip-climbing a b =
-        by-phase (λ f. differ (r .grip) (choose (isLeaf s (currentPiece r)) 0 2) ≡ gripLacking s r f) p
+        on-phase p (λ f. differ (r .grip) (choose (isLeaf s (currentPiece r)) 0 2) ≡ gripLacking s r f)
         (λ e. absurd (omega arith)) (λ e. absurd (omega arith)) (λ e. absurd (omega arith)) (λ e. refl) (λ e. refl) (λ e. refl)
         (λ e. absurd (omega arith)) (λ e. absurd (omega arith)) (λ e. absurd (omega arith)) (λ e. absurd (omega arith)) (λ e. absurd (omega arith)) (λ e. absurd (omega arith))
 
     pub grip-taken : 6 ≤ p → p < 10 → differ (r .grip) 3 ≡ gripLacking s r (phaseOf p)
     unfolding gripLacking
     grip-taken a b =
-        by-phase (λ f. differ (r .grip) 3 ≡ gripLacking s r f) p
+        on-phase p (λ f. differ (r .grip) 3 ≡ gripLacking s r f)
         (λ e. absurd (omega arith)) (λ e. absurd (omega arith)) (λ e. absurd (omega arith)) (λ e. absurd (omega arith)) (λ e. absurd (omega arith)) (λ e. absurd (omega arith))
         (λ e. refl) (λ e. refl) (λ e. refl) (λ e. refl) (λ e. absurd (omega arith)) (λ e. absurd (omega arith))
 
@@ -207,6 +184,6 @@ module _ (s : Settings) (r : Record) where
     pub grip-none : (1 ≤ p → p < 11 → ⊥) → false ≡ gripLacking s r (phaseOf p)
     unfolding gripLacking
     grip-none c =
-        by-phase (λ f. false ≡ gripLacking s r f) p
+        on-phase p (λ f. false ≡ gripLacking s r f)
         (λ e. refl) (λ e. absurd (c (omega arith) (omega arith))) (λ e. absurd (c (omega arith) (omega arith))) (λ e. absurd (c (omega arith) (omega arith))) (λ e. absurd (c (omega arith) (omega arith))) (λ e. absurd (c (omega arith) (omega arith)))
         (λ e. absurd (c (omega arith) (omega arith))) (λ e. absurd (c (omega arith) (omega arith))) (λ e. absurd (c (omega arith) (omega arith))) (λ e. absurd (c (omega arith) (omega arith))) (λ e. absurd (c (omega arith) (omega arith))) (λ e. refl)

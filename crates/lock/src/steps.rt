@@ -120,11 +120,11 @@ impl Record {
         requires { ⌜ self .current < length (pieces self) ⌝ }
         ensures { λ r. ⌜ r ≡ occClaimed self clock ⌝ }
     {
-        let n = self.current_piece();
+        let piece = self.current_piece();
         self.t0 = clock;
         self.grip = 3;
         self.place = 0;
-        if n == 1 {
+        if piece == 1 {
             self.phase = 7;
             return self;
         }
