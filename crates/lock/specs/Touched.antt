@@ -51,9 +51,6 @@ module _ (h n : ℕ) (v : Node h n) where
       omega (arith, check-place h m n i (omega arith), node-counted h (checkNode n i) (record { some = omega (arith, left-pos (level (suc i) - 1) n (v .some)); inside = omega (arith, k .inner) }))
 
 module _ (s : Settings) (r : Record) (v : Settled s) (p : Placed s r) where
-  h : ℕ
-  h = s .levels
-
   piece-counted : (i : ℕ) → i < length (pieces r) → pieceAt r i ≤ wordCount (s .levels)
   piece-counted i b = node-counted (s .levels) (pieceAt r i) (p .meets i b .node)
 
