@@ -102,8 +102,9 @@ impl Record {
         }
     }
 
-    /// The clauses in the order of the paragraph "Unreadable", but for those that go by the phase, which are last.
-    #[inline(always)]
+    /// The clauses in the order of the paragraph "Unreadable", but for those that go by the phase, which are last. Inlined
+    /// in each call it was slower, for it then takes the registers of the step.
+    #[inline(never)]
     pub fn unreadable(&self, settings: &Settings, last: u64) -> bool {
         if self.phase > 10 || self.outcome > 3 {
             return true;
