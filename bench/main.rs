@@ -3,8 +3,14 @@
 //! A call waits for the answer of the one before it, as a caller does that goes on to use the answer, so a time is that of
 //! one call alone and not of several at once. The time includes the call through a pointer, which both sides pay.
 
+mod cases;
 mod inputs;
+mod kinds;
+mod lock;
+mod phases;
 mod plain;
+mod readable;
+mod steps;
 
 use inputs::{Input, Kind};
 use plain::{Cover, Swap};
@@ -126,4 +132,6 @@ fn main() {
     let verdict = if slowest < PAPER_NS { "below" } else { "NOT below" };
     println!("cover at H 12, slowest kind of window: {slowest:.1} ns");
     println!("this is {verdict} the 0.5 microseconds that the CITRON paper gives for its own");
+    println!();
+    steps::rows();
 }

@@ -95,6 +95,12 @@ fn refused(number: u64) -> Cover {
 
 #[inline(never)]
 pub extern "C" fn cover(h: u64, l: u64, r: u64) -> Cover {
+    least_cover(h, l, r)
+}
+
+/// Inlined always, so that a caller that needs no over-cover does not pay for it.
+#[inline(always)]
+pub fn least_cover(h: u64, l: u64, r: u64) -> Cover {
     if !(2..=12).contains(&h) {
         return refused(1);
     }
