@@ -1,6 +1,5 @@
 //! One step's own work in plain Rust: a match on the phase, and a method for each row of the phase table. Each builds its
-//! answer as a whole: fields set one by one and then copied with the record would have to be read back from memory in other
-//! widths than they were written in, which is slow.
+//! answer as a whole.
 
 use crate::lock::{Record, Settings, Stepped};
 use crate::readable::{check_count, check_node, climb, level, nodes, notify_count, notify_node};

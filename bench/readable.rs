@@ -102,8 +102,8 @@ impl Record {
         }
     }
 
-    /// The clauses in the order of the paragraph "Unreadable", but for those that go by the phase, which are last. Inlined
-    /// in each call it was slower, for it then takes the registers of the step.
+    /// The clauses in the order of the paragraph "Unreadable", but for those that go by the phase, which are last. Not
+    /// inlined, since most steps were faster so, though idle and request were slower.
     #[inline(never)]
     pub fn unreadable(&self, settings: &Settings, last: u64) -> bool {
         if self.phase > 10 || self.outcome > 3 {
