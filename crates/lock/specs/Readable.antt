@@ -95,20 +95,24 @@ heldEarly r = eqb (r .phase) 9 && ltb (suc (r .current)) (length (pieces r))
 unfoldable pub outcomeWrong : Record → Bool
 outcomeWrong r = choose (eqb (r .phase) 10) (eqb (r .outcome) 0) (nonzero (r .outcome))
 
--- "a grip the phase lacks (0 in 1; 1 in 2; in 3..5 0 for a leaf, else 2; 3 in 6..9; in 10 0 or 3 for a leaf, else 0..3)"
-unfoldable pub gripLacking : Settings → Record → Phase → Bool
-gripLacking s r idle = false
-gripLacking s r ticket = differ (r .grip) 0
-gripLacking s r turn = differ (r .grip) 1
-gripLacking s r climb = differ (r .grip) (choose (isLeaf s (currentPiece r)) 0 2)
-gripLacking s r blocked = differ (r .grip) (choose (isLeaf s (currentPiece r)) 0 2)
-gripLacking s r claim = differ (r .grip) (choose (isLeaf s (currentPiece r)) 0 2)
-gripLacking s r notify = differ (r .grip) 3
-gripLacking s r wait = differ (r .grip) 3
-gripLacking s r check = differ (r .grip) 3
-gripLacking s r held = differ (r .grip) 3
-gripLacking s r returning = choose (isLeaf s (currentPiece r)) (differ (r .grip) 0 && differ (r .grip) 3) (ltb 3 (r .grip))
-gripLacking s r unknown = false
+-- "a grip the phase lacks (0 in 1; 1 in 2; in 3..5 0 for a leaf, else 2; 3 in 6..9; in 10 0 or 3 for a leaf, else 0..3)"; whether the current piece is a leaf,
+-- and its grip
+unfoldable pub lacksGrip : Bool → ℕ → Phase → Bool
+lacksGrip leaf grip idle = false
+lacksGrip leaf grip ticket = differ grip 0
+lacksGrip leaf grip turn = differ grip 1
+lacksGrip leaf grip climb = differ grip (choose leaf 0 2)
+lacksGrip leaf grip blocked = differ grip (choose leaf 0 2)
+lacksGrip leaf grip claim = differ grip (choose leaf 0 2)
+lacksGrip leaf grip notify = differ grip 3
+lacksGrip leaf grip wait = differ grip 3
+lacksGrip leaf grip check = differ grip 3
+lacksGrip leaf grip held = differ grip 3
+lacksGrip leaf grip returning = choose leaf (differ grip 0 && differ grip 3) (ltb 3 grip)
+lacksGrip leaf grip unknown = false
+
+abbrev pub gripLacking : Settings → Record → Phase → Bool
+gripLacking s r phase = lacksGrip (isLeaf s (currentPiece r)) (r .grip) phase
 
 -- "a piece being given back that is past the current one, or nonzero outside 10, or in 10 has grip 0"
 unfoldable pub givingWrong : Record → Bool

@@ -15,7 +15,7 @@ use Rattle.cover.specs.Answer.{windowOutside, answer}
 use Rattle.lock.specs.declared.Record.{Record}
 use Rattle.lock.specs.declared.Settings.{Settings}
 use Rattle.lock.specs.Types.{ticket, phaseOf, pieces, pieceAt, currentPiece, isLeaf, isRoot, noticesOf}
-use Rattle.lock.specs.Readable.{nonzero, differ, notCovered, ticketTooLarge, listLength, placePast, noticesWrong, timeAhead, phaseElsewhere, heldEarly, outcomeWrong, gripLacking, givingWrong}
+use Rattle.lock.specs.Readable.{nonzero, differ, notCovered, ticketTooLarge, listLength, placePast, noticesWrong, timeAhead, phaseElsewhere, heldEarly, outcomeWrong, gripLacking, lacksGrip, givingWrong}
 use Rattle.lock.specs.CoverLaws.{cover-refused, cover-inside, cover-first, cover-second}
 use Rattle.lock.specs.Phases.{on-phase}
 use Rattle.lock.specs.Active.{Settled}
@@ -153,37 +153,38 @@ module _ (s : Settings) (r : Record) where
         (λ e. refl) (λ e. absurd (c (omega arith) (omega arith))) (λ e. absurd (c (omega arith) (omega arith))) (λ e. absurd (c (omega arith) (omega arith))) (λ e. absurd (c (omega arith) (omega arith))) (λ e. refl)
         (λ e. absurd (d (omega arith) (omega arith))) (λ e. absurd (d (omega arith) (omega arith))) (λ e. absurd (d (omega arith) (omega arith))) (λ e. refl) (λ e. refl) (λ e. refl)
 
-    -- ---- the grip by phase
+-- ---- the grip by phase
 
-    pub grip-ticket : p ≡ 1 → differ (r .grip) 0 ≡ gripLacking s r (phaseOf p)
-    unfolding gripLacking phaseOf choose
-    grip-ticket e = ap (λ (n : ℕ). gripLacking s r (phaseOf n)) (sym e)
+module _ (leaf : Bool) (grip p : ℕ) where
+  pub grip-ticket : p ≡ 1 → differ grip 0 ≡ lacksGrip leaf grip (phaseOf p)
+  unfolding lacksGrip phaseOf choose
+  grip-ticket e = ap (λ (n : ℕ). lacksGrip leaf grip (phaseOf n)) (sym e)
 
-    pub grip-turn : p ≡ 2 → differ (r .grip) 1 ≡ gripLacking s r (phaseOf p)
-    unfolding gripLacking phaseOf choose
-    grip-turn e = ap (λ (n : ℕ). gripLacking s r (phaseOf n)) (sym e)
+  pub grip-turn : p ≡ 2 → differ grip 1 ≡ lacksGrip leaf grip (phaseOf p)
+  unfolding lacksGrip phaseOf choose
+  grip-turn e = ap (λ (n : ℕ). lacksGrip leaf grip (phaseOf n)) (sym e)
 
-    pub grip-climbing : 3 ≤ p → p < 6 → differ (r .grip) (choose (isLeaf s (currentPiece r)) 0 2) ≡ gripLacking s r (phaseOf p)
-    unfolding gripLacking
-    grip-climbing a b =
-        on-phase p (λ f. differ (r .grip) (choose (isLeaf s (currentPiece r)) 0 2) ≡ gripLacking s r f)
-        (λ e. absurd (omega arith)) (λ e. absurd (omega arith)) (λ e. absurd (omega arith)) (λ e. refl) (λ e. refl) (λ e. refl)
-        (λ e. absurd (omega arith)) (λ e. absurd (omega arith)) (λ e. absurd (omega arith)) (λ e. absurd (omega arith)) (λ e. absurd (omega arith)) (λ e. absurd (omega arith))
+  pub grip-climbing : 3 ≤ p → p < 6 → differ grip (choose leaf 0 2) ≡ lacksGrip leaf grip (phaseOf p)
+  unfolding lacksGrip
+  grip-climbing a b =
+      on-phase p (λ f. differ grip (choose leaf 0 2) ≡ lacksGrip leaf grip f)
+      (λ e. absurd (omega arith)) (λ e. absurd (omega arith)) (λ e. absurd (omega arith)) (λ e. refl) (λ e. refl) (λ e. refl)
+      (λ e. absurd (omega arith)) (λ e. absurd (omega arith)) (λ e. absurd (omega arith)) (λ e. absurd (omega arith)) (λ e. absurd (omega arith)) (λ e. absurd (omega arith))
 
-    pub grip-taken : 6 ≤ p → p < 10 → differ (r .grip) 3 ≡ gripLacking s r (phaseOf p)
-    unfolding gripLacking
-    grip-taken a b =
-        on-phase p (λ f. differ (r .grip) 3 ≡ gripLacking s r f)
-        (λ e. absurd (omega arith)) (λ e. absurd (omega arith)) (λ e. absurd (omega arith)) (λ e. absurd (omega arith)) (λ e. absurd (omega arith)) (λ e. absurd (omega arith))
-        (λ e. refl) (λ e. refl) (λ e. refl) (λ e. refl) (λ e. absurd (omega arith)) (λ e. absurd (omega arith))
+  pub grip-taken : 6 ≤ p → p < 10 → differ grip 3 ≡ lacksGrip leaf grip (phaseOf p)
+  unfolding lacksGrip
+  grip-taken a b =
+      on-phase p (λ f. differ grip 3 ≡ lacksGrip leaf grip f)
+      (λ e. absurd (omega arith)) (λ e. absurd (omega arith)) (λ e. absurd (omega arith)) (λ e. absurd (omega arith)) (λ e. absurd (omega arith)) (λ e. absurd (omega arith))
+      (λ e. refl) (λ e. refl) (λ e. refl) (λ e. refl) (λ e. absurd (omega arith)) (λ e. absurd (omega arith))
 
-    pub grip-returning : p ≡ 10 → choose (isLeaf s (currentPiece r)) (differ (r .grip) 0 && differ (r .grip) 3) (ltb 3 (r .grip)) ≡ gripLacking s r (phaseOf p)
-    unfolding gripLacking phaseOf choose
-    grip-returning e = ap (λ (n : ℕ). gripLacking s r (phaseOf n)) (sym e)
+  pub grip-returning : p ≡ 10 → choose leaf (differ grip 0 && differ grip 3) (ltb 3 grip) ≡ lacksGrip leaf grip (phaseOf p)
+  unfolding lacksGrip phaseOf choose
+  grip-returning e = ap (λ (n : ℕ). lacksGrip leaf grip (phaseOf n)) (sym e)
 
-    pub grip-none : (1 ≤ p → p < 11 → ⊥) → false ≡ gripLacking s r (phaseOf p)
-    unfolding gripLacking
-    grip-none c =
-        on-phase p (λ f. false ≡ gripLacking s r f)
-        (λ e. refl) (λ e. absurd (c (omega arith) (omega arith))) (λ e. absurd (c (omega arith) (omega arith))) (λ e. absurd (c (omega arith) (omega arith))) (λ e. absurd (c (omega arith) (omega arith))) (λ e. absurd (c (omega arith) (omega arith)))
-        (λ e. absurd (c (omega arith) (omega arith))) (λ e. absurd (c (omega arith) (omega arith))) (λ e. absurd (c (omega arith) (omega arith))) (λ e. absurd (c (omega arith) (omega arith))) (λ e. absurd (c (omega arith) (omega arith))) (λ e. refl)
+  pub grip-none : (1 ≤ p → p < 11 → ⊥) → false ≡ lacksGrip leaf grip (phaseOf p)
+  unfolding lacksGrip
+  grip-none c =
+      on-phase p (λ f. false ≡ lacksGrip leaf grip f)
+      (λ e. refl) (λ e. absurd (c (omega arith) (omega arith))) (λ e. absurd (c (omega arith) (omega arith))) (λ e. absurd (c (omega arith) (omega arith))) (λ e. absurd (c (omega arith) (omega arith))) (λ e. absurd (c (omega arith) (omega arith)))
+      (λ e. absurd (c (omega arith) (omega arith))) (λ e. absurd (c (omega arith) (omega arith))) (λ e. absurd (c (omega arith) (omega arith))) (λ e. absurd (c (omega arith) (omega arith))) (λ e. absurd (c (omega arith) (omega arith))) (λ e. refl)

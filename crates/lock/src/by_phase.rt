@@ -7,7 +7,7 @@ ghost use lib.ListN.{length};
 ghost use Rattle.base.specs.Choice.{choose};
 ghost use Rattle.tree.specs.Lists.{notifyList};
 ghost use Rattle.lock.specs.Types.{phaseOf, pieces, currentPiece, isLeaf, noticesOf};
-ghost use Rattle.lock.specs.Readable.{differ, placePast, noticesWrong, phaseElsewhere, heldEarly, outcomeWrong, gripLacking};
+ghost use Rattle.lock.specs.Readable.{differ, placePast, noticesWrong, phaseElsewhere, heldEarly, outcomeWrong, lacksGrip};
 ghost use Rattle.lock.specs.ReadableLaws.{Begun, pastList};
 use crate::Record;
 use crate::Settings;
@@ -100,38 +100,36 @@ impl Record {
         }
         0 < self.outcome
     }
+}
 
-    // "in 10 0 or 3 for a leaf, else 0..3"
-    fn returning_grip_lacking(self, leaf: bool) -> bool
-        ensures { λ b. ⌜ b ≡ choose leaf (differ (self .grip) 0 && differ (self .grip) 3) (ltb 3 (self .grip)) ⌝ }
-    {
-        if leaf {
-            if self.grip == 0 {
-                return false;
-            }
-            return self.grip != 3;
+// "in 10 0 or 3 for a leaf, else 0..3"
+fn returning_grip_lacking(grip: u64, leaf: bool) -> bool
+    ensures { λ b. ⌜ b ≡ choose leaf (differ grip 0 && differ grip 3) (ltb 3 grip) ⌝ }
+{
+    if leaf {
+        if grip == 0 {
+            return false;
         }
-        3 < self.grip
+        return grip != 3;
     }
+    3 < grip
+}
 
-    // "a grip the phase lacks"
-    pub(crate) fn grip_lacking(self, settings: Settings, leaf: bool) -> bool
-        requires { ⌜ leaf ≡ isLeaf settings (currentPiece self) ⌝ }
-        ensures { λ b. ⌜ b ≡ gripLacking settings self (phaseOf (self .phase)) ⌝ }
-    {
-        let phase = self.phase;
-        match phase {
-            1 => self.grip != 0,
-            2 => self.grip != 1,
-            3 | 4 | 5 => {
-                if leaf {
-                    return self.grip != 0;
-                }
-                self.grip != 2
+// "a grip the phase lacks", by numbers, so that no record is copied for it
+pub(crate) fn grip_lacking(phase: u64, grip: u64, leaf: bool) -> bool
+    ensures { λ b. ⌜ b ≡ lacksGrip leaf grip (phaseOf phase) ⌝ }
+{
+    match phase {
+        1 => grip != 0,
+        2 => grip != 1,
+        3 | 4 | 5 => {
+            if leaf {
+                return grip != 0;
             }
-            6 | 7 | 8 | 9 => self.grip != 3,
-            10 => self.returning_grip_lacking(leaf),
-            _ => false,
+            grip != 2
         }
+        6 | 7 | 8 | 9 => grip != 3,
+        10 => returning_grip_lacking(grip, leaf),
+        _ => false,
     }
 }

@@ -6,7 +6,7 @@ ghost use mathlib.Core.Bool.{_||_};
 ghost use lib.Dec.{eqb};
 ghost use lib.ListN.{length, getD};
 ghost use Rattle.lock.specs.declared.Stepped.{Stepped};
-ghost use Rattle.lock.specs.Types.{wordAt, written};
+ghost use Rattle.lock.specs.Types.{wordAt, written, toPhase, withOutcome};
 ghost use Rattle.lock.specs.Calls.{requested, cancelled, requestAnswer, releaseAnswer, cancelAnswer, stepAnswer, stepWords};
 ghost use Rattle.lock.specs.CallLaws.{TreeTested};
 ghost use Rattle.lock.specs.Active.{Settled};
@@ -145,8 +145,30 @@ impl Record {
         }
     }
 
+    // "set outcome 1 or 3 and phase 10"
+    fn sent_back(self, outcome: u64) -> Record
+        ensures { λ r. ⌜ r ≡ toPhase 10 (withOutcome outcome self) ⌝ }
+    {
+        Record {
+            phase: 10,
+            outcome: outcome,
+            left: self.left,
+            right: self.right,
+            first: self.first,
+            second: self.second,
+            current: self.current,
+            giving: self.giving,
+            grip: self.grip,
+            ticket: self.ticket,
+            place: 0,
+            notices: self.notices,
+            t1: self.t1,
+            t0: self.t0,
+        }
+    }
+
     // Tests 1, 2, 6, 8. "Release (from 9)": outcome 1 and phase 10.
-    pub fn release(mut self, words: &mut [u64], settings: Settings, call: Call) -> Stepped
+    pub fn release(self, words: &mut [u64], settings: Settings, call: Call) -> Stepped
         ensures answer { λ s. ⌜ s ≡ releaseAnswer settings (call .last) self (now (words .entry)) ⌝ }
         ensures words { λ s. ⌜ now (words .exit) ≡ now (words .entry) ⌝ }
     {
@@ -160,27 +182,22 @@ impl Record {
         if self.phase != 9 {
             return self.refused(8, call.last);
         }
-        self.outcome = 1;
-        self.phase = 10;
-        self.place = 0;
+        let next = self.sent_back(1);
         Stepped {
             number: 0,
             clock: call.last,
-            next: self,
+            next: next,
         }
     }
 
     // "cancel (from 1..8)", or idle where there is nothing to give back.
-    fn cancelled(mut self) -> Record
+    fn cancelled(self) -> Record
         ensures { λ r. ⌜ r ≡ cancelled self ⌝ }
     {
         if self.grip_of(0) == 0 {
             return Record::idle_with(3);
         }
-        self.outcome = 3;
-        self.phase = 10;
-        self.place = 0;
-        self
+        self.sent_back(3)
     }
 
     // "cancel in 0, 9 or 10"

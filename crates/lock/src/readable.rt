@@ -6,6 +6,7 @@ ghost use Rattle.lock.specs.Active.{Settled};
 ghost use Rattle.lock.specs.ReadableLaws.{Begun, fieldsWrong};
 use crate::Record;
 use crate::Settings;
+use crate::by_phase::grip_lacking;
 
 impl Record {
     // "a phase over 10 or outcome over 3"
@@ -125,7 +126,7 @@ impl Record {
         if self.outcome_wrong() {
             return true;
         }
-        if self.grip_lacking(settings, leaf) {
+        if grip_lacking(self.phase, self.grip, leaf) {
             return true;
         }
         self.giving_wrong()

@@ -20,11 +20,15 @@ returns c =
     let r = c .before .before .before .args .self in
     c .idle-with .ensures ∙ sym (choose-eq (gripOf r 0) 0 _ _ (sym (c .before .before .grip-of .ensures) ∙ c .before .if1 .taken))
 
+sent-back-requires : tie.Need-sent-back-requires
+sent-back-requires c κs = search needs
+
 returns-2 : tie.Need-returns-2
 unfolding cancelled
 returns-2 c =
-    let r = c .before .before .args .self in
-    sym (choose-ne (gripOf r 0) 0 (idleWith 3) _ (λ e. c .if1 .left (c .before .grip-of .ensures ∙ e)))
+    let r = c .before .before .before .args .self in
+    c .sent-back .ensures ∙ sym (choose-ne (gripOf r 0) 0 (idleWith 3) _ (λ e. c .before .if1 .left (c .before .before .grip-of .ensures ∙ e)))
 
 pub cancelled-spec : {M : Type 1} → statement M
-cancelled-spec = tie.close (tie.spec grip-of-requires idle-with-requires returns returns-2)
+cancelled-spec =
+    tie.close (tie.spec grip-of-requires idle-with-requires returns sent-back-requires returns-2)

@@ -5,7 +5,7 @@ use borrow.Author.Tests.{lt-ltb, le-ltb}
 use lib.ListN.{length}
 use Rattle.tree.specs.Lists.{notifyList}
 use Rattle.lock.specs.Types.{phaseOf, isLeaf}
-use Rattle.lock.specs.Readable.{ticketTooLarge, placePast, noticesWrong, timeAhead, phaseElsewhere, heldEarly, outcomeWrong, gripLacking}
+use Rattle.lock.specs.Readable.{ticketTooLarge, placePast, noticesWrong, timeAhead, phaseElsewhere, heldEarly, outcomeWrong, gripLacking, lacksGrip}
 use Rattle.lock.specs.ReadableLaws.{true-first, true-later, next-test, fieldsWrong, piece-node-12}
 use borrow.Author.Needs.{needs}
 use Rattle.lock.proofs.Record.fields_wrong.Statement.{statement}
@@ -103,9 +103,7 @@ returns-7 c =
     true-later (ticketTooLarge r) _ (true-later (placePast s r) _ (true-later (noticesWrong s r) _ (true-later (timeAhead last r) _ (true-later (phaseElsewhere s r (phaseOf (r .phase))) _ (true-later (heldEarly r) _ (true-first (outcomeWrong r) _ (sym (c .before .outcome-wrong .ensures) ∙ c .if7 .taken)))))))
 
 grip-lacking-requires : tie.Need-grip-lacking-requires
-grip-lacking-requires c κs =
-    let s = c .before .before .before .before .before .before .before .before .before .before .before .before .before .before .before .before .before .args .settings in
-    c .before .before .before .before .before .before .is-leaf .ensures ∙ ap (isLeaf s) (c .before .before .before .before .before .before .before .before .before .before .before .before .before .before .piece-at .ensures)
+grip-lacking-requires c κs = search needs
 
 returns-8 : tie.Need-returns-8
 unfolding fieldsWrong
@@ -113,7 +111,7 @@ returns-8 c =
     let s = c .before .before .before .before .before .before .before .before .before .before .before .before .before .before .before .before .before .before .before .args .settings in
     let r = c .before .before .before .before .before .before .before .before .before .before .before .before .before .before .before .before .before .before .before .args .self in
     let last = c .before .before .before .before .before .before .before .before .before .before .before .before .before .before .before .before .before .before .before .args .last in
-    true-later (ticketTooLarge r) _ (true-later (placePast s r) _ (true-later (noticesWrong s r) _ (true-later (timeAhead last r) _ (true-later (phaseElsewhere s r (phaseOf (r .phase))) _ (true-later (heldEarly r) _ (true-later (outcomeWrong r) _ (true-first (gripLacking s r (phaseOf (r .phase))) _ (sym (c .before .grip-lacking .ensures) ∙ c .if8 .taken))))))))
+    true-later (ticketTooLarge r) _ (true-later (placePast s r) _ (true-later (noticesWrong s r) _ (true-later (timeAhead last r) _ (true-later (phaseElsewhere s r (phaseOf (r .phase))) _ (true-later (heldEarly r) _ (true-later (outcomeWrong r) _ (true-first (gripLacking s r (phaseOf (r .phase))) _ (ap (λ b. lacksGrip b (r .grip) (phaseOf (r .phase))) (sym (c .before .before .before .before .before .before .before .before .is-leaf .ensures ∙ ap (isLeaf s) (c .before .before .before .before .before .before .before .before .before .before .before .before .before .before .before .before .piece-at .ensures))) ∙ sym (c .before .grip-lacking .ensures) ∙ c .if8 .taken))))))))
 
 giving-wrong-requires : tie.Need-giving-wrong-requires
 giving-wrong-requires c κs = search needs
@@ -131,7 +129,7 @@ returns-9 c =
     (next-test _ (phaseElsewhere s r (phaseOf (r .phase))) _ (sym (c .before .before .before .before .before .before .before .before .phase-elsewhere .ensures) ∙ c .before .before .before .before .before .before .before .if5 .left)
     (next-test _ (heldEarly r) _ (sym (c .before .before .before .before .before .before .held-early .ensures) ∙ c .before .before .before .before .before .if6 .left)
     (next-test _ (outcomeWrong r) _ (sym (c .before .before .before .before .outcome-wrong .ensures) ∙ c .before .before .before .if7 .left)
-    (next-test _ (gripLacking s r (phaseOf (r .phase))) _ (sym (c .before .before .grip-lacking .ensures) ∙ c .before .if8 .left)
+    (next-test _ (gripLacking s r (phaseOf (r .phase))) _ (ap (λ b. lacksGrip b (r .grip) (phaseOf (r .phase))) (sym (c .before .before .before .before .before .before .before .before .before .is-leaf .ensures ∙ ap (isLeaf s) (c .before .before .before .before .before .before .before .before .before .before .before .before .before .before .before .before .before .piece-at .ensures))) ∙ sym (c .before .before .grip-lacking .ensures) ∙ c .before .if8 .left)
     (c .giving-wrong .ensures))))))))
 
 pub fields-wrong-spec : {M : Type 1} → statement M

@@ -7,6 +7,7 @@ use borrow.Author.Needs.{needs}
 use borrow.Author.Tests.{eq-eqb, ne-eqb}
 use lib.ListN.{length}
 use Rattle.tree.specs.Tree.{last}
+use Rattle.lock.specs.declared.Record.{Record}
 use Rattle.lock.specs.Readable.{differ, unreadable}
 use Rattle.lock.specs.Calls.{released, firstCause, releaseTests, releaseAnswer}
 use Rattle.lock.specs.CallLaws.{cause-hit, cause-skip, answer-accepted, refused-by, own-unreadable, own-rest}
@@ -82,21 +83,25 @@ returns-3 c =
       refl,
     )
 
+sent-back-requires : tie.Need-sent-back-requires
+sent-back-requires c κs = search needs
+
 returns-4 : tie.Need-returns-4
 unfolding releaseAnswer releaseTests released firstCause
 returns-4 c =
-    let a = c .before .before .before .before .before .before .before .args in
+    let a = c .before .before .before .before .before .before .before .before .args in
     let ws = a .words .now in
     let s = a .settings in
     let r = a .self in
-    let t = c .before .before .before .before .before .tree-cause .ensures in
-    let z = c .before .before .before .before .if1 .left in
+    let t = c .before .before .before .before .before .before .tree-cause .ensures in
+    let z = c .before .before .before .before .before .if1 .left in
     let o = t .settings z in
     let n = t .count-right z in
     let v = settled s o in
-    let u = sym (c .before .before .before .unreadable .ensures) ∙ c .before .before .if2 .left in (
-      sym (answer-accepted _ (a .call .last) (a .call .last) r _ (own-rest s (a .call .last) r (length ws) o n _ u
-          ∙ cause-skip (differ (r .phase) 9) 8 [] (ap not (eq-eqb (r .phase) 9 (c .if3 .left))))),
+    let u = sym (c .before .before .before .before .unreadable .ensures) ∙ c .before .before .before .if2 .left in (
+      ap (λ (y : Record). record { number = 0; clock = a .call .last; next = y }) (c .sent-back .ensures)
+          ∙ sym (answer-accepted _ (a .call .last) (a .call .last) r _ (own-rest s (a .call .last) r (length ws) o n _ u
+          ∙ cause-skip (differ (r .phase) 9) 8 [] (ap not (eq-eqb (r .phase) 9 (c .before .if3 .left))))),
       refl,
     )
 
@@ -112,4 +117,5 @@ release-spec =
     returns-2
     refused-requires-3
     returns-3
+    sent-back-requires
     returns-4)
