@@ -17,3 +17,10 @@ pub mod Steps
 pub mod Table
 pub mod Touched
 pub mod Types
+pub mod Owned
+pub mod Fit
+pub mod Effect
+pub mod Kept
+pub mod Stage
+pub mod Times
+pub mod Timed
