@@ -69,6 +69,11 @@ module _ (f g : ℕ → ℕ) where
   to-same zero h = refl
   to-same (suc n) h = omega (arith, h n (omega arith), to-same n (λ i b. h i (omega arith)))
 
+  pub to-mono : (n : ℕ) → ((i : ℕ) → i < n → f i ≤ g i) → sumTo n f ≤ sumTo n g
+  unfolding sumTo
+  to-mono zero h = omega arith
+  to-mono (suc n) h = omega (arith, h n (omega arith), to-mono n (λ i b. h i (omega arith)))
+
   -- equal but at k
   pub to-one : (n k : ℕ) → k < n → ((i : ℕ) → i < n → i ≢ k → f i ≡ g i) → sumTo n f + g k ≡ sumTo n g + f k
   unfolding sumTo

@@ -1,7 +1,7 @@
 -- Laws: what is known of every record of a table after a history: it is idle, or its pieces are its window's cover and its fields fit its phase.
 -- Assumes nothing.
 use mathlib.Core.Path.{_≡_, refl, sym, ap, subst, _∙_}
-use mathlib.Core.Logic.{_≢_, _⊎_, inl, inr}
+use mathlib.Core.Logic.{_≢_, _⊎_, inl, inr, ⊎-elim}
 use mathlib.Core.List.{List, [], _∷_}
 use Prim.Native.Nat.{ℕ, zero, suc, _≤_, _<_}
 use native.Mathlib.Omega.{arith}
@@ -156,3 +156,23 @@ module _ (s : Settings) (last : ℕ) (r : Record) (v : Live s last r) where
       (λ l. let e : i ≡ r .current = omega arith in
       let f : length (notifyList (s .distance) (pieceAt r i)) ≡ length (notifyList (s .distance) (currentPiece r)) = ap (λ (j : ℕ). length (notifyList (s .distance) (pieceAt r j))) e in
       omega (arith, noticed-begun s r i q, notices-current r i s l, v .listed)))
+
+pub fit-past : (s : Settings) (last : ℕ) (r : Record) → Fit s last r → r .t1 ≤ last
+fit-past s last r v = ⊎-elim (λ e. omega (arith, ap (λ x. x .t1) e)) (λ l. l .t1-past) v
+
+pub fit-later : (s : Settings) (last now : ℕ) (r : Record) → last ≤ now → Fit s last r → Fit s now r
+fit-later s last now r b v =
+    ⊎-elim inl
+    (λ l. inr (record {
+      window = l .window;
+      cover = l .cover;
+      exists = l .exists;
+      some = l .some;
+      most = l .most;
+      claimed = l .claimed;
+      all-noticed = l .all-noticed;
+      listed = l .listed;
+      whole = l .whole;
+      t1-past = omega (arith, l .t1-past);
+    }))
+    v

@@ -24,3 +24,5 @@ pub mod Kept
 pub mod Stage
 pub mod Times
 pub mod Timed
+pub mod Bits
+pub mod Invariant

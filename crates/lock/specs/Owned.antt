@@ -6,8 +6,8 @@ use Prim.Native.Nat.{ℕ, zero, suc, _≤_, _<_}
 use native.Mathlib.Omega.{arith}
 use lib.Dec.{eqb, leb, ltb, eqb→eq, leb→le, ltb→lt}
 use lib.ListN.{length, getD}
-use Rattle.base.specs.Choice.{choose, on-choose, choose-no, choose-eq, choose-ne, choose-lt, choose-ge, choose-le, choose-gt, by-lt}
-use Rattle.base.specs.Sum.{sumTo, to-same, to-one, to-zero, to-only, to-at, to-le, to-once}
+use Rattle.base.specs.Choice.{choose, on-choose, choose-yes, choose-no, choose-eq, choose-ne, choose-lt, choose-ge, choose-le, choose-gt, by-lt}
+use Rattle.base.specs.Sum.{sumTo, to-same, to-mono, to-one, to-zero, to-only, to-at, to-le, to-once}
 use Rattle.tree.specs.Tree.{leaf}
 use Rattle.tree.specs.Lists.{notifyList}
 use Rattle.lock.specs.declared.Record.{Record}
@@ -96,6 +96,16 @@ module _ (s : Settings) (r : Record) (i : ℕ) where
   noticed-none b = choose-gt i (r .current) _ 0 b
 
 -- ---- laws of all pieces
+
+-- who has Occ has its turn, and who has its turn has a ticket
+pub owns-falls : (s : Settings) (k n : ℕ) (r : Record) → owns s (suc k) n r ≤ owns s k n r
+unfolding owns
+owns-falls s k n r =
+    to-mono _ _ (length (pieces r)) (λ i b.
+    on-choose (λ (x : ℕ). x ≤ choose (eqb (pieceAt r i) n) (reaches k (gripped s r i)) 0) (eqb (pieceAt r i) n) _ 0
+    (λ t. let e = choose-yes (eqb (pieceAt r i) n) (reaches k (gripped s r i)) 0 t in
+    by-lt k (gripped s r i) (λ l. omega (arith, reaches-le (suc k) (gripped s r i), reaches-yes k (gripped s r i) (omega arith))) (λ l. omega (arith, reaches-no (suc k) (gripped s r i) (omega arith))))
+    (λ t. omega arith))
 
 -- two records with the same pieces, whose pieces stand the same, own the same
 module _ (s : Settings) (r q : Record) (p : pieces q ≡ pieces r) where
