@@ -26,3 +26,4 @@ pub mod Times
 pub mod Timed
 pub mod Bits
 pub mod Invariant
+pub mod Changes
