@@ -1,3 +1,4 @@
+pub mod Accepted
 pub mod Active
 pub mod ActiveLaws
 pub mod CallLaws
