@@ -36,7 +36,7 @@ unfoldable pub Some : (Event → Type 0) → List Event → Type 0
 Some P [] = ⊥
 Some P (e ∷ es) = P e ⊎ Some P es
 
--- ---- the calls of the client c, and those that were accepted
+-- ---- the calls of the client c, those that were accepted, and those that gave its record back in phase p
 
 abbrev pub CallOf : ℕ → Call → Type 0
 CallOf c k = clientOf k ≡ c
@@ -62,6 +62,9 @@ ReleaseOf c (cancel d) = ⊥
 abbrev pub Accepted : (Call → Type 0) → Event → Type 0
 Accepted K e = (e .number ≡ 0) × K (e .made)
 
+abbrev pub GaveBackIn : ℕ → (Call → Type 0) → Event → Type 0
+GaveBackIn p K e = Accepted K e × (e .phase ≡ p)
+
 -- [l, r) are "the edges of its last accepted request", and `since` is what came after that request
 pub record LastRequest (h : List Event) (c l r : ℕ) (since : List Event) : Type 0 where
   pub before : List Event
@@ -77,7 +80,7 @@ pub record LastRequest (h : List Event) (c l r : ℕ) (since : List Event) : Typ
 pub record Holds (h : List Event) (c l r : ℕ) : Type 0 where
   pub since : List Event
   pub asked : LastRequest h c l r since
-  pub taken : Some (λ e. Accepted (StepOf c) e × (e .phase ≡ 9)) since
+  pub taken : Some (GaveBackIn 9 (StepOf c)) since
   pub kept : Some (Accepted (ReleaseOf c)) since → ⊥
 
 -- ---- "It is idle if no request of it was accepted, or an accepted call of it since the last such request gave its record back in phase 0."
@@ -87,7 +90,7 @@ pub record GivenBack (h : List Event) (c : ℕ) : Type 0 where
   pub right : ℕ
   pub since : List Event
   pub asked : LastRequest h c left right since
-  pub returned : Some (λ e. Accepted (CallOf c) e × (e .phase ≡ 0)) since
+  pub returned : Some (GaveBackIn 0 (CallOf c)) since
 
 abbrev pub Idle : List Event → ℕ → Type 0
 Idle h c = (Some (Accepted (RequestOf c)) h → ⊥) ⊎ GivenBack h c

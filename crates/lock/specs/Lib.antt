@@ -7,6 +7,7 @@ pub mod Calls
 pub mod CoverLaws
 pub mod Example
 pub mod History
+pub mod HistoryExample
 pub mod MoveLaws
 pub mod Phases
 pub mod Pieces

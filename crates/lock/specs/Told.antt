@@ -15,7 +15,7 @@ use Rattle.lock.specs.Table.{State, Call, request, step, release, cancel
 use Rattle.lock.specs.Phases.{at-idle, at-held}
 use Rattle.lock.specs.Accepted.{accepted, request-tested, release-tested, cancel-tested}
 use Rattle.lock.specs.AfterCall.{recordAfter, own-record, on-call, HasEdges, EdgesOrIdle, edges-moved}
-use Rattle.lock.specs.History.{run, Event, event, events, Some, CallOf, RequestOf, StepOf, ReleaseOf, Accepted, Holds, Idle}
+use Rattle.lock.specs.History.{run, Event, event, events, Some, CallOf, RequestOf, StepOf, ReleaseOf, Accepted, GaveBackIn, Holds, Idle}
 
 -- "0 idle, 9 held | nothing"
 module _ (s : Settings) (st : State) (c t : ℕ) where
@@ -81,7 +81,7 @@ module _ (s : Settings) (c : ℕ) where
   idle-run : (ks : List Call) (st : State) → recordAt st c .phase ≡ 0 → (Some (Accepted (RequestOf c)) (events s st ks) → ⊥) → recordAt (run s st ks) c .phase ≡ 0
   idle-run = over-run s (λ r. r .phase ≡ 0) RequestOf (idle-after s) c
 
-  returned-run : (ks : List Call) (st : State) → Some (λ e. Accepted (CallOf c) e × (e .phase ≡ 0)) (events s st ks)
+  returned-run : (ks : List Call) (st : State) → Some (GaveBackIn 0 (CallOf c)) (events s st ks)
       → (Some (Accepted (RequestOf c)) (events s st ks) → ⊥) → recordAt (run s st ks) c .phase ≡ 0
   unfolding run events Some
   returned-run [] st x none = absurd x
@@ -109,7 +109,7 @@ module _ (s : Settings) (c : ℕ) where
     edges-held r (inl z) e = absurd (omega arith)
     edges-held r (inr h) e = (e, h .0, h .1)
 
-    taken-run : (ks : List Call) (st : State) → EdgesOrIdle l q (recordAt st c) → Some (λ e. Accepted (StepOf c) e × (e .phase ≡ 9)) (events s st ks)
+    taken-run : (ks : List Call) (st : State) → EdgesOrIdle l q (recordAt st c) → Some (GaveBackIn 9 (StepOf c)) (events s st ks)
         → (Some (Accepted (RequestOf c)) (events s st ks) → ⊥) → (Some (Accepted (ReleaseOf c)) (events s st ks) → ⊥) → Held l q (recordAt (run s st ks) c)
     unfolding run events Some
     taken-run [] st h x none kept = absurd x
@@ -148,7 +148,7 @@ holds-record s st ks c l r h =
     (λ at k rest e f.
     taken-run s c l r rest (call s at k .state)
     (inr (request-edges s at k c l r (ap (λ (x : Event). x .number) e ∙ a .accepted) (ap (λ (x : Event). x .made) e ∙ a .edges)))
-    (subst (Some (λ x. Accepted (StepOf c) x × (x .phase ≡ 9))) (sym f) (h .taken))
+    (subst (Some (GaveBackIn 9 (StepOf c))) (sym f) (h .taken))
     (λ x. a .last (subst (Some (Accepted (RequestOf c))) f x))
     (λ x. h .kept (subst (Some (Accepted (ReleaseOf c))) f x)))
     ks st (a .before) (a .whole)
@@ -159,6 +159,6 @@ idle-record s st ks c z (inr h) =
     let a = h .asked in
     at-request s (λ x. recordAt x c .phase ≡ 0) (a .asked) (h .since)
     (λ at k rest e f.
-    returned-run s c rest (call s at k .state) (subst (Some (λ x. Accepted (CallOf c) x × (x .phase ≡ 0))) (sym f) (h .returned))
+    returned-run s c rest (call s at k .state) (subst (Some (GaveBackIn 0 (CallOf c))) (sym f) (h .returned))
     (λ x. a .last (subst (Some (Accepted (RequestOf c))) f x)))
     ks st (a .before) (a .whole)
