@@ -3,7 +3,7 @@ use mathlib.Core.Path.{_≡_, refl, sym, ap, _∙_, subst}
 use mathlib.Core.Logic.{_⊎_, inl, inr}
 use Prim.Native.Nat.{ℕ}
 use lib.Dec.{eqb, eqb→eq}
-use lib.ListN.{getD, set}
+use lib.ListN.{length, getD, set, length-set}
 use lib.Seq.{getD-set-same, getD-set-other}
 use Rattle.base.specs.Choice.{on-choose, choose-eq, by-eq}
 use Rattle.lock.specs.declared.Moved.{Moved}
@@ -57,6 +57,12 @@ module _ (s : Settings) (st : State) where
       let a = eqb→eq (numberOf s st k) 0 t in
       by-eq (clientOf k) c (λ e. subst P (sym (own-after k c a e)) (new a e)) (λ d. subst P (sym (other-after k c d)) old))
       (λ _. old)
+
+  pub count-after : (k : Call) → length (call s st k .state .records) ≡ length (st .records)
+  unfolding call
+  count-after k =
+      on-choose (λ x. length (x .records) ≡ length (st .records)) (eqb (numberOf s st k) 0) (after s st k) st
+      (λ _. ap length (records-after k) ∙ length-set (st .records) (clientOf k) (recordAfter s st k)) (λ _. refl)
 
 -- ---- a step leaves the edges as the request set them, or makes the record idle
 

@@ -3,18 +3,19 @@
 use mathlib.Core.Path.{_≡_, refl, sym, ap, _∙_, subst}
 use mathlib.Core.Logic.{inl, inr}
 use mathlib.Core.List.{List, [], _∷_, _++_, cons-ne-nil, head-eq-of-cons-eq, tail-eq-of-cons-eq}
-use Prim.Native.Nat.{ℕ}
+use Prim.Native.Nat.{ℕ, _<_}
 use native.Mathlib.Omega.{arith}
-use Rattle.base.specs.Choice.{on-choose}
+use lib.ListN.{length, List·getD-eq-default}
+use Rattle.base.specs.Choice.{on-choose, by-lt}
 use Rattle.lock.specs.declared.Record.{Record}
 use Rattle.lock.specs.declared.Settings.{Settings}
-use Rattle.lock.specs.Types.{phaseOf, wordAt}
+use Rattle.lock.specs.Types.{phaseOf, wordAt, idleWith}
 use Rattle.lock.specs.Steps.{touched, movedIn}
 use Rattle.lock.specs.Calls.{requested, released, cancelled}
 use Rattle.lock.specs.Table.{State, Call, request, step, release, cancel, clientOf, recordAt, numberOf, call}
 use Rattle.lock.specs.Phases.{at-idle, at-held}
 use Rattle.lock.specs.Accepted.{accepted, request-tested, release-tested, cancel-tested}
-use Rattle.lock.specs.AfterCall.{recordAfter, own-record, on-call, HasEdges, EdgesOrIdle, edges-moved}
+use Rattle.lock.specs.AfterCall.{recordAfter, own-record, on-call, count-after, HasEdges, EdgesOrIdle, edges-moved}
 use Rattle.lock.specs.History.{run, Event, event, events, Some, CallOf, RequestOf, StepOf, ReleaseOf, Accepted, GaveBackIn, Holds, Idle}
 
 -- "0 idle, 9 held | nothing"
@@ -52,7 +53,8 @@ module _ (s : Settings) (st : State) where
     held-after (release c) n other h = absurd (other refl)
     held-after (cancel c) n other h = absurd (cancel-tested s st c (accepted s st (cancel c) n .own) .2 (h .0))
 
-    edges-after : (k : Call) → numberOf s st k ≡ 0 → (RequestOf (clientOf k) k → ⊥) → EdgesOrIdle l q (recordAt st (clientOf k)) → EdgesOrIdle l q (recordAfter s st k)
+    edges-after : (k : Call) → numberOf s st k ≡ 0 → (RequestOf (clientOf k) k → ⊥) → EdgesOrIdle l q (recordAt st (clientOf k))
+        → EdgesOrIdle l q (recordAfter s st k)
     unfolding clientOf RequestOf recordAfter released cancelled
     edges-after k n other (inl z) = inl (idle-after k n other z)
     edges-after (request c a b) n other (inr e) = absurd (other refl)
@@ -78,7 +80,8 @@ module _ (s : Settings) (P : Record → Type 0) (K : ℕ → Call → Type 0)
 -- ---- the calls after the last accepted request
 
 module _ (s : Settings) (c : ℕ) where
-  idle-run : (ks : List Call) (st : State) → recordAt st c .phase ≡ 0 → (Some (Accepted (RequestOf c)) (events s st ks) → ⊥) → recordAt (run s st ks) c .phase ≡ 0
+  idle-run : (ks : List Call) (st : State) → recordAt st c .phase ≡ 0
+      → (Some (Accepted (RequestOf c)) (events s st ks) → ⊥) → recordAt (run s st ks) c .phase ≡ 0
   idle-run = over-run s (λ r. r .phase ≡ 0) RequestOf (idle-after s) c
 
   returned-run : (ks : List Call) (st : State) → Some (GaveBackIn 0 (CallOf c)) (events s st ks)
@@ -102,7 +105,8 @@ module _ (s : Settings) (c : ℕ) where
         → EdgesOrIdle l q (recordAt (call s st k .state) c)
     edges-call = over-call s (EdgesOrIdle l q) RequestOf (λ st. edges-after s st l q) c
 
-    held-run : (ks : List Call) (st : State) → Held l q (recordAt st c) → (Some (Accepted (ReleaseOf c)) (events s st ks) → ⊥) → Held l q (recordAt (run s st ks) c)
+    held-run : (ks : List Call) (st : State) → Held l q (recordAt st c) → (Some (Accepted (ReleaseOf c)) (events s st ks) → ⊥)
+        → Held l q (recordAt (run s st ks) c)
     held-run = over-run s (Held l q) ReleaseOf (λ st. held-after s st l q) c
 
     edges-held : (r : Record) → EdgesOrIdle l q r → r .phase ≡ 9 → Held l q r
@@ -153,7 +157,8 @@ holds-record s st ks c l r h =
     (λ x. h .kept (subst (Some (Accepted (ReleaseOf c))) f x)))
     ks st (a .before) (a .whole)
 
-pub idle-record : (s : Settings) (st : State) (ks : List Call) (c : ℕ) → recordAt st c .phase ≡ 0 → Idle (events s st ks) c → recordAt (run s st ks) c .phase ≡ 0
+pub idle-record : (s : Settings) (st : State) (ks : List Call) (c : ℕ) → recordAt st c .phase ≡ 0 → Idle (events s st ks) c
+    → recordAt (run s st ks) c .phase ≡ 0
 idle-record s st ks c z (inl none) = idle-run s c ks st z none
 idle-record s st ks c z (inr h) =
     let a = h .asked in
@@ -162,3 +167,17 @@ idle-record s st ks c z (inr h) =
     returned-run s c rest (call s at k .state) (subst (Some (GaveBackIn 0 (CallOf c))) (sym f) (h .returned))
     (λ x. a .last (subst (Some (Accepted (RequestOf c))) f x)))
     ks st (a .before) (a .whole)
+
+-- ---- all clients: those below the table's count, and past it no record stands
+
+count-run : (s : Settings) (ks : List Call) (st : State) → length (run s st ks .records) ≡ length (st .records)
+unfolding run
+count-run s [] st = refl
+count-run s (k ∷ ks) st = count-run s ks (call s st k .state) ∙ count-after s st k
+
+pub all-idle : (s : Settings) (st : State) (ks : List Call) → ((c : ℕ) → recordAt st c .phase ≡ 0)
+    → ((c : ℕ) → c < length (st .records) → Idle (events s st ks) c) → (c : ℕ) → recordAt (run s st ks) c .phase ≡ 0
+unfolding recordAt
+all-idle s st ks z h c =
+    by-lt c (length (st .records)) (λ b. idle-record s st ks c (z c) (h c b))
+    (λ b. ap (λ (r : Record). r .phase) (List·getD-eq-default (run s st ks .records) (idleWith 0) (omega (arith, count-run s ks st))))
