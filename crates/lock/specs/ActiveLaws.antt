@@ -32,7 +32,7 @@ use Rattle.lock.specs.ReadableLaws.{Begun, pastList, place-is, list-clim
 use Rattle.lock.specs.Calls.{settingsOutside}
 
 -- none of two tests is true
-both-false : (a b : Bool) → (a || b) ≡ false → (a ≡ false) × (b ≡ false)
+pub both-false : (a b : Bool) → (a || b) ≡ false → (a ≡ false) × (b ≡ false)
 both-false true b e = absurd (subst T e tt)
 both-false false b e = (refl, e)
 

@@ -1,9 +1,13 @@
+pub mod Accepted
 pub mod Active
 pub mod ActiveLaws
+pub mod AfterCall
 pub mod CallLaws
 pub mod Calls
 pub mod CoverLaws
 pub mod Example
+pub mod History
+pub mod HistoryExample
 pub mod MoveLaws
 pub mod Phases
 pub mod Pieces
@@ -15,6 +19,7 @@ pub mod ReturnLaws
 pub mod StepLaws
 pub mod Steps
 pub mod Table
+pub mod Told
 pub mod Touched
 pub mod Types
 pub mod Owned
