@@ -32,3 +32,4 @@ pub mod Times
 pub mod Told
 pub mod Touched
 pub mod Types
+pub mod Ready
