@@ -18,15 +18,14 @@ use Rattle.lock.specs.Owned.{returned, gripped, noticed, reaches, owns, 
 use Rattle.lock.specs.Fit.{Apart, owns-here}
 use Rattle.lock.specs.Effect.{inWindow, Same, Grips, Notices}
 
--- a record of which no piece but i waits with a ticket: elsewhere whoever has a ticket has its turn
-pub turn-else : (s : Settings) (q : Record) (i n : ℕ) → ((j : ℕ) → j < length (pieces q) → j ≢ i → gripped s q j ≢ 1) → n ≢ pieceAt q i
-    → owns s 1 n q ≡ owns s 2 n q
+-- a record of which no piece at node n waits with a ticket: if it has a ticket there, it has its turn
+pub turn-with-ticket : (s : Settings) (q : Record) (n : ℕ) → ((j : ℕ) → pieceAt q j ≡ n → gripped s q j ≢ 1) → owns s 1 n q ≡ owns s 2 n q
 unfolding owns
-turn-else s q i n h d =
+turn-with-ticket s q n h =
     to-same _ _ (length (pieces q)) (λ j b.
     on-choose (λ (x : ℕ). x ≡ choose (eqb (pieceAt q j) n) (reaches 2 (gripped s q j)) 0) (eqb (pieceAt q j) n) _ 0
     (λ t. let e = eqb→eq (pieceAt q j) n t in
-    let other = h j b (λ f. d (sym e ∙ ap (pieceAt q) f)) in
+    let other = h j e in
     by-lt (gripped s q j) 1
     (λ l. reaches-no 1 (gripped s q j) l ∙ sym (choose-eq (pieceAt q j) n _ 0 e ∙ reaches-no 2 (gripped s q j) (omega arith)))
     (λ l. reaches-yes 1 (gripped s q j) l ∙ sym (choose-eq (pieceAt q j) n _ 0 e ∙ reaches-yes 2 (gripped s q j) (omega arith))))

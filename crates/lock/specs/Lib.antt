@@ -33,3 +33,4 @@ pub mod Told
 pub mod Touched
 pub mod Types
 pub mod Ready
+pub mod Forward
