@@ -34,3 +34,4 @@ pub mod Touched
 pub mod Types
 pub mod Ready
 pub mod Forward
+pub mod Backward
