@@ -35,3 +35,4 @@ pub mod Types
 pub mod Ready
 pub mod Forward
 pub mod Backward
+pub mod Onward
