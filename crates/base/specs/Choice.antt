@@ -51,10 +51,13 @@ module _ {A : Type 0} where
 pub by-lt : {P : Type 0} (m n : ℕ) → (m < n → P) → (n ≤ m → P) → P
 by-lt {P} m n f g = on-choose {A = ℕ} (λ _. P) (ltb m n) 0 0 (λ t. f (ltb→lt m n t)) (λ t. g (nltb→le m n t))
 
+-- two numbers that a test found to differ
+pub neqb→ne : (m n : ℕ) → T (not (eqb m n)) → m ≡ n → ⊥
+neqb→ne m n t e = T-not (eqb m n) t (subst (λ (k : ℕ). T (eqb m k)) e (eqb-refl m))
+
 -- cases on whether two numbers are equal
 pub by-eq : {P : Type 0} (m n : ℕ) → (m ≡ n → P) → ((m ≡ n → ⊥) → P) → P
-by-eq {P} m n f g =
-    on-choose {A = ℕ} (λ _. P) (eqb m n) 0 0 (λ t. f (eqb→eq m n t)) (λ t. g (λ e. T-not (eqb m n) t (subst (λ (k : ℕ). T (eqb m k)) e (eqb-refl m))))
+by-eq {P} m n f g = on-choose {A = ℕ} (λ _. P) (eqb m n) 0 0 (λ t. f (eqb→eq m n t)) (λ t. g (neqb→ne m n t))
 
 -- ---- tests joined by `||`
 

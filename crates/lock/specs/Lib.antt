@@ -36,3 +36,6 @@ pub mod Ready
 pub mod Forward
 pub mod Backward
 pub mod Onward
+pub mod Fine
+pub mod Climbing
+pub mod Claiming
