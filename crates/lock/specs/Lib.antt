@@ -39,3 +39,6 @@ pub mod Onward
 pub mod Fine
 pub mod Climbing
 pub mod Claiming
+pub mod Taking
+pub mod Notifying
+pub mod Checking
