@@ -11,7 +11,7 @@ use Rattle.base.specs.Sum.{sumTo, to-same, to-one, to-zero}
 use Rattle.tree.specs.Lists.{notifyList}
 use Rattle.lock.specs.declared.Record.{Record}
 use Rattle.lock.specs.declared.Settings.{Settings}
-use Rattle.lock.specs.Types.{pieces, pieceAt, givenPiece, gripOf, noticesOf, withPlace, withGiving, idleWith}
+use Rattle.lock.specs.Types.{pieces, pieceAt, givenPiece, gripOf, noticesOf, withPlace, withGiving, withGrip, idleWith}
 use Rattle.lock.specs.Pieces.{grip-before, grip-current, grip-after, notices-before, notices-current}
 use Rattle.lock.specs.Steps.{wordReturned, pieceReturned}
 use Rattle.lock.specs.ReturnLaws.{piece-last, piece-next, word-more, word-last}
@@ -84,6 +84,17 @@ module _ (s : Settings) (last : ℕ) (r : Record) (rd : Ready s last r) (v : Apa
       ∙ to-same _ _ (noticed s r i) (λ j _. out-same s n r i j q (piece-alike i) (omega (arith, ap (returned s r) h, was)) (omega (arith, ap (returned s q) h, is))))
       (λ d. notices-out s r q pieces-same refl refl n i (noticed-alike i) (returned-else i d)))
       (λ _ _ _ _. refl)
+
+  -- ---- the turn of a ticket that is given back has come
+
+  pub turn-returned : r .place ≡ 0 → g ≡ r .current → gripOf r g ≡ 1 → Grips s r (withGrip 2 r) (givenPiece r) 1 2
+  unfolding pieces noticed noticesOf pieceAt returned outstanding
+  turn-returned z here one =
+      let p = withGrip 2 r in
+      grips-at s r p refl refl refl v g 1 2 exists (gripped-kept s r g (was ∙ z) ∙ one) (gripped-kept s p g (was ∙ z) ∙ grip-current p g here)
+      (λ i _ d. gripped-same s r p i refl
+      (by-lt i g (λ b. grip-before p i (omega arith) ∙ sym (grip-before r i (omega arith))) (λ b. grip-after p i (omega arith) ∙ sym (grip-after r i (omega arith)))))
+      (λ n i _. refl) (λ _ _ _ _. refl)
 
   -- ---- a notice
 

@@ -42,3 +42,4 @@ pub mod Claiming
 pub mod Taking
 pub mod Notifying
 pub mod Checking
+pub mod Returning
