@@ -32,6 +32,14 @@ module _ {A : Type 0} where
   sum-at f (x ∷ xs) zero d h = omega arith
   sum-at f (x ∷ xs) (suc i) d h = omega (arith, sum-at f xs i d (omega arith))
 
+  -- so are two elements' values together
+  pub sum-two : (f : A → ℕ) (l : List A) (i j : ℕ) (d : A) → i < j → j < length l → f (getD l i d) + f (getD l j d) ≤ sumBy f l
+  unfolding sumBy
+  sum-two f [] i j d b c = absurd (omega arith)
+  sum-two f (x ∷ xs) i zero d b c = absurd (omega arith)
+  sum-two f (x ∷ xs) zero (suc j) d b c = omega (arith, sum-at f xs j d (omega arith))
+  sum-two f (x ∷ xs) (suc i) (suc j) d b c = omega (arith, sum-two f xs i j d (omega arith) (omega arith))
+
   pub sum-zero : (f : A → ℕ) (l : List A) (d : A) → ((i : ℕ) → f (getD l i d) ≡ 0) → sumBy f l ≡ 0
   unfolding sumBy
   sum-zero f [] d h = refl

@@ -57,14 +57,14 @@ settled s e =
 
 -- ---- the cover
 
-in-at : (c : List ℕ) (i : ℕ) → i < length c → In (getD c i 0) c
+pub in-at : (c : List ℕ) (i : ℕ) → i < length c → In (getD c i 0) c
 unfolding In
 in-at [] i b = absurd (omega arith)
 in-at (n ∷ c) zero b = inl refl
 in-at (n ∷ c) (suc i) b = inr (in-at c i (omega arith))
 
 -- two numbers, 0 for none, say a list of one or two nodes
-pieces-are : (r : Record) (c : List ℕ) (n : ℕ) → In n c → length c ≤ 2 → ((m : ℕ) → In m c → 1 ≤ m) → r .first ≡ getD c 0 0 → r .second ≡ getD c 1 0 → pieces r ≡ c
+pub pieces-are : (r : Record) (c : List ℕ) (n : ℕ) → In n c → length c ≤ 2 → ((m : ℕ) → In m c → 1 ≤ m) → r .first ≡ getD c 0 0 → r .second ≡ getD c 1 0 → pieces r ≡ c
 unfolding In pieces
 pieces-are r [] n i b v f g = absurd i
 pieces-are r (p ∷ []) n i b v f g = choose-eq (r .second) 0 _ _ g ∙ ap (λ x. x ∷ []) f

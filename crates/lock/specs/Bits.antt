@@ -80,8 +80,19 @@ module _ (s : Settings) (u : ℕ) (levels : 1 ≤ s .levels) (fits : u < units (
         let after = g .units-after u refl in
         window-cases
         (λ a b. let i = inside a b in
-        omega (arith, kept, sum, before, after, in-window r u (reaches 3 0) a b, in-window r u (reaches 3 3) a b, reaches-no 3 0 (omega arith), reaches-yes 3 3 (omega arith),
-        take-done (wanted s r x) w bits-lt .0 done (u % 64) (omega arith) i, take-inside (wanted s r x) w bits-lt done (u % 64) (omega arith) i))
+        omega (
+          arith,
+          kept,
+          sum,
+          before,
+          after,
+          in-window r u (reaches 3 0) a b,
+          in-window r u (reaches 3 3) a b,
+          reaches-no 3 0 (omega arith),
+          reaches-yes 3 3 (omega arith),
+          take-done (wanted s r x) w bits-lt .0 done (u % 64) (omega arith) i,
+          take-inside (wanted s r x) w bits-lt done (u % 64) (omega arith) i,
+        ))
         (λ o. omega (arith, kept, sum, before, after, out-window r u (reaches 3 0) o, out-window r u (reaches 3 3) o, take-outside (wanted s r x) w bits-lt (u % 64) (omega arith) (outside o)))
 
     pub bit-gave : Grips s r q x 3 0 → giveBits (wanted s r x) w .done ≡ true → Bit s u (giveBits (wanted s r x) w .word) (set rs c q)
@@ -91,6 +102,17 @@ module _ (s : Settings) (u : ℕ) (levels : 1 ≤ s .levels) (fits : u < units (
         let after = g .units-after u refl in
         window-cases
         (λ a b. let i = inside a b in
-        omega (arith, kept, sum, before, after, in-window r u (reaches 3 0) a b, in-window r u (reaches 3 3) a b, reaches-no 3 0 (omega arith), reaches-yes 3 3 (omega arith),
-        give-done (wanted s r x) w bits-lt .0 done (u % 64) (omega arith) i, give-inside (wanted s r x) w bits-lt done (u % 64) (omega arith) i))
+        omega (
+          arith,
+          kept,
+          sum,
+          before,
+          after,
+          in-window r u (reaches 3 0) a b,
+          in-window r u (reaches 3 3) a b,
+          reaches-no 3 0 (omega arith),
+          reaches-yes 3 3 (omega arith),
+          give-done (wanted s r x) w bits-lt .0 done (u % 64) (omega arith) i,
+          give-inside (wanted s r x) w bits-lt done (u % 64) (omega arith) i,
+        ))
         (λ o. omega (arith, kept, sum, before, after, out-window r u (reaches 3 0) o, out-window r u (reaches 3 3) o, give-outside (wanted s r x) w bits-lt (u % 64) (omega arith) (outside o)))

@@ -107,8 +107,12 @@ module _ (s : Settings) (rs : List Record) (last now : ℕ) (later : last ≤ no
             (forward-grips s r q k refl (onward-unreturned s r ahead) (onward-unreturned s q aheadq) (live-apart s last r lv) (lv .exists) 2 3 grip refl refl (λ _ _ _ _. refl)) refl;
         fits = inr (live-kin s last now r q later lv k (lv .exists) (omega (arith, b .0)) (omega (arith, b .1)) (λ _ _. refl)
             (λ x _. let z = root x in
-            omega (arith, rd .no-notices (omega arith), notify-count (s .distance) n (bounded (s .distance) n (g .distance-some) (g .distance-most) (widen (s .levels) n (g .levels-most) current-node)),
-            count-none (s .distance) (level n) (omega (arith, level-root n (omega arith)))))
+            omega (
+              arith,
+              rd .no-notices (omega arith),
+              notify-count (s .distance) n (bounded (s .distance) n (g .distance-some) (g .distance-most) (widen (s .levels) n (g .levels-most) current-node)),
+              count-none (s .distance) (level n) (omega (arith, level-root n (omega arith))),
+            ))
             (lv .listed) (λ z. absurd (omega (arith, b .1))) t1-past);
         time = onward s rs nobody now r q k refl ahead aheadq (λ _ _. inr (inl refl)) (λ x _. absurd (omega (arith, b .1)))
             (λ l x. absurd (omega (arith, checked-none s q (r .current) (λ f. omega (arith, b .1)) (λ f. omega (arith, b .1)))))

@@ -22,6 +22,7 @@ use Rattle.lock.specs.declared.Settings.{Settings}
 use Rattle.lock.specs.Types.{pieces, pieceAt, currentPiece, noticesOf, idleWith}
 use Rattle.lock.specs.Pieces.{notices-before, notices-current, few-pieces}
 use Rattle.lock.specs.Active.{Settled}
+use Rattle.lock.specs.ActiveLaws.{in-at}
 use Rattle.lock.specs.Owned.{returned, gripped, noticed, reaches, owns, outstanding, ownsNotice, reaches-le, noticed-begun, noticed-none}
 
 -- a record that is not idle
@@ -41,12 +42,6 @@ abbrev pub Fit : Settings → ℕ → Record → Type 0
 Fit s last r = (r ≡ idleWith (r .outcome)) ⊎ Live s last r
 
 -- ---- the pieces of a cover
-
-in-list : (c : List ℕ) (i : ℕ) → i < length c → In (getD c i 0) c
-unfolding In
-in-list [] i b = absurd (omega arith)
-in-list (n ∷ c) zero b = inl refl
-in-list (n ∷ c) (suc i) b = inr (in-list c i (omega arith))
 
 rising-from : (h n : ℕ) (c : List ℕ) → Rising h (n ∷ c) → (i : ℕ) → i < length c → left h n < left h (getD c i 0)
 unfolding Rising
@@ -80,7 +75,7 @@ module _ (s : Settings) (r : Record) (w : Window (s .levels) (r .left) (r .right
       let lower : (i j : ℕ) → i < length (pieces r) → j < i → pieceAt r i ≢ pieceAt r j
       = λ i j b l e. omega (arith, rising-at (s .levels) (pieces r) (covers .rising) i j b l, ap (left (s .levels)) e) in
       record {
-        node = λ i b. covers .meets _ (in-list (pieces r) i b) .node;
+        node = λ i b. covers .meets _ (in-at (pieces r) i b) .node;
         apart = λ i j b d n e. by-lt i j (λ q. lower j i d q (sym e)) (λ q. lower i j b (omega arith) e);
       }
 

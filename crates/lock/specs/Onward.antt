@@ -113,8 +113,11 @@ module _ (s : Settings) (rs : List Record) (nobody : Record) (now : ℕ) (r : Re
         waits = λ i x y. on-piece (λ j. 8 ≤ phaseAt q j → phaseAt q j ≤ 9 → (pieceAt q j ≡ pieceAt r j) × (((8 ≤ phaseAt r j) × (phaseAt r j ≤ 9))
             ⊎ (((j ≡ r .current) × (6 ≤ r .phase) × (r .phase ≤ 7) × (s .wait ≤ now - r .t0)) ⊎ (level (pieceAt q j) ≡ s .levels)))) i (omega arith) y
             (λ l e f _ _. (piece i, inl (omega arith, omega arith)))
-            (λ e o u. (piece (r .current), ⊎-elim (λ z. inl (omega (arith, z .0, now-at), omega (arith, z .1, now-at)))
-            (λ z. inr (⊎-elim (λ w. inl (refl, w .0, w .1, w .2)) (λ l. inr (ap level (piece (r .current)) ∙ l)) z)) (waits (omega arith) (omega arith)))) x y;
+            (λ e o u. (
+              piece (r .current),
+              ⊎-elim (λ z. inl (omega (arith, z .0, now-at), omega (arith, z .1, now-at)))
+                  (λ z. inr (⊎-elim (λ w. inl (refl, w .0, w .1, w .2)) (λ l. inr (ap level (piece (r .current)) ∙ l)) z)) (waits (omega arith) (omega arith)),
+            )) x y;
         checks = λ i l x. let stage = checked-stage s q i (omega arith) in
             on-piece (λ j. l < checkedTo s q j → (pieceAt q j ≡ pieceAt r j) × ((l < checkedTo s r j)
             ⊎ (((d : ℕ) → ownsNotice s (checkNode (pieceAt r j) l) (getD rs d nobody) ≡ 0) ⊎ (level (pieceAt q j) ≡ s .levels)))) i (omega (arith, stage .0)) (stage .1)
@@ -124,8 +127,11 @@ module _ (s : Settings) (rs : List Record) (nobody : Record) (now : ℕ) (r : Re
         notifies = λ i x y. on-piece (λ j. 7 ≤ phaseAt q j → phaseAt q j ≤ 9 → (pieceAt q j ≡ pieceAt r j) × (((7 ≤ phaseAt r j) × (phaseAt r j ≤ 9))
             ⊎ (((j ≡ r .current) × (level (currentPiece r) ≤ suc (passing r)) × (now - r .t1 < s .wait)) ⊎ (pieceAt q j ≡ 1)))) i (omega arith) y
             (λ l e f _ _. (piece i, inl (omega arith, omega arith)))
-            (λ e o u. (piece (r .current), ⊎-elim (λ z. inl (omega (arith, z .0, now-at), omega (arith, z .1, now-at)))
-            (λ z. inr (⊎-elim (λ w. inl (refl, w .0, w .1)) (λ l. inr (piece (r .current) ∙ l)) z)) (notifies (omega arith) (omega arith)))) x y;
+            (λ e o u. (
+              piece (r .current),
+              ⊎-elim (λ z. inl (omega (arith, z .0, now-at), omega (arith, z .1, now-at)))
+                  (λ z. inr (⊎-elim (λ w. inl (refl, w .0, w .1)) (λ l. inr (piece (r .current) ∙ l)) z)) (notifies (omega arith) (omega arith)),
+            )) x y;
       }
 
       -- to a phase in which nothing is claimed

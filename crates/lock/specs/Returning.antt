@@ -55,10 +55,11 @@ module _ (s : Settings) (rs : List Record) (last now : ℕ) (later : last ≤ no
   unfolding pieces pieceAt
   still q gv gp pl f =
       let z = change r (r .phase) (r .outcome) (r .current) gv gp (r .ticket) pl (r .notices) (r .t1) (r .t0) in
-      subst (λ y. Fit s now y × Timely s rs nobody now r y) (sym f)
-      (inr (live-kin s last now r z later lv (kin r (r .phase) (r .outcome) (r .current) gv gp (r .ticket) pl (r .notices) (r .t1) (r .t0)) (lv .exists) (lv .some) (lv .most)
-      (λ _ a. absurd (omega arith)) (λ _ a. absurd (omega arith)) (lv .listed) (λ h. absurd (omega arith)) (omega (arith, lv .t1-past))),
-      timely-returning s rs nobody now r z e)
+      subst (λ y. Fit s now y × Timely s rs nobody now r y) (sym f) (
+        inr (live-kin s last now r z later lv (kin r (r .phase) (r .outcome) (r .current) gv gp (r .ticket) pl (r .notices) (r .t1) (r .t0)) (lv .exists) (lv .some) (lv .most)
+            (λ _ a. absurd (omega arith)) (λ _ a. absurd (omega arith)) (lv .listed) (λ h. absurd (omega arith)) (omega (arith, lv .t1-past))),
+        timely-returning s rs nobody now r z e,
+      )
 
   -- after a word is given back
   after-word : Fit s now (wordReturned s r) × Timely s rs nobody now r (wordReturned s r)

@@ -158,5 +158,9 @@ module _ (s : Settings) (last : ℕ) (r : Record) where
         let none : returned s r i ≡ 0 = returned-none s r i (⊎-elim (λ z. z .1) (λ z e. omega (arith, z .1)) (stage-cases r i (omega arith) b)) in
         let n = notifyNode m p k in
         let one : outstanding s n r i k ≡ 1 = choose-le (returned s r i) (suc k) _ 0 (omega arith) ∙ choose-eq (getD (notifyList m p) k 0) n 1 0 (notify-place m p y k l) in
-        omega (arith, one, to-at (λ j. outstanding s n r i j) (noticed s r i) k (omega (arith, all, notify-count m p y)),
-        to-at (λ j. sumTo (noticed s r j) (λ x. outstanding s n r j x)) (length (pieces r)) i c)
+        omega (
+          arith,
+          one,
+          to-at (λ j. outstanding s n r i j) (noticed s r i) k (omega (arith, all, notify-count m p y)),
+          to-at (λ j. sumTo (noticed s r j) (λ x. outstanding s n r j x)) (length (pieces r)) i c,
+        )

@@ -21,7 +21,7 @@ use Rattle.lock.specs.Forward.{Kin, kin, onward-unreturned, forward-same
 use Rattle.lock.specs.Onward.{live-kin, timely-begin}
 use Rattle.lock.specs.Fine.{Fine}
 
-start-low : (s : Settings) (n : ℕ) → (1 ≤ startPhase s n) × (startPhase s n ≤ 4)
+pub start-low : (s : Settings) (n : ℕ) → (1 ≤ startPhase s n) × (startPhase s n ≤ 4)
 unfolding startPhase
 start-low s n = on-choose (λ (p : ℕ). (1 ≤ p) × (p ≤ 4)) (isLeaf s n) 3 1 (λ _. (omega arith, omega arith)) (λ _. (omega arith, omega arith))
 
