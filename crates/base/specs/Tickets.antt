@@ -1,15 +1,15 @@
 -- Laws of the tickets of one node, over any list of records: `own` says whether a record owns a ticket of the node (1 or 0), `first` whether its turn
 -- has come (1 or 0), `ticket` which ticket it drew. The counters c (passed on) and m (given out) have 15 bits. Assumes nothing.
-use mathlib.Core.Path.{_≡_, refl, sym, ap, _∙_}
+use mathlib.Core.Path.{_≡_, sym, _∙_}
 use mathlib.Core.Logic.{_≢_}
 use mathlib.Core.List.{List}
-use Prim.Native.Nat.{ℕ, _+_, _-_, _*_, _%_, _≤_, _<_}
+use Prim.Native.Nat.{ℕ, _+_, _%_, _≤_, _<_}
 use native.Mathlib.Omega.{arith}
 use lib.Dec.{eqb}
 use lib.ListN.{length, getD, set, replicate}
 use Rattle.base.specs.Choice.{choose, choose-eq, choose-ne}
 use Rattle.base.specs.Ring.{ahead, next, next-small, count-up, count-down, ahead-new, ahead-next, not-ahead}
-use Rattle.base.specs.Sum.{sumBy, sum-set, sum-le, sum-at, sum-zero, on-set, getD-fresh}
+use Rattle.base.specs.Sum.{sumBy, sum-set, sum-le, sum-zero, on-set, getD-fresh}
 
 module _ {A : Type 0} (own first ticket : A → ℕ) (d : A) where
   -- the ticket that a record stands at: c if its turn has come, else the one that it drew

@@ -1,10 +1,10 @@
 -- Laws: what a returning step changes of what its record owns: one word more is given back, and then the next piece begins or the record is idle.
 -- Assumes nothing.
 use mathlib.Core.Path.{_≡_, refl, sym, ap, ap₂, subst, _∙_}
-use mathlib.Core.Logic.{_≢_, _⊎_, inl, inr, ⊎-elim}
-use Prim.Native.Nat.{ℕ, zero, suc, _+_, _-_, _≤_, _<_}
+use mathlib.Core.Logic.{_≢_}
+use Prim.Native.Nat.{ℕ, suc, _+_, _-_, _≤_, _<_}
 use native.Mathlib.Omega.{arith}
-use lib.Dec.{eqb, ltb}
+use lib.Dec.{eqb}
 use lib.ListN.{length, getD}
 use Rattle.base.specs.Choice.{choose, by-lt, by-eq}
 use Rattle.base.specs.Sum.{sumTo, to-same, to-one, to-zero}
@@ -12,11 +12,11 @@ use Rattle.tree.specs.Lists.{notifyList}
 use Rattle.lock.specs.declared.Record.{Record}
 use Rattle.lock.specs.declared.Settings.{Settings}
 use Rattle.lock.specs.Types.{pieces, pieceAt, givenPiece, gripOf, noticesOf, withPlace, withGiving, withGrip, idleWith}
-use Rattle.lock.specs.Pieces.{grip-before, grip-current, grip-after, notices-before, notices-current}
-use Rattle.lock.specs.Steps.{wordReturned, pieceReturned}
+use Rattle.lock.specs.Pieces.{grip-before, grip-current, grip-after, notices-current}
+use Rattle.lock.specs.Steps.{wordReturned}
 use Rattle.lock.specs.ReturnLaws.{piece-last, piece-next, word-more, word-last}
 use Rattle.lock.specs.Ready.{Ready}
-use Rattle.lock.specs.Owned.{returned, gripped, noticed, owns, outstanding, ownsNotice, returned-none, returned-before, returned-here, returned-after, gripped-kept, gripped-returned, noticed-begun, noticed-none}
+use Rattle.lock.specs.Owned.{returned, gripped, noticed, owns, outstanding, ownsNotice, returned-before, returned-here, returned-after, gripped-kept, gripped-returned, noticed-begun, noticed-none}
 use Rattle.lock.specs.Fit.{Apart}
 use Rattle.lock.specs.Effect.{Same, Grips, Notices}
 use Rattle.lock.specs.Changes.{alike, grips-at, notices-out, notices-at, notices-less, out-here, out-other, out-returned, out-same}

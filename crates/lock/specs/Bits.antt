@@ -1,19 +1,17 @@
 -- Laws: what a leaf word holds is what the records own of it, unit by unit, and every effect of a call keeps it so. Assumes nothing.
-use mathlib.Core.Path.{_≡_, refl, sym, ap, subst, _∙_}
-use mathlib.Core.Logic.{_≢_, _⊎_, inl, inr, ⊎-elim}
+use mathlib.Core.Path.{_≡_, refl, ap, _∙_}
+use mathlib.Core.Logic.{_⊎_, inl, inr, ⊎-elim}
 use mathlib.Core.Bool.{true}
 use mathlib.Core.List.{List}
-use Prim.Native.Nat.{ℕ, suc, _+_, _-_, _*_, _/_, _%_, _^_, _≤_, _<_}
+use Prim.Native.Nat.{ℕ, _+_, _-_, _*_, _/_, _%_, _^_, _≤_, _<_}
 use native.Mathlib.Omega.{arith}
-use lib.Dec.{leb, ltb}
 use lib.ListN.{length, getD, set}
-use Rattle.base.specs.Choice.{choose, choose-le, choose-gt, choose-lt, choose-ge, by-lt}
+use Rattle.base.specs.Choice.{choose-le, choose-gt, choose-lt, choose-ge, by-lt}
 use Rattle.base.specs.Sum.{sumBy, sum-set}
 use Rattle.word.specs.Word.{bit, takeBits, giveBits}
-use Rattle.word.specs.Bits.{bit-lt}
 use Rattle.word.specs.Leaf.{wanted-inside, wanted-outside, wanted-lt}
 use Rattle.word.specs.Swap.{take-done, take-inside, take-outside, give-done, give-inside, give-outside}
-use Rattle.tree.specs.Tree.{units, leaf, left, level, leftmost, first}
+use Rattle.tree.specs.Tree.{units, leaf, left, level, leftmost}
 use Rattle.tree.specs.Range.{leaf-level}
 use Rattle.lock.specs.declared.Record.{Record}
 use Rattle.lock.specs.declared.Settings.{Settings}

@@ -2,13 +2,12 @@
 -- window and pieces. Assumes nothing.
 use mathlib.Core.Path.{_≡_, refl, sym, ap, ap₂, _∙_}
 use mathlib.Core.Logic.{_≢_}
-use Prim.Native.Nat.{ℕ, zero, suc, _+_, _-_, _≤_, _<_}
-use native.Mathlib.Decide.{ℕ-discrete}
+use Prim.Native.Nat.{ℕ, suc, _+_, _≤_, _<_}
 use native.Mathlib.Omega.{arith}
 use lib.Dec.{eqb, leb, ltb, eqb→eq}
 use lib.ListN.{length, getD}
 use Rattle.base.specs.Choice.{choose, on-choose, choose-eq, choose-ne, choose-le, choose-gt, choose-no, by-lt}
-use Rattle.base.specs.Sum.{sumTo, to-same, to-one, to-zero}
+use Rattle.base.specs.Sum.{sumTo, to-same, to-one}
 use Rattle.tree.specs.Tree.{leaf}
 use Rattle.tree.specs.Lists.{notifyList}
 use Rattle.lock.specs.declared.Record.{Record}

@@ -4,7 +4,7 @@ use mathlib.Core.Logic.{_≢_, _⊎_, inl, inr}
 use mathlib.Core.List.{List}
 use Prim.Native.Nat.{ℕ, suc, _-_, _≤_, _<_}
 use native.Mathlib.Omega.{arith}
-use lib.Dec.{eqb, leb, ltb, eqb→eq, leb→le, ltb→lt, nltb→le}
+use lib.Dec.{eqb, leb, ltb, eqb→eq, leb→le, nltb→le}
 use lib.ListN.{length, getD}
 use Rattle.base.specs.Choice.{choose, on-choose, by-lt}
 use Rattle.word.specs.Word.{dcnt, dmax}
@@ -20,11 +20,10 @@ use Rattle.lock.specs.Active.{Settled}
 use Rattle.lock.specs.Ready.{Ready}
 use Rattle.lock.specs.Owned.{ownsNotice}
 use Rattle.lock.specs.Fit.{Live, live-apart}
-use Rattle.lock.specs.Effect.{Same, quiet}
+use Rattle.lock.specs.Effect.{quiet}
 use Rattle.lock.specs.Kept.{nobody}
-use Rattle.lock.specs.Timed.{Timely}
 use Rattle.lock.specs.Stage.{checkedTo, stage-current, passing-none, checked-some, checked-all}
-use Rattle.lock.specs.Forward.{Kin, kin, onward-unreturned}
+use Rattle.lock.specs.Forward.{kin, onward-unreturned}
 use Rattle.lock.specs.Onward.{live-kin, onward}
 use Rattle.lock.specs.Fine.{Fine, fine-stay, fine-quiet}
 use Rattle.lock.specs.Taking.{taken-fine}

@@ -1,18 +1,16 @@
 -- Laws: the step of phase 5 owes nothing to the invariant. Assumes nothing.
-use mathlib.Core.Path.{_≡_, refl, sym, ap, subst, _∙_}
+use mathlib.Core.Path.{_≡_, refl, sym, subst}
 use mathlib.Core.Logic.{_≢_, _⊎_, inl, inr, ⊎-elim}
 use mathlib.Core.Bool.{Bool, true, false, not}
 use mathlib.Core.List.{List}
-use Prim.Native.Nat.{ℕ, suc, _+_, _-_, _^_, _≤_, _<_}
+use Prim.Native.Nat.{ℕ, _+_, _≤_}
 use native.Mathlib.Omega.{arith}
-use lib.Dec.{T, eqb, eqb→eq}
-use lib.ListN.{length}
-use Rattle.base.specs.Choice.{choose, on-choose, neqb→ne}
+use lib.Dec.{T, eqb→eq}
+use Rattle.base.specs.Choice.{on-choose, neqb→ne}
 use Rattle.word.specs.Word.{addOcc, takeBits}
 use Rattle.word.specs.Leaf.{wanted-lt}
 use Rattle.word.specs.Swap.{take-failed}
 use Rattle.tree.specs.Tree.{left, level, Node}
-use Rattle.tree.specs.Lists.{notifyList}
 use Rattle.tree.specs.Level.{level-root}
 use Rattle.tree.specs.Notify.{notify-count}
 use Rattle.tree.specs.Code.{bounded, count-none}
@@ -27,8 +25,8 @@ use Rattle.lock.specs.Ready.{Ready}
 use Rattle.lock.specs.Fit.{Live, live-apart}
 use Rattle.lock.specs.Effect.{claimed, took}
 use Rattle.lock.specs.Kept.{nobody}
-use Rattle.lock.specs.Stage.{passing, stage-current, passing-climb, passing-claim, passing-notify, passing-none, checked-none}
-use Rattle.lock.specs.Forward.{Kin, kin, onward-unreturned, forward-grips}
+use Rattle.lock.specs.Stage.{stage-current, passing-climb, passing-claim, passing-notify, passing-none, checked-none}
+use Rattle.lock.specs.Forward.{kin, onward-unreturned, forward-grips}
 use Rattle.lock.specs.Onward.{live-kin, onward, onward-low}
 use Rattle.lock.specs.Fine.{Fine, fine-quiet}
 

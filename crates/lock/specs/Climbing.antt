@@ -1,30 +1,27 @@
 -- Laws: the steps of phases 1 to 5 owe nothing to the invariant. Assumes nothing.
 use mathlib.Core.Path.{_≡_, refl, sym, ap, _∙_}
 use mathlib.Core.Logic.{_≢_, _⊎_, inl, inr, ⊎-elim}
-use mathlib.Core.Bool.{Bool, true, false}
 use mathlib.Core.List.{List}
-use Prim.Native.Nat.{ℕ, suc, _+_, _-_, _≤_, _<_}
+use Prim.Native.Nat.{ℕ, suc, _-_, _≤_, _<_}
 use native.Mathlib.Omega.{arith}
-use lib.Dec.{T, eqb, leb, ltb, eqb→eq, ltb→lt, nltb→le}
+use lib.Dec.{eqb, ltb, eqb→eq, nltb→le}
 use lib.ListN.{length, getD}
-use Rattle.base.specs.Choice.{choose, on-choose, by-lt, by-eq, neqb→ne}
-use Rattle.word.specs.Word.{occ, tcnt, tmax, addOcc, addTmax, takeBits}
-use Rattle.tree.specs.Tree.{climb, left, level, Node}
+use Rattle.base.specs.Choice.{choose, on-choose, by-eq, neqb→ne}
+use Rattle.word.specs.Word.{occ, tcnt, tmax, addTmax}
+use Rattle.tree.specs.Tree.{climb, level, Node}
 use Rattle.tree.specs.Lists.{ancestors, notifyList}
 use Rattle.tree.specs.Level.{climb-level, level-root}
 use Rattle.tree.specs.Ancestors.{ancestors-count, ancestors-place}
 use Rattle.lock.specs.declared.Record.{Record}
 use Rattle.lock.specs.declared.Settings.{Settings}
-use Rattle.lock.specs.Types.{pieces, pieceAt, currentPiece, isLeaf, isRoot, toPhase, toBlocked, withGrip, withTicket, withPlace, withT1, withT0}
-use Rattle.lock.specs.Steps.{ticketTaken, turnAwaited, goUp, climbed, unblocked, wanted}
+use Rattle.lock.specs.Types.{pieces, pieceAt, currentPiece, isRoot, toPhase, toBlocked, withGrip, withTicket, withPlace, withT1}
+use Rattle.lock.specs.Steps.{ticketTaken, turnAwaited, goUp, climbed, unblocked}
 use Rattle.lock.specs.Active.{Settled}
-use Rattle.lock.specs.Placed.{clipped}
 use Rattle.lock.specs.Ready.{Ready}
 use Rattle.lock.specs.Owned.{owns}
 use Rattle.lock.specs.Fit.{Live, live-apart}
-use Rattle.lock.specs.Effect.{Grips, Effect, quiet, drew, turned, claimed, took}
+use Rattle.lock.specs.Effect.{drew, turned}
 use Rattle.lock.specs.Kept.{nobody}
-use Rattle.lock.specs.Timed.{Timely}
 use Rattle.lock.specs.Stage.{passing, passing-climb, passing-claim, passing-none}
 use Rattle.lock.specs.Forward.{Kin, kin, onward-unreturned, forward-grips, drawn-else}
 use Rattle.lock.specs.Onward.{live-kin, onward-low}

@@ -1,9 +1,9 @@
 -- Demand 3, proved: after every list of calls from an accepted opening no two different clients hold windows that overlap, and if all clients are idle
 -- the tree is clean. Assumes nothing.
-use mathlib.Core.Path.{_≡_, refl, sym, ap, subst, _∙_}
-use mathlib.Core.Logic.{_≢_, _⊎_, inl, inr, ⊎-elim}
+use mathlib.Core.Path.{_≡_, sym, ap, subst, _∙_}
+use mathlib.Core.Logic.{_≢_, inl, inr, ⊎-elim}
 use mathlib.Core.List.{List, [], _∷_}
-use Prim.Native.Nat.{ℕ, zero, suc, _+_, _-_, _*_, _/_, _%_, _^_, _≤_, _<_}
+use Prim.Native.Nat.{ℕ, suc, _+_, _-_, _*_, _%_, _^_, _≤_, _<_}
 use native.Mathlib.Omega.{arith}
 use lib.ListN.{length, getD}
 use Rattle.base.specs.Choice.{by-lt, by-eq, choose-eq}
@@ -17,17 +17,17 @@ use Rattle.tree.specs.Climb.{first-width}
 use Rattle.tree.specs.Level.{level-range}
 use Rattle.tree.specs.Range.{holds-holder}
 use Rattle.tree.specs.Notify.{notifyNode}
-use Rattle.tree.specs.Check.{checkNode, checkPlace, check-all}
+use Rattle.tree.specs.Check.{checkPlace, check-all}
 use Rattle.tree.specs.Meeting.{meeting}
 use Rattle.cover.specs.Cover.{In}
 use Rattle.cover.specs.Overlap.{overlap}
 use Rattle.lock.specs.declared.Record.{Record}
 use Rattle.lock.specs.declared.Settings.{Settings}
-use Rattle.lock.specs.Types.{pieces, pieceAt, wordAt, idleWith}
+use Rattle.lock.specs.Types.{pieces, pieceAt, wordAt}
 use Rattle.lock.specs.Table.{State, Call, recordAt, openingNumber, opened, opening}
-use Rattle.lock.specs.History.{run, events, Idle, Overlap, SingleHolding, CleanInner, Clean, Demand3}
+use Rattle.lock.specs.History.{run, CleanInner, Clean, Demand3}
 use Rattle.lock.specs.Told.{holds-record, all-idle}
-use Rattle.lock.specs.Owned.{owns, owns-falls, ownsUnit, ownsNotice}
+use Rattle.lock.specs.Owned.{owns, ownsUnit, ownsNotice}
 use Rattle.lock.specs.Fit.{Live, covers, live-apart}
 use Rattle.lock.specs.Effect.{inWindow}
 use Rattle.lock.specs.Kept.{nobody, ticketOf}

@@ -1,6 +1,6 @@
 -- What a call changes: of what its client's record owns, and of the one word that it touches. r is the record before the call and q after it, x the touched
 -- node, w its word before and v after it. Assumes nothing.
-use mathlib.Core.Path.{_≡_, refl, sym, _∙_}
+use mathlib.Core.Path.{_≡_, sym, _∙_}
 use mathlib.Core.Logic.{_≢_}
 use mathlib.Core.Bool.{true}
 use Prim.Native.Nat.{ℕ, suc, _≤_}

@@ -1,8 +1,8 @@
 -- Laws: what each accepted call owes to the invariant, and the calls that leave the record as it is. Assumes nothing.
-use mathlib.Core.Path.{_≡_, refl, sym, ap, _∙_}
-use mathlib.Core.Logic.{_≢_, _⊎_, inl, inr, ⊎-elim}
+use mathlib.Core.Path.{_≡_, refl, ap, _∙_}
+use mathlib.Core.Logic.{_≢_, inr, ⊎-elim}
 use mathlib.Core.List.{List}
-use Prim.Native.Nat.{ℕ, suc, _+_, _*_, _≤_, _<_}
+use Prim.Native.Nat.{ℕ, _≤_, _<_}
 use native.Mathlib.Omega.{arith}
 use lib.ListN.{length, getD, set}
 use Rattle.base.specs.Choice.{by-lt}
@@ -12,10 +12,9 @@ use Rattle.word.specs.Fields.{field-lt}
 use Rattle.tree.specs.Tree.{level, Node}
 use Rattle.lock.specs.declared.Record.{Record}
 use Rattle.lock.specs.declared.Settings.{Settings}
-use Rattle.lock.specs.Types.{pieces, wordAt, written, idleWith}
+use Rattle.lock.specs.Types.{wordAt, written, idleWith}
 use Rattle.lock.specs.Pieces.{few-pieces}
 use Rattle.lock.specs.Table.{State, recordAt}
-use Rattle.lock.specs.Active.{Settled}
 use Rattle.lock.specs.Owned.{owns, ownsNotice}
 use Rattle.lock.specs.Fit.{Live, Fit, notice-le, live-apart, live-noticed, fit-later}
 use Rattle.lock.specs.Effect.{Same, Effect, quiet}

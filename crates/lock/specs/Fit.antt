@@ -1,26 +1,26 @@
 -- Laws: what is known of every record of a table after a history: it is idle, or its pieces are its window's cover and its fields fit its phase.
 -- Assumes nothing.
-use mathlib.Core.Path.{_≡_, refl, sym, ap, subst, _∙_}
+use mathlib.Core.Path.{_≡_, sym, ap, subst, _∙_}
 use mathlib.Core.Logic.{_≢_, _⊎_, inl, inr, ⊎-elim}
 use mathlib.Core.List.{List, [], _∷_}
 use Prim.Native.Nat.{ℕ, zero, suc, _≤_, _<_}
 use native.Mathlib.Omega.{arith}
 use lib.Dec.{eqb, leb, eqb→eq}
 use lib.ListN.{length, getD}
-use Rattle.base.specs.Choice.{choose, on-choose, choose-eq, choose-ne, choose-no, by-lt}
+use Rattle.base.specs.Choice.{choose, on-choose, choose-eq, choose-ne, by-lt}
 use Rattle.base.specs.Sum.{sumTo, to-only, to-le, to-once}
 use Rattle.tree.specs.Tree.{level, left, Node}
 use Rattle.tree.specs.Lists.{notifyList}
 use Rattle.tree.specs.Level.{level-pos}
-use Rattle.tree.specs.Notify.{notifyCount, notifyNode, Bounded, notify-count, notify-place, notify-once}
-use Rattle.cover.specs.Cover.{In, Covers, Rising}
+use Rattle.tree.specs.Notify.{notifyCount, Bounded, notify-count, notify-place, notify-once}
+use Rattle.cover.specs.Cover.{Covers, Rising}
 use Rattle.cover.specs.Search.{leastCover}
 use Rattle.cover.specs.Lowest.{Window}
 use Rattle.cover.specs.Least.{least-cover}
 use Rattle.lock.specs.declared.Record.{Record}
 use Rattle.lock.specs.declared.Settings.{Settings}
-use Rattle.lock.specs.Types.{pieces, pieceAt, currentPiece, noticesOf, idleWith}
-use Rattle.lock.specs.Pieces.{notices-before, notices-current, few-pieces}
+use Rattle.lock.specs.Types.{pieces, pieceAt, currentPiece, idleWith}
+use Rattle.lock.specs.Pieces.{notices-before, notices-current}
 use Rattle.lock.specs.Active.{Settled}
 use Rattle.lock.specs.ActiveLaws.{in-at}
 use Rattle.lock.specs.Owned.{returned, gripped, noticed, reaches, owns, outstanding, ownsNotice, reaches-le, noticed-begun, noticed-none}

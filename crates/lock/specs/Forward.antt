@@ -1,7 +1,7 @@
 -- Laws: what a step in one of the phases 1 .. 9 changes of what its record owns, from the fields that it changes. Assumes nothing.
-use mathlib.Core.Path.{_≡_, refl, sym, ap, ap₂, _∙_}
-use mathlib.Core.Logic.{_≢_, _⊎_, inl, inr, ⊎-elim}
-use Prim.Native.Nat.{ℕ, zero, suc, _+_, _≤_, _<_}
+use mathlib.Core.Path.{_≡_, refl, sym, ap, _∙_}
+use mathlib.Core.Logic.{_≢_}
+use Prim.Native.Nat.{ℕ, suc, _+_, _≤_, _<_}
 use native.Mathlib.Omega.{arith}
 use lib.Dec.{eqb, leb, ltb}
 use lib.ListN.{length, getD}
@@ -10,9 +10,9 @@ use Rattle.base.specs.Sum.{sumTo, to-same, to-zero}
 use Rattle.tree.specs.Lists.{notifyList}
 use Rattle.lock.specs.declared.Record.{Record}
 use Rattle.lock.specs.declared.Settings.{Settings}
-use Rattle.lock.specs.Types.{pieces, pieceAt, currentPiece, gripOf, noticesOf, change, idleWith}
+use Rattle.lock.specs.Types.{pieces, pieceAt, currentPiece, change}
 use Rattle.lock.specs.Pieces.{grip-before, grip-current, grip-after, notices-before, notices-current}
-use Rattle.lock.specs.Owned.{returned, gripped, noticed, reaches, owns, ownsUnit, outstanding, ownsNotice, reaches-no, returned-none, returned-here, returned-after, gripped-kept, noticed-begun, noticed-none}
+use Rattle.lock.specs.Owned.{returned, gripped, noticed, owns, ownsUnit, outstanding, ownsNotice, reaches-no, returned-none, returned-here, returned-after, gripped-kept, noticed-begun, noticed-none}
 use Rattle.lock.specs.Fit.{Apart}
 use Rattle.lock.specs.Effect.{Same, Grips, Notices}
 use Rattle.lock.specs.Changes.{alike, grips-at, notices-out, notices-at, notices-more, out-here, out-other, out-same, turn-with-ticket}

@@ -1,8 +1,8 @@
 -- The invariant of a state that every call keeps, and the law that a call with one of the effects keeps it. Assumes nothing.
 use mathlib.Core.Path.{_≡_, refl, sym, ap, subst, _∙_}
-use mathlib.Core.Logic.{_≢_, _⊎_, inl, inr, ⊎-elim}
+use mathlib.Core.Logic.{_≢_}
 use mathlib.Core.List.{List}
-use Prim.Native.Nat.{ℕ, zero, suc, _+_, _%_, _^_, _≤_, _<_}
+use Prim.Native.Nat.{ℕ, zero, suc, _^_, _≤_, _<_}
 use native.Mathlib.Decide.{ℕ-discrete}
 use native.Mathlib.Omega.{arith}
 use lib.ListN.{length, getD, set, length-set}
@@ -20,9 +20,9 @@ use Rattle.lock.specs.Types.{wordAt, written}
 use Rattle.lock.specs.Table.{State, recordAt}
 use Rattle.lock.specs.Active.{Settled}
 use Rattle.lock.specs.Steps.{wanted}
-use Rattle.lock.specs.Owned.{owns, owns-falls, ownsUnit, ownsNotice}
+use Rattle.lock.specs.Owned.{owns-falls}
 use Rattle.lock.specs.Fit.{Fit, fit-past, fit-later}
-use Rattle.lock.specs.Effect.{Same, Grips, Notices, Effect, quiet, drew, turned, claimed, freed, passed, notified, unnotified, took, gave}
+use Rattle.lock.specs.Effect.{Grips, Notices, Effect, quiet, drew, turned, claimed, freed, passed, notified, unnotified, took, gave}
 use Rattle.lock.specs.Kept.{nobody, Kept, kept-same, kept-drew, kept-turned, kept-claimed, kept-freed, kept-passed, kept-notified, kept-unnotified}
 use Rattle.lock.specs.Bits.{Bit, bit-same, bit-took, bit-gave}
 use Rattle.lock.specs.Timed.{Timed, Timely, timed-later, timed-above, timed-below}

@@ -1,14 +1,14 @@
 -- Laws: every call of a history keeps the invariant. Assumes nothing.
-use mathlib.Core.Path.{_≡_, refl, sym, ap, subst, _∙_}
-use mathlib.Core.Logic.{_≢_, _⊎_, inl, inr, ⊎-elim}
-use mathlib.Core.Bool.{Bool, true, false}
+use mathlib.Core.Path.{_≡_, refl, sym, ap, _∙_}
+use mathlib.Core.Logic.{_≢_, inl, inr, ⊎-elim}
+use mathlib.Core.Bool.{false}
 use mathlib.Core.List.{List, [], _∷_}
-use Prim.Native.Nat.{ℕ, suc, _≤_, _<_}
+use Prim.Native.Nat.{ℕ, _≤_, _<_}
 use native.Mathlib.Omega.{arith}
 use borrow.Author.Tests.{ltb-false, leb-false}
-use lib.Dec.{T, eqb, leb, ltb, eqb→eq}
-use lib.ListN.{length, getD, set}
-use Rattle.base.specs.Choice.{choose, on-choose, by-lt, neqb→ne}
+use lib.Dec.{eqb, leb, ltb, eqb→eq}
+use lib.ListN.{length, getD}
+use Rattle.base.specs.Choice.{on-choose, by-lt}
 use Rattle.tree.specs.Tree.{units}
 use Rattle.cover.specs.Cover.{In}
 use Rattle.cover.specs.Search.{leastCover}
@@ -17,23 +17,23 @@ use Rattle.cover.specs.Lowest.{Window}
 use Rattle.cover.specs.Least.{least-cover}
 use Rattle.lock.specs.declared.Record.{Record}
 use Rattle.lock.specs.declared.Settings.{Settings}
-use Rattle.lock.specs.Types.{Phase, phaseOf, pieces, pieceAt, isLeaf, gripOf, wordAt, written, toPhase, withOutcome, idleWith}
+use Rattle.lock.specs.Types.{Phase, phaseOf, pieces, pieceAt, gripOf, wordAt, written, toPhase, withOutcome, idleWith}
 use Rattle.lock.specs.Phases.{on-phase}
 use Rattle.lock.specs.Pieces.{grip-before, grip-current}
 use Rattle.lock.specs.Readable.{unreadable}
-use Rattle.lock.specs.Steps.{touchedIn, movedIn, startPhase}
+use Rattle.lock.specs.Steps.{touchedIn, movedIn}
 use Rattle.lock.specs.Calls.{requested, released, cancelled}
 use Rattle.lock.specs.Table.{State, Call, request, step, release, cancel, clientOf, recordAt, numberOf, after, call}
 use Rattle.lock.specs.History.{run}
 use Rattle.lock.specs.Active.{Settled}
 use Rattle.lock.specs.ActiveLaws.{both-false, pieces-are}
-use Rattle.lock.specs.Accepted.{Tested, accepted, request-tested, step-tested, release-tested, cancel-tested}
+use Rattle.lock.specs.Accepted.{accepted, request-tested, step-tested, release-tested, cancel-tested}
 use Rattle.lock.specs.Ready.{Ready, ready}
-use Rattle.lock.specs.Fit.{Live, Fit}
+use Rattle.lock.specs.Fit.{Live}
 use Rattle.lock.specs.Effect.{quiet}
 use Rattle.lock.specs.Kept.{nobody}
 use Rattle.lock.specs.Invariant.{Invariant}
-use Rattle.lock.specs.Forward.{kin, onward-unreturned, entering-unreturned, Empty, empty-same, fresh-empty}
+use Rattle.lock.specs.Forward.{kin, entering-unreturned, Empty, empty-same, fresh-empty}
 use Rattle.lock.specs.Onward.{live-kin, timely-returning, timely-first}
 use Rattle.lock.specs.Fine.{Fine, fine-keeps, fine-stay, fine-quiet, occ-none, notice-none}
 use Rattle.lock.specs.Taking.{start-low}

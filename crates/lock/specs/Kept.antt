@@ -1,14 +1,14 @@
 -- Laws: what an inner word holds is what the records own of it, and every effect of a call keeps it so. Assumes nothing.
 use mathlib.Core.Path.{_≡_, refl, sym, ap, _∙_}
-use mathlib.Core.Logic.{_≢_, _⊎_, inl, inr, ⊎-elim}
+use mathlib.Core.Logic.{_≢_, _⊎_, inl, inr}
 use mathlib.Core.List.{List}
-use Prim.Native.Nat.{ℕ, suc, _+_, _*_, _%_, _^_, _≤_, _<_}
+use Prim.Native.Nat.{ℕ, suc, _+_, _%_, _≤_, _<_}
 use native.Mathlib.Decide.{ℕ-discrete}
 use native.Mathlib.Omega.{arith}
 use lib.Dec.{lit≤}
 use lib.ListN.{length, getD, set}
 use Rattle.base.specs.Ring.{next}
-use Rattle.base.specs.Sum.{sumBy, sum-set, sum-at, sum-zero, getD-past}
+use Rattle.base.specs.Sum.{sumBy, sum-set, sum-at, sum-zero}
 use Rattle.base.specs.Tickets.{Tickets, standing, standing-first, standing-drawn, one-first, keep, take, pass-on}
 use Rattle.word.specs.Word.{field, exp, occ, tcnt, tmax, dcnt, dmax, addOcc, addTcnt, addTmax, addDcnt, addDmax, returnOcc}
 use Rattle.word.specs.Fields.{field-add, field-add-other, field-lt}
@@ -16,8 +16,8 @@ use Rattle.word.specs.Inner.{occ-returned}
 use Rattle.lock.specs.declared.Record.{Record}
 use Rattle.lock.specs.declared.Settings.{Settings}
 use Rattle.lock.specs.Types.{idleWith}
-use Rattle.lock.specs.Owned.{reaches, owns, ownsNotice, reaches-yes, reaches-no}
-use Rattle.lock.specs.Effect.{Same, Grips, Notices}
+use Rattle.lock.specs.Owned.{owns, ownsNotice, reaches-yes, reaches-no}
+use Rattle.lock.specs.Effect.{Grips, Notices}
 
 abbrev pub nobody : Record
 nobody = idleWith 0

@@ -1,12 +1,12 @@
 -- Laws: the step of phase 6 owes nothing to the invariant. Assumes nothing.
 use mathlib.Core.Path.{_≡_, refl, sym, ap, _∙_}
-use mathlib.Core.Logic.{_≢_, _⊎_, inl, inr}
+use mathlib.Core.Logic.{_≢_, inl, inr}
 use mathlib.Core.List.{List}
 use Prim.Native.Nat.{ℕ, suc, _-_, _≤_, _<_}
 use native.Mathlib.Omega.{arith}
 use lib.Dec.{leb, ltb, eqb→eq, ltb→lt, nltb→le, nleb→lt}
 use lib.ListN.{length, getD}
-use Rattle.base.specs.Choice.{on-choose, neqb→ne}
+use Rattle.base.specs.Choice.{on-choose}
 use Rattle.word.specs.Word.{addDmax}
 use Rattle.tree.specs.Tree.{level, Node}
 use Rattle.tree.specs.Lists.{notifyList}
@@ -20,11 +20,9 @@ use Rattle.lock.specs.Steps.{taken, allNotified, noticeGiven}
 use Rattle.lock.specs.Active.{Settled}
 use Rattle.lock.specs.Placed.{widen}
 use Rattle.lock.specs.Ready.{Ready}
-use Rattle.lock.specs.Owned.{ownsNotice}
 use Rattle.lock.specs.Fit.{Live, live-apart}
-use Rattle.lock.specs.Effect.{Same, Notices, Effect, notified, notices-then}
+use Rattle.lock.specs.Effect.{Same, Effect, notified, notices-then}
 use Rattle.lock.specs.Kept.{nobody}
-use Rattle.lock.specs.Timed.{Timely}
 use Rattle.lock.specs.Stage.{passing, stage-current, passing-notify, passing-none, checked-none}
 use Rattle.lock.specs.Forward.{Kin, kin, onward-unreturned, entering-unreturned, forward-same, forward-notices, forward-notified}
 use Rattle.lock.specs.Onward.{live-kin, onward, timely-returning}

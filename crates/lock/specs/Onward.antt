@@ -1,5 +1,5 @@
 -- Laws: from what a call changes in the fields of a record to what it changes of how far the record's pieces have come. Assumes nothing.
-use mathlib.Core.Path.{_≡_, refl, sym, ap, ap₂, subst, _∙_}
+use mathlib.Core.Path.{_≡_, refl, sym, ap, subst, _∙_}
 use mathlib.Core.Logic.{_≢_, _⊎_, inl, inr, ⊎-elim}
 use mathlib.Core.List.{List}
 use Prim.Native.Nat.{ℕ, suc, _-_, _≤_, _<_}
@@ -11,11 +11,11 @@ use Rattle.tree.specs.Check.{checkCount, checkNode}
 use Rattle.tree.specs.Lists.{notifyList}
 use Rattle.lock.specs.declared.Record.{Record}
 use Rattle.lock.specs.declared.Settings.{Settings}
-use Rattle.lock.specs.Types.{pieces, pieceAt, currentPiece, idleWith}
+use Rattle.lock.specs.Types.{pieces, pieceAt, currentPiece}
 use Rattle.lock.specs.Owned.{owns, ownsNotice}
 use Rattle.lock.specs.Fit.{Live}
 use Rattle.lock.specs.Forward.{Kin}
-use Rattle.lock.specs.Stage.{phaseAt, passing, checkedTo, stage-before, stage-returning, stage-current, stage-after, stage-begun, stage-cases, passing-climb, passing-none, checked-all, checked-none, checked-stage, idle-stage}
+use Rattle.lock.specs.Stage.{phaseAt, passing, checkedTo, stage-before, stage-returning, stage-current, stage-after, stage-cases, passing-climb, passing-none, checked-all, checked-none, checked-stage}
 use Rattle.lock.specs.Timed.{Timely}
 
 kin-piece : (r q : Record) → Kin r q → (i : ℕ) → pieceAt q i ≡ pieceAt r i

@@ -1,13 +1,12 @@
 -- What a record owns of the words: tickets, turns and Occ of inner nodes, bits of leaves, and notices. Over all pieces of the record, however many there
 -- are. Assumes nothing.
-use mathlib.Core.Path.{_≡_, refl, sym, ap, ap₂, _∙_}
-use mathlib.Core.Logic.{_≢_}
-use Prim.Native.Nat.{ℕ, zero, suc, _≤_, _<_}
+use mathlib.Core.Path.{_≡_, sym, ap, _∙_}
+use Prim.Native.Nat.{ℕ, suc, _≤_, _<_}
 use native.Mathlib.Omega.{arith}
-use lib.Dec.{eqb, leb, ltb, eqb→eq, leb→le, ltb→lt}
+use lib.Dec.{eqb, leb, ltb, eqb→eq}
 use lib.ListN.{length, getD}
 use Rattle.base.specs.Choice.{choose, on-choose, choose-yes, choose-no, choose-eq, choose-ne, choose-lt, choose-ge, choose-le, choose-gt, by-lt}
-use Rattle.base.specs.Sum.{sumTo, to-same, to-mono, to-one, to-zero, to-only, to-at, to-le, to-once}
+use Rattle.base.specs.Sum.{sumTo, to-same, to-mono}
 use Rattle.tree.specs.Tree.{leaf}
 use Rattle.tree.specs.Lists.{notifyList}
 use Rattle.lock.specs.declared.Record.{Record}

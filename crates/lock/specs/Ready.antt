@@ -1,19 +1,18 @@
 -- Laws: what an accepted call knows of its client's record, which is readable: grip, notices, pieces and place by phase. Assumes nothing.
-use mathlib.Core.Path.{_≡_, refl, sym, ap, subst, _∙_}
+use mathlib.Core.Path.{_≡_, sym, ap, _∙_}
 use mathlib.Core.Logic.{_≢_, _⊎_, inl, inr, ⊎-elim}
-use mathlib.Core.Bool.{Bool, true, false, not, _&&_, _||_}
-use Prim.Native.Nat.{ℕ, suc, _≤_, _<_}
-use native.Mathlib.Decide.{ℕ-discrete}
+use mathlib.Core.Bool.{Bool, true, false, not, _&&_}
+use Prim.Native.Nat.{ℕ, _≤_, _<_}
 use native.Mathlib.Omega.{arith}
-use borrow.Author.Tests.{ltb-false, leb-false, eqb-false, eqb-true, not-false, lt-ltb, eq-eqb, ne-eqb}
-use lib.Dec.{T, eqb, leb, ltb}
+use borrow.Author.Tests.{ltb-false, eqb-false, eqb-true, not-false, lt-ltb, eq-eqb, ne-eqb}
+use lib.Dec.{eqb, ltb}
 use lib.ListN.{length}
 use Rattle.base.specs.Choice.{choose, choose-eq, choose-ne, by-lt, by-eq}
 use Rattle.tree.specs.Tree.{level}
 use Rattle.tree.specs.Lists.{notifyList}
 use Rattle.lock.specs.declared.Record.{Record}
 use Rattle.lock.specs.declared.Settings.{Settings}
-use Rattle.lock.specs.Types.{Phase, phaseOf, pieces, currentPiece, isLeaf, isRoot, gripOf}
+use Rattle.lock.specs.Types.{Phase, phaseOf, pieces, currentPiece, isLeaf, gripOf}
 use Rattle.lock.specs.Phases.{at-ticket, at-turn, at-climb, at-blocked, at-claim, at-notify, at-wait, at-check, at-returning}
 use Rattle.lock.specs.Readable.{nonzero, differ, noticesWrong, phaseElsewhere, lacksGrip, gripLacking, givingWrong, unreadable}
 use Rattle.lock.specs.Active.{Settled, Active}

@@ -1,14 +1,14 @@
 -- Laws: the step of phase 10 owes nothing to the invariant. Assumes nothing.
 use mathlib.Core.Path.{_≡_, refl, sym, ap, subst, _∙_}
-use mathlib.Core.Logic.{_≢_, _⊎_, inl, inr, ⊎-elim}
-use mathlib.Core.Bool.{Bool, true, false}
+use mathlib.Core.Logic.{_≢_, inl, inr, ⊎-elim}
+use mathlib.Core.Bool.{true, false}
 use mathlib.Core.List.{List}
 use Prim.Native.Nat.{ℕ, suc, _-_, _≤_, _<_}
 use native.Mathlib.Omega.{arith}
 use borrow.Author.Tests.{eq-eqb, ne-eqb}
-use lib.Dec.{T, eqb, ltb, eqb→eq}
+use lib.Dec.{eqb, ltb, eqb→eq}
 use lib.ListN.{length, getD}
-use Rattle.base.specs.Choice.{choose, on-choose, by-lt, by-eq, neqb→ne}
+use Rattle.base.specs.Choice.{on-choose, by-lt, by-eq}
 use Rattle.word.specs.Word.{tcnt, addTcnt, addDcnt, giveBits, returnOcc}
 use Rattle.tree.specs.Tree.{left, level, Node}
 use Rattle.tree.specs.Lists.{notifyList}
@@ -17,17 +17,16 @@ use Rattle.tree.specs.Code.{bounded}
 use Rattle.lock.specs.declared.Moved.{Moved}
 use Rattle.lock.specs.declared.Record.{Record}
 use Rattle.lock.specs.declared.Settings.{Settings}
-use Rattle.lock.specs.Types.{returning, pieces, pieceAt, currentPiece, givenPiece, isLeaf, gripOf, noticesOf, change, withGiving, withGrip, withPlace, idleWith}
+use Rattle.lock.specs.Types.{returning, pieces, pieceAt, givenPiece, isLeaf, gripOf, noticesOf, change, withGiving, withGrip, withPlace, idleWith}
 use Rattle.lock.specs.Steps.{touchedIn, wordReturned, pieceReturned, turnReturned, wanted, leaves, returnBits, returnInner, giveBack}
 use Rattle.lock.specs.Active.{Settled}
-use Rattle.lock.specs.Placed.{Clipped, clipped, widen, placed, given-notices}
+use Rattle.lock.specs.Placed.{clipped, widen, placed, given-notices}
 use Rattle.lock.specs.Pieces.{grip-before, grip-current}
 use Rattle.lock.specs.MoveLaws.{touched-own, touched-notice}
 use Rattle.lock.specs.ReturnLaws.{own-leaf, own-inner, own-notice, inner-occ, inner-turn, inner-ticket}
 use Rattle.lock.specs.Ready.{Ready}
-use Rattle.lock.specs.Owned.{ownsNotice}
 use Rattle.lock.specs.Fit.{Live, Fit, live-apart}
-use Rattle.lock.specs.Effect.{Grips, Notices, Effect, turned, freed, passed, unnotified, gave, grips-then, notices-then}
+use Rattle.lock.specs.Effect.{Grips, Effect, turned, freed, passed, unnotified, gave, grips-then, notices-then}
 use Rattle.lock.specs.Kept.{nobody}
 use Rattle.lock.specs.Timed.{Timely}
 use Rattle.lock.specs.Forward.{kin}

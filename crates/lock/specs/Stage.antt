@@ -6,7 +6,7 @@ use native.Mathlib.Decide.{ℕ-discrete}
 use native.Mathlib.Omega.{arith}
 use lib.Dec.{eqb, ltb}
 use lib.ListN.{length, getD}
-use Rattle.base.specs.Choice.{choose, on-choose, choose-eq, choose-ne, choose-lt, choose-ge, choose-le, by-lt}
+use Rattle.base.specs.Choice.{choose, choose-eq, choose-ne, choose-lt, choose-ge, choose-le, by-lt}
 use Rattle.base.specs.Sum.{sumTo, to-at, getD-past}
 use Rattle.tree.specs.Tree.{level}
 use Rattle.tree.specs.Level.{level-root}
@@ -15,10 +15,10 @@ use Rattle.tree.specs.Notify.{notifyCount, notifyNode, notify-count, notify-pla
 use Rattle.tree.specs.Check.{checkCount}
 use Rattle.lock.specs.declared.Record.{Record}
 use Rattle.lock.specs.declared.Settings.{Settings}
-use Rattle.lock.specs.Types.{pieces, pieceAt, currentPiece, gripOf, noticesOf, idleWith}
+use Rattle.lock.specs.Types.{pieces, pieceAt, currentPiece, idleWith}
 use Rattle.lock.specs.Pieces.{grip-before, grip-current, notices-before, notices-current}
 use Rattle.lock.specs.Active.{Settled}
-use Rattle.lock.specs.Owned.{returned, gripped, noticed, reaches, owns, outstanding, ownsNotice, reaches-yes, returned-none, gripped-kept, noticed-begun}
+use Rattle.lock.specs.Owned.{returned, gripped, noticed, owns, outstanding, ownsNotice, reaches-yes, returned-none, gripped-kept, noticed-begun}
 use Rattle.lock.specs.Fit.{Live, Fit, owns-here, bounded-piece, live-apart, live-noticed}
 
 -- the phase that piece i is in: 9 for a piece before the current one, 0 for one that is not begun; a record that returns is in 10 with all that it began

@@ -1,23 +1,21 @@
 -- Laws: what an accepted opening leaves has the invariant. Assumes nothing.
-use mathlib.Core.Path.{_≡_, refl, sym, ap, ap₂, subst, _∙_}
-use mathlib.Core.Logic.{_≢_, inl}
-use mathlib.Core.List.{List}
-use Prim.Native.Nat.{ℕ, zero, suc, _+_, _%_, _^_, _≤_, _<_}
+use mathlib.Core.Path.{_≡_, refl, sym, ap, subst, _∙_}
+use mathlib.Core.Logic.{inl}
+use Prim.Native.Nat.{ℕ, zero, suc, _+_, _%_}
 use native.Mathlib.Omega.{arith}
 use lib.ListN.{length, getD, replicate}
 use Rattle.base.specs.Sum.{sumBy, sum-zero, getD-fresh}
 use Rattle.base.specs.Tickets.{none-yet}
-use Rattle.word.specs.Word.{field, exp, occ, tcnt, tmax, dcnt, dmax, bit}
+use Rattle.word.specs.Word.{field, bit}
 use Rattle.word.specs.Bits.{bit-zero}
-use Rattle.tree.specs.Tree.{wordCount, leaf}
+use Rattle.tree.specs.Tree.{leaf}
 use Rattle.lock.specs.declared.Record.{Record}
 use Rattle.lock.specs.declared.Settings.{Settings}
 use Rattle.lock.specs.Types.{wordAt, idleWith}
 use Rattle.lock.specs.Table.{State, recordAt, openingNumber, opened}
-use Rattle.lock.specs.Active.{Settled}
 use Rattle.lock.specs.Accepted.{opened-accepted}
 use Rattle.lock.specs.Owned.{owns, ownsUnit, ownsNotice}
-use Rattle.lock.specs.Stage.{idle-stage, checked-stage}
+use Rattle.lock.specs.Stage.{idle-stage}
 use Rattle.lock.specs.Kept.{nobody, ticketOf, Kept}
 use Rattle.lock.specs.Timed.{Timed}
 use Rattle.lock.specs.Invariant.{Invariant}

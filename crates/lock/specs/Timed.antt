@@ -1,6 +1,6 @@
 -- Laws: what is known of two clients of which one has a piece above a piece of the other, and that every call keeps it so. Assumes nothing.
 use mathlib.Core.Path.{_≡_, refl, sym, ap, subst, _∙_}
-use mathlib.Core.Logic.{_≢_, _⊎_, inl, inr, ⊎-elim}
+use mathlib.Core.Logic.{_≢_, _⊎_, ⊎-elim}
 use mathlib.Core.List.{List}
 use Prim.Native.Nat.{ℕ, suc, _+_, _-_, _≤_, _<_}
 use native.Mathlib.Decide.{ℕ-discrete}
@@ -15,7 +15,7 @@ use Rattle.lock.specs.declared.Settings.{Settings}
 use Rattle.lock.specs.Types.{pieceAt, currentPiece}
 use Rattle.lock.specs.Active.{Settled}
 use Rattle.lock.specs.Owned.{owns, ownsNotice}
-use Rattle.lock.specs.Fit.{Live, Fit}
+use Rattle.lock.specs.Fit.{Fit}
 use Rattle.lock.specs.Stage.{phaseAt, passing, checkedTo, stage-current, checked-stage, piece-level, stage-live, stage-owns, stage-noticed}
 use Rattle.lock.specs.Times.{NotedBefore, Overdue, claim-noted, wait-overdue, overdue-stays, overdue-late}
 
