@@ -38,7 +38,7 @@ module _ (s : Settings) (r q : Record) where
     pub notices : (n : ℕ) → 1 ≤ n → ownsNotice s n q ≡ ownsNotice s n r
     pub drawn : (n : ℕ) → 1 ≤ n → n ≢ x → owns s 1 n q ≡ 1 → owns s 2 n q ≢ 1 → q .ticket ≡ r .ticket
 
-  -- it owns `more` notices at node x where it owned `less`, the one number being one more than the other, and nothing else that it owns changes
+  -- the notices that it owns at node x change, and nothing else that it owns
   pub record Notices (x : ℕ) : Type 0 where
     pub owned : (k n : ℕ) → 1 ≤ k → 1 ≤ n → owns s k n q ≡ owns s k n r
     pub units : (u : ℕ) → ownsUnit s u q ≡ ownsUnit s u r
@@ -75,14 +75,6 @@ module _ (s : Settings) (r q p : Record) (y : Same s q p) where
 
   two-still : (n : ℕ) → 1 ≤ n → owns s 2 n p ≢ 1 → owns s 2 n q ≢ 1
   two-still n b j z = j (y .owned 2 n (omega arith) b ∙ z)
-
-  pub same-then : Same s r q → Same s r p
-  same-then e = record {
-    owned = λ k n a b. y .owned k n a b ∙ e .owned k n a b;
-    units = λ u. y .units u ∙ e .units u;
-    notices = λ n b. y .notices n b ∙ e .notices n b;
-    drawn = λ n b i j. y .drawn n b i j ∙ e .drawn n b (one-still n b i) (two-still n b j);
-  }
 
   pub grips-then : (x from to : ℕ) → 1 ≤ x → Grips s r q x from to → Grips s r p x from to
   grips-then x from to c e = record {

@@ -23,7 +23,7 @@ use Rattle.lock.specs.Types.{pieces, pieceAt, currentPiece, idleWith}
 use Rattle.lock.specs.Pieces.{notices-before, notices-current}
 use Rattle.lock.specs.Active.{Settled}
 use Rattle.lock.specs.ActiveLaws.{in-at}
-use Rattle.lock.specs.Owned.{returned, gripped, noticed, reaches, owns, outstanding, ownsNotice, reaches-le, noticed-begun, noticed-none}
+use Rattle.lock.specs.Owned.{returned, gripped, noticed, reaches, owns, outstanding, ownsNotice, noticed-begun, noticed-none}
 
 -- a record that is not idle
 pub record Live (s : Settings) (last : ℕ) (r : Record) : Type 0 where
@@ -88,17 +88,6 @@ module _ (s : Settings) (r : Record) (v : Apart s r) where
   owns-here n i k b e =
       to-only _ (length (pieces r)) i b (λ j c d. choose-ne (pieceAt r j) n _ 0 (λ f. v .apart j i c b d (f ∙ sym e)))
       ∙ choose-eq (pieceAt r i) n _ 0 e
-
-  pub owns-le : (k n : ℕ) → owns s k n r ≤ 1
-  unfolding owns
-  owns-le k n =
-      to-once _ (length (pieces r))
-      (λ i b. on-choose (λ (x : ℕ). x ≤ 1) (eqb (pieceAt r i) n) _ 0 (λ _. reaches-le k (gripped s r i)) (λ _. omega arith))
-      (λ i j b l x y. v .apart i j b (omega arith) (omega arith) (at i x ∙ sym (at j y)))
-    where
-      at : (i : ℕ) → 0 < choose (eqb (pieceAt r i) n) (reaches k (gripped s r i)) 0 → pieceAt r i ≡ n
-      at i =
-          on-choose (λ (x : ℕ). 0 < x → pieceAt r i ≡ n) (eqb (pieceAt r i) n) (reaches k (gripped s r i)) 0 (λ t _. eqb→eq (pieceAt r i) n t) (λ _ b. absurd (omega arith))
 
   module _ (g : Settled s) (given : (i : ℕ) → i < length (pieces r) → noticed s r i ≤ length (notifyList (s .distance) (pieceAt r i))) where
     pub bounded-piece : (i : ℕ) → i < length (pieces r) → Bounded (s .distance) (level (pieceAt r i))
