@@ -3,4 +3,5 @@ pub mod ByValueLaws
 pub mod CallLaws
 pub mod CauseLaws
 pub mod Causes
+pub mod OpeningLaws
 pub mod Promises

@@ -9,6 +9,7 @@ use lock::Settings;
 
 mod causes;
 mod kinds;
+mod zeroes;
 
 // What a call over the table answers: its number (0 accepted) and the clock after it.
 #[repr(C)]
@@ -160,4 +161,25 @@ pub extern "C" fn table_act(
         number: stepped.number,
         clock: stepped.clock,
     }
+}
+
+// "Opening tests 1 to 3, then zeroes words, records and clock." The clock travels beside the table: it is 0 from here on.
+#[no_mangle]
+pub extern "C" fn table_open(records: &mut [Record], words: &mut [u64], settings: Settings) -> u64
+    ensures number { λ n. ⌜ n ≡ Table.opening settings (lent (now (records .entry)) (now (words .entry)) 0) .number ⌝ }
+    ensures records { λ n. ⌜ now (records .exit) ≡ Table.opening settings (lent (now (records .entry)) (now (words .entry)) 0) .state .records ⌝ }
+    ensures words { λ n. ⌜ now (words .exit) ≡ Table.opening settings (lent (now (records .entry)) (now (words .entry)) 0) .state .words ⌝ }
+{
+    let cause = causes::opening_cause(settings, words.len(), records.len());
+    if 0 < cause {
+        return cause;
+    }
+    zeroes::zero_words(words);
+    let idle = Record::idle_with(0);
+    let mut client = 0;
+    while client < records.len() {
+        records[client] = idle;
+        client = client + 1;
+    }
+    cause
 }
