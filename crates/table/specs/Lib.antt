@@ -3,5 +3,6 @@ pub mod ByValueLaws
 pub mod CallLaws
 pub mod CauseLaws
 pub mod Causes
+pub mod HistoryLaws
 pub mod OpeningLaws
 pub mod Promises

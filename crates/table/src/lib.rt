@@ -2,13 +2,14 @@
 // client's record. Its promises are the equations of one definition, the crate lock's `Table.call`, for every table, word list, client and number.
 ghost use mathlib.Core.Path.{_≡_};
 ghost use Rattle.lock.specs.Table as Table;
-ghost use Rattle.table.specs.Promises.{lent, answer, callOf};
+ghost use Rattle.table.specs.Promises.{lent, answer, callOf, callsOf, history};
 use lock::Call;
 use lock::Record;
 use lock::Settings;
 
 mod causes;
 mod kinds;
+mod list;
 mod zeroes;
 
 // What a call over the table answers: its number (0 accepted) and the clock after it.
@@ -182,4 +183,38 @@ pub extern "C" fn table_open(records: &mut [Record], words: &mut [u64], settings
         client = client + 1;
     }
     cause
+}
+
+// A history: the opening, and where it is accepted the calls of the list from clock 0, each on what the one before it left.
+#[no_mangle]
+pub extern "C" fn table_run(
+    records: &mut [Record],
+    words: &mut [u64],
+    settings: Settings,
+    calls: &[u64],
+) -> Answer
+    ensures answer { λ r. ⌜ r ≡ answer (history settings (lent (now (records .entry)) (now (words .entry)) 0) (callsOf (now (calls .entry)))) ⌝ }
+    ensures records { λ r. ⌜ now (records .exit) ≡ history settings (lent (now (records .entry)) (now (words .entry)) 0) (callsOf (now (calls .entry))) .state .records ⌝ }
+    ensures words { λ r. ⌜ now (words .exit) ≡ history settings (lent (now (records .entry)) (now (words .entry)) 0) (callsOf (now (calls .entry))) .state .words ⌝ }
+{
+    let cause = table_open(records, words, settings);
+    if 0 < cause {
+        return Answer {
+            number: cause,
+            clock: 0,
+        };
+    }
+    let count = list::call_count(calls);
+    let mut clock = 0;
+    let mut k = 0;
+    while k < count {
+        let call = list::call_at(calls, k, clock);
+        let answer = table_act(records, words, settings, call);
+        clock = answer.clock;
+        k = k + 1;
+    }
+    Answer {
+        number: cause,
+        clock: clock,
+    }
 }
