@@ -1,0 +1,29 @@
+-- `table::table_cancel` meets its contract: it is Thin.antt's law at `lock::Record::cancel`. Assumes nothing.
+use mathlib.Core.Path.{refl}
+use Rattle.lock.specs.Table.{cancel, clientOf}
+use Rattle.table.specs.ByValue.{answered, wordsAfter}
+use contract.Running.{givenOf, tables, tablesOf}
+use denote.Triple.Spec.{tripleOf}
+use denote.Triple.Table.{entered, cited}
+use Rattle.table.proofs.Thin.{thin-meets}
+use Rattle.table.proofs.causes.table_cause as cause
+use Rattle.table.proofs.causes.table_cause.Symbol as cause-def
+use Rattle.table.proofs.causes.table_cause.Symbol.{name as #cause}
+use Rattle.table.proofs.causes.table_cause.Met as cause-thm
+use Rattle.lock.proofs.Record.cancel as callee
+use Rattle.lock.proofs.Record.cancel.Symbol as callee-def
+use Rattle.lock.proofs.Record.cancel.Symbol.{name as #callee}
+use Rattle.lock.proofs.Record.cancel.Met as callee-thm
+use Rattle.table.proofs.table_cancel.Key.{name as #this}
+use Rattle.table.proofs.table_cancel as this
+use Rattle.table.proofs.table_cancel.Statement as stated
+use Rattle.table.proofs.table_cancel.Code as code
+
+pub table-cancel-spec : {M : Type 1} → stated.statement M
+unfolding code.routine tablesOf clientOf answered wordsAfter
+table-cancel-spec 𝓤 H 𝓜 𝓖 𝓡 =
+    entered 𝓤 H (tripleOf 𝓤 H (𝓖 .A) this.signature (this.spec 𝓤 H (𝓖 .A) (𝓜 .mem) (𝓡 .run)))
+    (tables 𝓤 H 𝓜 𝓡 code.env .C) (tables 𝓤 H 𝓜 𝓡 code.env .Λ) #this code.function (code.unfolded 𝓤 H 𝓜 𝓡)
+    (thin-meets (λ c. cancel (c .client)) (λ c. refl) 𝓤 H (𝓖 .A) (givenOf 𝓤 H 𝓜 𝓖) #cause #callee (tablesOf 𝓤 H 𝓜 (tables 𝓤 H 𝓜 𝓡 code.env))
+    (cited 𝓤 H (tripleOf 𝓤 H (𝓖 .A) cause.signature (cause.spec 𝓤 H (𝓖 .A) (𝓜 .mem) (𝓡 .run))) 𝓜 𝓡 code.env #cause cause-def.routine code.calls-table·causes·table-cause (cause-thm.met 𝓤 H 𝓜 𝓖 𝓡))
+    (cited 𝓤 H (tripleOf 𝓤 H (𝓖 .A) callee.signature (callee.spec 𝓤 H (𝓖 .A) (𝓜 .mem) (𝓡 .run))) 𝓜 𝓡 code.env #callee callee-def.routine code.calls-lock·Record·cancel (callee-thm.met 𝓤 H 𝓜 𝓖 𝓡)))

@@ -1,0 +1,8 @@
+pub mod ByValue
+pub mod ByValueLaws
+pub mod CallLaws
+pub mod CauseLaws
+pub mod Causes
+pub mod HistoryLaws
+pub mod OpeningLaws
+pub mod Promises

@@ -1,0 +1,49 @@
+-- An opening over the table: refused by 1, 2 or 3, or all zeroed. Assumes nothing.
+use mathlib.Core.Path.{_≡_, refl, sym, ap, _∙_}
+use mathlib.Core.List.{List}
+use Prim.Native.Nat.{ℕ}
+use lib.ListN.{length, replicate}
+use Rattle.base.specs.Choice.{choose-eq, choose-ne}
+use Rattle.lock.specs.declared.Record.{Record}
+use Rattle.lock.specs.declared.Settings.{Settings}
+use Rattle.lock.specs.Types.{idleWith}
+use Rattle.lock.specs.Calls.{clientsOutside}
+use Rattle.lock.specs.Table.{State, Out, openingNumber, opened, opening}
+use Rattle.table.specs.Promises.{lent}
+use Rattle.table.specs.Causes.{openingCause}
+
+-- the number, the records and the words after an opening
+abbrev pub Opened : Out → ℕ → List Record → List ℕ → Type 0
+Opened out n records words = (n ≡ out .number) × ((records ≡ out .state .records) × (words ≡ out .state .words))
+
+module _ (s : Settings) (records : List Record) (words : List ℕ) (last : ℕ) where
+  abbrev st : State
+  st = lent records words last
+
+  pub cause-opens : openingNumber s st ≡ openingCause s (length words) (length records)
+  unfolding openingNumber openingCause clientsOutside
+  cause-opens = refl
+
+  -- the state after a refused opening, and after an accepted one
+  pub state-refused : (openingNumber s st ≡ 0 → ⊥) → st ≡ opening s st .state
+  unfolding opening
+  state-refused d = sym (choose-ne (openingNumber s st) 0 _ st d)
+
+  pub state-opened : openingNumber s st ≡ 0 → lent (replicate (length records) (idleWith 0)) (replicate (length words) 0) 0 ≡ opening s st .state
+  unfolding opening opened
+  state-opened z = sym (choose-eq (openingNumber s st) 0 _ st z)
+
+  number-is : (n : ℕ) → n ≡ openingCause s (length words) (length records) → n ≡ opening s st .number
+  unfolding opening
+  number-is n e = e ∙ sym cause-opens
+
+  pub opening-refuses : (n : ℕ) → n ≡ openingCause s (length words) (length records) → (n ≡ 0 → ⊥) → Opened (opening s st) n records words
+  opening-refuses n e d =
+      let kept = state-refused (λ z. d (e ∙ sym cause-opens ∙ z)) in
+      (number-is n e, (ap (λ (t : State). t .records) kept, ap (λ (t : State). t .words) kept))
+
+  pub opening-takes : (n : ℕ) → n ≡ openingCause s (length words) (length records) → n ≡ 0
+      → Opened (opening s st) n (replicate (length records) (idleWith 0)) (replicate (length words) 0)
+  opening-takes n e z =
+      let made = state-opened (cause-opens ∙ sym e ∙ z) in
+      (number-is n e, (ap (λ (t : State). t .records) made, ap (λ (t : State). t .words) made))

@@ -1,0 +1,35 @@
+// The tests that stand before a client's own: causes 1 to 4.
+ghost use mathlib.Core.Path.{_≡_};
+ghost use Rattle.table.specs.Causes.{openingCause, tableCause};
+use lock::Settings;
+
+// Causes 1 to 3: settings outside their ranges, a word count that is not the tree's, "no clients, or over 32,767".
+pub fn opening_cause(settings: Settings, words: usize, records: usize) -> u64
+    ensures { λ n. ⌜ n ≡ openingCause settings words records ⌝ }
+{
+    let cause = settings.tree_cause(words as u64);
+    if cause != 0 {
+        return cause;
+    }
+    if records == 0 {
+        return 3;
+    }
+    if 32767 < records {
+        return 3;
+    }
+    0
+}
+
+// Causes 1 to 4: after these "client not below the table's count".
+pub fn table_cause(settings: Settings, words: usize, records: usize, client: u64) -> u64
+    ensures { λ n. ⌜ n ≡ tableCause settings words records client ⌝ }
+{
+    let cause = opening_cause(settings, words, records);
+    if cause != 0 {
+        return cause;
+    }
+    if records as u64 <= client {
+        return 4;
+    }
+    0
+}
