@@ -9,7 +9,7 @@ ROOT = Path(__file__).resolve().parent.parent
 HEADER = ROOT / "tests" / "probe.h"
 SOURCE = ROOT / "tests" / "probe.c"
 RECORDS = ROOT / "tests" / "records.c"
-LIBRARY = ROOT / "target" / "staticlib" / "libprobe.a"
+LIBRARIES = ROOT / "target" / "staticlib"
 
 QUERY = 8
 ANSWER = 4
@@ -41,11 +41,12 @@ def command(*words):
         raise SystemExit(f"failed: {' '.join(map(str, words))}")
 
 
-def build_library():
-    """Rattle proves the crate `probe` and what it rests on, unless the library is newer than all of their files."""
-    if not LIBRARY.exists() or LIBRARY.stat().st_mtime < newest_source():
-        command("rt", "staticlib", "probe")
-    return LIBRARY
+def build_library(crate):
+    """Rattle proves the crate and what it rests on, unless the library is newer than all of their files."""
+    library = LIBRARIES / f"lib{crate}.a"
+    if not library.exists() or library.stat().st_mtime < newest_source():
+        command("rt", "staticlib", crate)
+    return library
 
 
 def build_program(library, source):

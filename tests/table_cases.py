@@ -1,0 +1,170 @@
+"""Cases for the compiled calls over the lent table: single calls and whole histories held to the model, openings on tables
+of every length, and demand 3 over random histories that the compiled calls make."""
+
+from collections import Counter
+from concurrent.futures import ProcessPoolExecutor
+from functools import lru_cache
+from random import Random
+
+from compare import NAMES, case
+from compiled_table import Library, Table
+from histories import TOP, Driver, Shape, Watch
+from history_cases import CAUSES, MUST_OCCUR, SHAPE, lent_with_causes
+from model import table, tree
+from model.history import Call, Opened
+from model.record import IDLE, Record, Settings
+from record_states import any_clock
+
+UNLIKE = ("number", "clock", "records unlike", "words unlike")
+NAMES["compiled opening"] = ("levels", "words", "clients"), ("number", "records unlike", "words unlike")
+NAMES["compiled call"] = ("seed", "call", "by kind"), UNLIKE
+NAMES["compiled refusal"] = ("kind", "causes taken away", "by kind"), UNLIKE
+NAMES["compiled run"] = SHAPE, UNLIKE
+NAMES["compiled history"] = SHAPE, ("overlaps", "words left", "refused by 6", "refused by 9")
+NAMES["compiled occurs"] = ("place in the list of what must occur",), ("occurs",)
+
+FILLED = Record(*range(1, 15))
+
+
+def openings():
+    """32,767 clients open, 32,768 are refused 3, and so are none; 1 for settings and 2 for a word count come first."""
+    lent = [(2, 5, clients) for clients in (0, 1, 2, 64, 32766, 32767, 32768, 40000)]
+    lent += [(3, 21, 3), (6, 1365, 64), (2, 4, 3), (2, 6, 0), (1, 5, 3), (13, 5, 0), (2, 0, 1)]
+    for levels, count, clients in lent:
+        settings, words, records = Settings(levels, 1, 5), [TOP] * count, [FILLED] * clients
+        compiled = Table(settings, words, records)
+        number = compiled.open()
+        expected = table.opening(settings, words, records, 0).number
+        yield case("compiled opening", [levels, count, clients], (expected, 0, 0)), (number, *compiled.unlike(words, records), 0)
+
+
+def model_answer(settings, words, records, call, last):
+    others = {"request": (call.a, call.b), "step": (call.a,)}.get(call.kind, ())
+    return getattr(table, call.kind)(settings, words, records, call.client, *others, last)
+
+
+def compared(name, arguments, lent, call, last, by_kind):
+    """A case whose answer has the compiled call's number and clock, and how much of what it leaves is unlike the
+    model's."""
+    settings, words, records = lent
+    compiled = Table(settings, words, records)
+    answer = compiled.answer(call, last, "act" if by_kind else None)
+    expected = model_answer(settings, words, records, call, last)
+    return case(name, arguments, (*expected, 0, 0)), (*answer, *compiled.unlike(words, records))
+
+
+def refusals_in_order():
+    """Each kind with all of its causes, then with the first taken away, and so on, by its own function and by kind."""
+    for place, (kind, causes) in enumerate(CAUSES.items()):
+        for away in range(len(causes)):
+            for by_kind in (0, 1):
+                settings, words, records, client, *others = lent_with_causes(kind, causes[away:])
+                call = Call(kind, client, *others)
+                yield compared("compiled refusal", [place, away, by_kind], (settings, words, records), call, 9, by_kind)
+
+
+def damaged(rng, record):
+    """One field of a record changed to a number near it or to any number."""
+    place = rng.randrange(len(record))
+    near = max(record[place] + rng.choice([-1, 1, 2]), 0)
+    return Record(*(rng.choice([near, any_clock(rng)]) if at == place else number for at, number in enumerate(record)))
+
+
+def single_calls():
+    """Calls in the middle of histories, on records and words as they are or with one of them damaged."""
+    for seed in range(60):
+        rng = Random(f"table {seed}")
+        settings = Settings(rng.choice([2, 3, 4]), rng.choice(tree.DISTANCES), rng.choice([1, 2, 5, 9]))
+        lock = Opened(settings, [0] * tree.node_count(settings.levels), [IDLE] * rng.choice([1, 2, 3, 6]))
+        driver = Driver(lock, seed)
+        for place in range(100):
+            call, by_kind = driver.next_call(), rng.randrange(2)
+            yield compared("compiled call", [seed, place, by_kind], (settings, list(lock.words), list(lock.records)), call, lock.clock, by_kind)
+            client = rng.randrange(len(lock.records))
+            words = list(lock.words)
+            words[rng.randrange(len(words))] ^= 1 << rng.randrange(64)
+            records = [damaged(rng, record) if c == client else record for c, record in enumerate(lock.records)]
+            aimed = rng.choice([call, call._replace(client=client)])
+            yield compared("compiled call", [seed, place + 100, by_kind], (settings, words, records), aimed, lock.clock, by_kind)
+            lock.make(call)
+
+
+def runs():
+    """A whole history in one call of `table_run` leaves what the model's calls leave, also where the opening is refused
+    and nothing is left to be done."""
+    for seed in range(150):
+        rng = Random(f"run {seed}")
+        shape = Shape(Settings(rng.choice([1, 2, 2, 3, 4]), rng.choice([1, 2, 3, 4, 4]), rng.choice([0, 1, 4, 9, 20])), rng.choice([0, 1, 2, 3, 5]), rng.choice([0, 1, 300]))
+        words, records = [rng.getrandbits(64) for _ in range(tree.node_count(max(shape.settings.levels, 2)))], [FILLED] * shape.clients
+        compiled = Table(shape.settings, words, records)
+        expected = table.opening(shape.settings, words, records, 0)
+        calls = []
+        if expected.number == 0:
+            lock = Opened(shape.settings, words, records)
+            driver = Driver(lock, seed)
+            for _ in range(shape.calls):
+                calls.append(driver.next_call())
+                lock.make(calls[-1])
+            expected = table.Answer(0, lock.clock)
+        answer = compiled.run(calls)
+        yield case("compiled run", [*shape.settings, shape.clients, shape.calls, seed], (*expected, 0, 0)), (*answer, *compiled.unlike(words, records))
+
+
+def shapes():
+    """Small trees with few clients, a higher one, and as many clients as windows to fight for."""
+    for h, m, clients in [(h, m, clients) for h in (2, 3, 4) for m in (1, 2, 3, 4) for clients in (2, 3, 5, 8)]:
+        for wait in (1, 2, 4, 9):
+            yield Shape(Settings(h, m, wait), clients, 3000)
+    for clients in (2, 3, 4, 5, 6, 8, 12, 16):
+        for wait in (1, 3, 8, 20, 60, 200, 3, 8, 20):
+            yield Shape(Settings(6, 1 + clients % 4, wait), clients, 6500)
+
+
+def counts_of(numbered_shape):
+    """What is counted in one random history made by the compiled calls from an accepted opening."""
+    seed, shape = numbered_shape
+    lock = Table(shape.settings, [TOP] * tree.node_count(shape.settings.levels), [FILLED] * shape.clients)
+    if lock.open() != 0:
+        return Counter({("claim", 1): 1})
+    driver, watch = Driver(lock, seed), Watch(lock)
+    for _ in range(shape.calls):
+        watch.look(lock.make(driver.next_call()))
+    return watch.counts
+
+
+@lru_cache(maxsize=None)
+def histories():
+    """Each history's shape and seed, with what was counted in it, on all processors."""
+    Library.function("open")
+    numbered = list(enumerate(shapes()))
+    with ProcessPoolExecutor() as pool:
+        return list(zip(numbered, pool.map(counts_of, numbered, chunksize=4)))
+
+
+def demand_3():
+    """After every call of every history that the compiled calls make: no two different clients hold overlapping windows,
+    and if all are idle every word is at rest. No call from an opened tree is refused by 6 or 9."""
+    for (seed, shape), counts in histories():
+        found = counts["claim", 1], counts["claim", 2], counts["number", 6], counts["number", 9]
+        yield case("compiled history", [*shape.settings, shape.clients, shape.calls, seed], 0), found
+
+
+def what_occurs():
+    """The histories have at least 1,000,000 calls, in which everything that must occur does."""
+    total = Counter()
+    for _, counts in histories():
+        total += counts
+    calls = sum(count for kind, count in total.items() if kind[0] == "number")
+    yield case("compiled occurs", [len(MUST_OCCUR)], 1), (int(calls >= 1000000), 0, 0, 0)
+    for place, kind in enumerate(MUST_OCCUR):
+        yield case("compiled occurs", [place], 1), (int(total[kind] > 0), 0, 0, 0)
+
+
+SUITES = {
+    "compiled table, 32,767 clients open, 32,768 are refused 3": openings,
+    "compiled table, refused in order of testing": refusals_in_order,
+    "compiled table, calls on lent records and words, damaged ones too": single_calls,
+    "compiled table, a list of calls in one run": runs,
+    "compiled table, demand 3 after every call of a history": demand_3,
+    "compiled table, every phase, outcome and refusal occurs in a million calls": what_occurs,
+}
