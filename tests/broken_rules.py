@@ -56,6 +56,13 @@ def climb_notes_at_the_root(settings, record, words, clock):
     return done._replace(record=done.record._replace(t1=clock if done.record.phase == 5 else record.t1))
 
 
+def bits_without_comparing(settings, record, words, clock):
+    """A claimed leaf's wanted bits are set, whatever they were."""
+    n = records.current_node(record)
+    bits = step.wanted(settings, record, n)
+    return step.Step(0, step.to(record, 6, grip=3), n, step.word_at(words, n) | bits)
+
+
 RULES = {
     "late tested with > for >=": lambda: patch.object(step, "late", late_with_greater),
     "a wait of T - 1": lambda: patch.object(step, "waited", waited_one_less),
@@ -64,6 +71,7 @@ RULES = {
     "a cancelled ticket passed on out of turn": lambda: patch.dict(step.GIVE_INNER, {1: step.give_turn}),
     "a climb that goes on after a wait": lambda: patch.dict(step.ROWS, {4: blocked_goes_on}),
     "t1 noted at the root": lambda: patch.dict(step.ROWS, {3: climb_notes_at_the_root}),
+    "bits taken without comparing": lambda: patch.object(step, "claim_leaf", bits_without_comparing),
     "a taken first piece gives 9": lambda: patch.object(step, "taken", held_after_any_piece),
     "no notice is given back": lambda: patch.object(records, "notified", nothing_notified),
 }
@@ -77,6 +85,7 @@ SHAPES = {
     "a cancelled ticket passed on out of turn": Shape(Settings(2, 1, 2), 5, 600),
     "a climb that goes on after a wait": Shape(Settings(4, 2, 9), 4, 600),
     "t1 noted at the root": Shape(Settings(3, 1, 9), 3, 600),
+    "bits taken without comparing": Shape(Settings(2, 1, 9), 3, 600),
     "a taken first piece gives 9": Shape(Settings(2, 1, 2), 3, 600),
     "no notice is given back": Shape(Settings(2, 1, 2), 3, 600),
 }
