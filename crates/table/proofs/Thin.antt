@@ -4,7 +4,8 @@
 --         let client = call.client as usize; let record = records[client]; let stepped = callee(record, words, settings, call);
 --         records[client] = stepped.next; Answer { number: stepped.number, clock: stepped.clock } }
 --     function test key      its MIR, over the keys of `table_cause` and the callee
---     clauses, called        its contract and the callee's, over `kind`: which call of `lock`'s Table.antt the call is
+--     called                 the callee's contract, over `kind`: which call of `lock`'s Table.antt the call is
+--     said                   what f promises, which has to be shown of what that call gives
 --     thin-meets             where the table's entries at the keys meet the two contracts, the MIR meets f's
 -- Where the tests refuse nothing is touched. Else the borrow of the records is opened, the client's record is taken out and copied, the callee is called while
 -- the borrow stands open, the record that it gives is stored, and the borrow is closed. The words go to the callee for good: of both slices only the last
@@ -24,6 +25,7 @@ use base.Logic.{SProp, ent, sep, id⊢, via, fst∗, snd∗, exE, emp}
 use base.Fml.{Lft, Share, ftrue, fat, flft}
 use prog.Wp.{Heap, Calls, Loops, WpFn, Tables}
 use ghost.Atoms.{Atoms, sem}
+use contract.Lifetimes.{Lfts}
 use contract.Monad.{fact}
 use types.Kit.{Given, ‵, raw, _⊛_, some, later, ⋆, _$_, _∵_, !, qed, by, move, keep, drop, use0, use1, use2, split, join, pick, rewrite, fsplit, fjoin, feqL, suffices, frame, await, done}
 use types.Run.{look, look-raw, init, store, store-raw, forget, stop, hop, fld, from, load, lit, addr, of-opd, bin, and-then, no-more, assigns, returns-within, returns, land, enter, alloc1, alloc0, params1, pass1, pass0, free1, free0}
@@ -40,11 +42,11 @@ use denote.Index.{place-is, elem-out, elem-put, opens-slice, closes-slice}
 use denote.Signature.{Signature, plain}
 use denote.Steps.{only, owned, peeks, heard, nothing}
 use denote.Struct.Laws as LL
-use denote.Triple.Entry.{onEntry}
+use denote.Triple.Entry.{Args, onEntry}
 use denote.Triple.Spec.{Meets, tripleOf}
 use denote.Triple.Statement.{Contract, Triple}
 use denote.Triple.Call.{calls-at}
-use denote.Triple.Clauses.{Ended, Clauses, closing, ensured, lasts}
+use denote.Triple.Clauses.{Ended, AtExit, Clauses, closing, ensured, lasts}
 use denote.Triple.Walked.{Stays, stay-none, gave-slice, walkOf, goes-none, goes-gave-slice, Walks, ends-at, walked, walk-meets}
 use denote.Exit.{yes}
 use Rattle.lock.specs.declared.Record.{Record}
@@ -62,14 +64,14 @@ use Rattle.lock.proofs.Settings.Laws as G′
 use Rattle.lock.proofs.Call as K
 use Rattle.lock.proofs.Call.Laws as K′
 use Rattle.table.specs.declared.Answer.{Answer}
-use Rattle.table.specs.Promises.{lent, answer}
+use Rattle.table.specs.Promises.{lent}
 use Rattle.table.specs.ByValue.{answered, wordsAfter}
 use Rattle.table.specs.Causes.{tableCause}
 use Rattle.table.specs.CauseLaws.{client-below}
 use Rattle.table.specs.CallLaws.{Same, numbered, answeredOf, table-refuses, table-takes}
 use Rattle.table.proofs.Answer as An
 use Rattle.table.proofs.Answer.Laws as An′
-use Rattle.table.proofs.Walk.{gives-up, goes-on, says-three, none-found, some-found}
+use Rattle.table.proofs.Walk.{gives-up, goes-on, shows-that, none-found, some-found}
 
 abbrev R : RattleType
 R = Rec.the-row
@@ -180,19 +182,24 @@ module _ (kind : Call → Table.Call) (its-client : (c : Call) → Table.clientO
       let t = table-takes st ys ws (ca .last) (kind ca) (ca .client) (its-client ca) (sym ge ∙ none-found e h) in
       (ap answeredOf g ∙ t .0, (ap (λ (z : Stepped). set ys (ca .client) (z .next)) g ∙ t .1 .0, g′ ∙ t .1 .1))
 
-  abbrev pub clauses : {M : Type 1} (𝓤 : URA M) → Clauses 𝓤 ended
-  clauses 𝓤 κs a =
-      let out : Table.Out = called-on (now (a .0)) (now (a .1 .0)) (a .1 .1 .0) (a .1 .1 .1 .0) in
-      record { ghost = Unit {0}; requires = λ _. emp 𝓤; ensures = λ _ r e. sep 𝓤 (fact 𝓤 (r ≡ answer out)) (sep 𝓤 (fact 𝓤 (now (e .0) ≡ out .state .records)) (fact 𝓤 (now (e .1 .0) ≡ out .state .words))) }
-
   abbrev pub called : {M : Type 1} (𝓤 : URA M) → Clauses 𝓤 callee-ended
   called 𝓤 κs a = record { ghost = Unit {0}; requires = λ _. emp 𝓤; ensures = λ _ r e. sep 𝓤 (fact 𝓤 (r ≡ next (a .0) (now (a .1 .0)) (a .1 .1 .0) (a .1 .1 .1 .0))) (fact 𝓤 (now (e .1 .0) ≡ after (a .0) (now (a .1 .0)) (a .1 .1 .0) (a .1 .1 .1 .0))) }
+
+  -- what f promises of the answer and of the parameters at exit, and that it holds of what the call gives
+  abbrev pub Said : {M : Type 1} → URA M → Type 2
+  Said 𝓤 = (κs : Lfts 2) → Args signature κs → Answer → AtExit ended κs → SProp 𝓤
+
+  abbrev pub Shown : {M : Type 1} (𝓤 : URA M) → Said 𝓤 → Type 1
+  Shown 𝓤 said = (κs : Lfts 2) (a : Args signature κs) (r : Answer) (e : AtExit ended κs) → Same (called-on (now (a .0)) (now (a .1 .0)) (a .1 .1 .0) (a .1 .1 .1 .0)) r (now (e .0)) (now (e .1 .0)) → ent 𝓤 (emp 𝓤) (said κs a r e)
+
+  abbrev pub clauses : {M : Type 1} (𝓤 : URA M) → Said 𝓤 → Clauses 𝓤 ended
+  clauses 𝓤 said κs a = record { ghost = Unit {0}; requires = λ _. emp 𝓤; ensures = λ _ r e. said κs a r e }
 
   -- the callee's contract
   abbrev Callee : {M : Type 1} (𝓤 : URA M) (H : Heap 𝓤) (A : Atoms 𝓤) → Contract 𝓤
   Callee 𝓤 H A = tripleOf 𝓤 H A callee (closing 𝓤 H A callee-ended (called 𝓤))
 
-  module _ {M : Type 1} (𝓤 : URA M) (H : Heap 𝓤) (A : Atoms 𝓤) (W : Given 𝓤 H A) (κ κ′ : Lft) (q q′ : Share) (x : RefT (List Record)) (u : RefT (List ℕ)) (st : Settings) (ca : Call) (gs : Is RG st (G′.lowered st ∷ [])) (gc : Is RK ca (K′.lowered ca ∷ [])) (room : Room R (length (x .now))) (room′ : Room u64 (length (u .now))) where
+  module _ {M : Type 1} (𝓤 : URA M) (H : Heap 𝓤) (A : Atoms 𝓤) (W : Given 𝓤 H A) (said : Said 𝓤) (shown : Shown 𝓤 said) (κ κ′ : Lft) (q q′ : Share) (x : RefT (List Record)) (u : RefT (List ℕ)) (st : Settings) (ca : Call) (gs : Is RG st (G′.lowered st ∷ [])) (gc : Is RK ca (K′.lowered ca ∷ [])) (room : Room R (length (x .now))) (room′ : Room u64 (length (u .now))) where
     abbrev ys : List Record
     ys = x .now
 
@@ -228,7 +235,7 @@ module _ (kind : Call → Table.Call) (its-client : (c : Call) → Table.clientO
     vals = (s ∷ [], (s′ ∷ [], (G′.lowered st ∷ [], (K′.lowered ca ∷ [], tt))))
 
     abbrev Post : Val → SProp 𝓤
-    Post = walkOf 𝓤 H A ended stayed (clauses 𝓤) .post (((κ, (κ′, tt)), (q, (q′, tt)), tt, a, vals), tt)
+    Post = walkOf 𝓤 H A ended stayed (clauses 𝓤 said) .post (((κ, (κ′, tt)), (q, (q′, tt)), tt, a, vals), tt)
 
     -- what `checked` is passed
     abbrev tested : Settings × (ℕ × (ℕ × (ℕ × Unit {0})))
@@ -261,7 +268,7 @@ module _ (kind : Call → Table.Call) (its-client : (c : Call) → Table.clientO
         → ent 𝓤 (⋆ 𝓤 H A ((‵ (flft κ q) ⊛ (‵ (flft κ′ q′) ⊛ ‵ ftrue)) ∷ ‵ (finally R (x .name) zs) ∷ ‵ (finally u64 (u .name) vs) ∷ [])) (Post (An′.lowered n))
     exits n zs vs is k l e =
         qed W ((‵ (flft κ q) ⊛ (‵ (flft κ′ q′) ⊛ ‵ ftrue)) ∷ ‵ (finally R (x .name) zs) ∷ ‵ (finally u64 (u .name) vs) ∷ []) ∵
-        suffices ! _ (ends-at 𝓤 H A ended stayed (clauses 𝓤) W (((κ, (κ′, tt)), (q, (q′, tt)), tt, a, vals), tt) (An′.lowered n) n (zs, (vs, (tt, (tt, tt)))) (k, (l, (tt, (tt, tt))))) $ says-three ! (e .0) (e .1 .0) (e .1 .1) $ frame ! $
+        suffices ! _ (ends-at 𝓤 H A ended stayed (clauses 𝓤 said) W (((κ, (κ′, tt)), (q, (q′, tt)), tt, a, vals), tt) (An′.lowered n) n (zs, (vs, (tt, (tt, tt)))) (k, (l, (tt, (tt, tt))))) $ shows-that ! (shown (κ, (κ′, tt)) a n _ e) $ frame ! $
         nothing ! $ owned ! RK (Is RK) ((LL.makes K.the-type K′.the-plain) 𝓤 H A) ca _ gc $ fjoin ! $ owned ! RG (Is RG) ((LL.makes G.the-type G′.the-plain) 𝓤 H A) st _ gs $ fjoin ! $
         move ! (2 ∷ 0 ∷ []) $ fjoin ! $ move ! (1 ∷ 0 ∷ []) $ fjoin ! $ frame ! $ owned ! RA (Is RA) ((LL.makes An.the-type An′.the-plain) 𝓤 H A) n _ is $ done !
 
@@ -321,16 +328,16 @@ module _ (kind : Call → Table.Call) (its-client : (c : Call) → Table.clientO
           use1 W (‵ (finally R (x .name) (set ys i (r .next)))) (gives-up 𝓤 H A W R κ (x .name) (set ys i (r .next))) $ move ! (2 ∷ 3 ∷ []) $ join ! $ keep ! (0 ∷ 1 ∷ 3 ∷ []) $
           by ! (exits ans (set ys i (r .next)) (vs .1 .0) made (length-set ys i (r .next)) l (taken ys ws st ca e r (vs .1 .0) ge below h h′))))))))))))))))))))))))))))))))
 
-  module _ {M : Type 1} (𝓤 : URA M) (H : Heap 𝓤) (A : Atoms 𝓤) (W : Given 𝓤 H A) where
-    thin-walks : (test key : Name) (C : Calls 𝓤 H) (Λ : Loops 𝓤 H) → FmC 𝓤 H (W .laws) C → Triple 𝓤 (C test) (Checked 𝓤 H A) → Triple 𝓤 (C key) (Callee 𝓤 H A) → Walks 𝓤 H A ended stayed (WpFn 𝓤 H C Λ (function test key)) (clauses 𝓤)
-    thin-walks test key C Λ fm sure known = walked 𝓤 H A ended stayed (clauses 𝓤) (WpFn 𝓤 H C Λ (function test key))
+  module _ {M : Type 1} (𝓤 : URA M) (H : Heap 𝓤) (A : Atoms 𝓤) (W : Given 𝓤 H A) (said : Said 𝓤) (shown : Shown 𝓤 said) where
+    thin-walks : (test key : Name) (C : Calls 𝓤 H) (Λ : Loops 𝓤 H) → FmC 𝓤 H (W .laws) C → Triple 𝓤 (C test) (Checked 𝓤 H A) → Triple 𝓤 (C key) (Callee 𝓤 H A) → Walks 𝓤 H A ended stayed (WpFn 𝓤 H C Λ (function test key)) (clauses 𝓤 said)
+    thin-walks test key C Λ fm sure known = walked 𝓤 H A ended stayed (clauses 𝓤 said) (WpFn 𝓤 H C Λ (function test key))
         (λ κs. (slice-vals, (slice-vals, (LL.vals G.the-type G′.the-laws, (LL.vals K.the-type K′.the-laws, tt))))) (λ κs. (mut-slice-tells (named 0) (κs .0) R, (mut-slice-tells (named 1) (κs .1 .0) u64, (LL.tells G.the-type G′.the-laws, (LL.tells K.the-type K′.the-laws, tt)))))
         (λ κs qs bounds a g are. via 𝓤 _ (fst∗ 𝓤 _ (emp 𝓤))
-        (walk 𝓤 H A W (κs .0) (κs .1 .0) (qs .0) (qs .1 .0) (a .0) (a .1 .0) (a .1 .1 .0) (a .1 .1 .1 .0) (are .1 .1 .0) (are .1 .1 .1 .0) (are .0 .0 .1) (are .1 .0 .0 .1) test key C Λ fm sure known))
+        (walk 𝓤 H A W said shown (κs .0) (κs .1 .0) (qs .0) (qs .1 .0) (a .0) (a .1 .0) (a .1 .1 .0) (a .1 .1 .1 .0) (are .1 .1 .0) (are .1 .1 .1 .0) (are .0 .0 .1) (are .1 .0 .0 .1) test key C Λ fm sure known))
 
-  pub thin-meets : {M : Type 1} (𝓤 : URA M) (H : Heap 𝓤) (A : Atoms 𝓤) → Given 𝓤 H A → (test key : Name) (𝓣 : Tables 𝓤 H) → Triple 𝓤 (𝓣 .C test) (Checked 𝓤 H A) → Triple 𝓤 (𝓣 .C key) (Callee 𝓤 H A)
-      → Meets 𝓤 H A signature (WpFn 𝓤 H (𝓣 .C) (𝓣 .Λ) (function test key)) (closing 𝓤 H A ended (clauses 𝓤))
-  thin-meets 𝓤 H A W test key 𝓣 sure known =
+  pub thin-meets : {M : Type 1} (𝓤 : URA M) (H : Heap 𝓤) (A : Atoms 𝓤) → Given 𝓤 H A → (said : Said 𝓤) → Shown 𝓤 said → (test key : Name) (𝓣 : Tables 𝓤 H) → Triple 𝓤 (𝓣 .C test) (Checked 𝓤 H A) → Triple 𝓤 (𝓣 .C key) (Callee 𝓤 H A)
+      → Meets 𝓤 H A signature (WpFn 𝓤 H (𝓣 .C) (𝓣 .Λ) (function test key)) (closing 𝓤 H A ended (clauses 𝓤 said))
+  thin-meets 𝓤 H A W said shown test key 𝓣 sure known =
       walk-meets 𝓤 H A ended stayed W
-      (goes-gave-slice 𝓤 H A W 2 0 tt (plain (λ _. R)), (goes-gave-slice 𝓤 H A W 2 1 tt (plain (λ _. u64)), (goes-none 𝓤 H A W 2 (λ _. RG) yes (λ κs x f. refl), (goes-none 𝓤 H A W 2 (λ _. RK) yes (λ κs x f. refl), tt)))) (clauses 𝓤)
-      (WpFn 𝓤 H (𝓣 .C) (𝓣 .Λ) (function test key)) (WpFn-mono 𝓤 H (W .laws) 𝓣 (function test key)) (thin-walks 𝓤 H A W test key (𝓣 .C) (𝓣 .Λ) (fmOf 𝓤 H (W .laws) 𝓣) sure known)
+      (goes-gave-slice 𝓤 H A W 2 0 tt (plain (λ _. R)), (goes-gave-slice 𝓤 H A W 2 1 tt (plain (λ _. u64)), (goes-none 𝓤 H A W 2 (λ _. RG) yes (λ κs x f. refl), (goes-none 𝓤 H A W 2 (λ _. RK) yes (λ κs x f. refl), tt)))) (clauses 𝓤 said)
+      (WpFn 𝓤 H (𝓣 .C) (𝓣 .Λ) (function test key)) (WpFn-mono 𝓤 H (W .laws) 𝓣 (function test key)) (thin-walks 𝓤 H A W said shown test key (𝓣 .C) (𝓣 .Λ) (fmOf 𝓤 H (W .laws) 𝓣) sure known)

@@ -4,7 +4,7 @@
 --     goes-on          `if c { .. return .. }` and the rest: a premise for the arm, which returns, and one for the rest
 --     whiles           `while c { .. }` and the rest, with an invariant I and a variant in a well-founded order.        tests       the test of a turn: it holds and the turn goes on, or it fails and the rest runs
 --     none-found, some-found      the outcome of the test `0 < cause`, as a fact on numbers
---     says-three       a goal P ∗ ⌜φ⌝ ∗ ⌜χ⌝ ∗ ⌜ψ⌝: the three facts are shown, and P is left
+--     shows-that       a goal P ∗ Q: Q is shown of nothing, and P is left.        three-facts      such a Q: ⌜φ⌝ ∗ ⌜χ⌝ ∗ ⌜ψ⌝
 -- Assumes `Given`.
 use mathlib.Core.Path.{_≡_, refl}
 use Prim.Native.Nat.{ℕ}
@@ -93,14 +93,16 @@ module _ {M : Type 1} {𝓤 : URA M} {H : Heap 𝓤} {A : Atoms 𝓤} {K : Type 
       → ((t : X) → Seq K W (I t) (runs (𝓣 .C) (𝓣 .Λ) E b (Turned 𝓤 H (𝓣 .C) (𝓣 .Λ) E q (Below 𝓤 H A ≺ I t) rest))) → (t : X) → Seq K W (I t) (runs (𝓣 .C) (𝓣 .Λ) E (seq (block (loop b)) rest) q)
   whiles k 𝓣 ≺ wf I turn t = first k $ blocks k $ loops k 𝓣 ≺ wf I turn t
 
-pub says-three : {M : Type 1} {𝓤 : URA M} {H : Heap 𝓤} {A : Atoms 𝓤} {K : Type 0} {W : Given 𝓤 H A} {Γ : List (Item 𝓤)} → K → {φ χ ψ : Type 0} {P : SProp 𝓤} → φ → χ → ψ
-    → Step K W Γ (prop P) Γ (prop (sep 𝓤 P (sep 𝓤 (fact 𝓤 φ) (sep 𝓤 (fact 𝓤 χ) (fact 𝓤 ψ)))))
-says-three {𝓤 = 𝓤} t {φ} {χ} {ψ} {P} x y z =
-    let two = via 𝓤 (fact 𝓤 ψ) (factI 𝓤 ψ (emp 𝓤) z) (via 𝓤 (sep 𝓤 (emp 𝓤) (fact 𝓤 ψ)) (emp∗ 𝓤 (fact 𝓤 ψ)) (monoL 𝓤 (fact 𝓤 ψ) (factI 𝓤 χ (emp 𝓤) y))) in
+-- three facts, as a contract with three clauses has them
+pub three-facts : {M : Type 1} (𝓤 : URA M) {φ χ ψ : Type 0} → φ → χ → ψ → ent 𝓤 (emp 𝓤) (sep 𝓤 (fact 𝓤 φ) (sep 𝓤 (fact 𝓤 χ) (fact 𝓤 ψ)))
+three-facts 𝓤 {φ} {χ} {ψ} x y z =
     let rest = sep 𝓤 (fact 𝓤 χ) (fact 𝓤 ψ) in
-    let all = sep 𝓤 (fact 𝓤 φ) rest in
-    let three = via 𝓤 rest two (via 𝓤 (sep 𝓤 (emp 𝓤) rest) (emp∗ 𝓤 rest) (monoL 𝓤 rest (factI 𝓤 φ (emp 𝓤) x))) in
-    step (λ s. record { prf = via 𝓤 P (s .prf) (via 𝓤 (sep 𝓤 (emp 𝓤) P) (emp∗ 𝓤 P) (via 𝓤 (sep 𝓤 all P) (monoL 𝓤 P three) (comm∗ 𝓤 all P))) })
+    let two = via 𝓤 (fact 𝓤 ψ) (factI 𝓤 ψ (emp 𝓤) z) (via 𝓤 (sep 𝓤 (emp 𝓤) (fact 𝓤 ψ)) (emp∗ 𝓤 (fact 𝓤 ψ)) (monoL 𝓤 (fact 𝓤 ψ) (factI 𝓤 χ (emp 𝓤) y))) in
+    via 𝓤 rest two (via 𝓤 (sep 𝓤 (emp 𝓤) rest) (emp∗ 𝓤 rest) (monoL 𝓤 rest (factI 𝓤 φ (emp 𝓤) x)))
+
+pub shows-that : {M : Type 1} {𝓤 : URA M} {H : Heap 𝓤} {A : Atoms 𝓤} {K : Type 0} {W : Given 𝓤 H A} {Γ : List (Item 𝓤)} → K → {P Q : SProp 𝓤} → ent 𝓤 (emp 𝓤) Q → Step K W Γ (prop P) Γ (prop (sep 𝓤 P Q))
+shows-that {𝓤 = 𝓤} t {P} {Q} h =
+    step (λ s. record { prf = via 𝓤 P (s .prf) (via 𝓤 (sep 𝓤 (emp 𝓤) P) (emp∗ 𝓤 P) (via 𝓤 (sep 𝓤 Q P) (monoL 𝓤 P h) (comm∗ 𝓤 Q P))) })
 
 pub none-found : (e : ℕ) → T (not (ltb 0 e)) → e ≡ 0
 none-found e t = let h = nltb→le 0 e t in omega (arith, h)

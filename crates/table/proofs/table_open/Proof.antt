@@ -64,7 +64,7 @@ use Rattle.table.specs.Promises.{lent}
 use Rattle.table.specs.Causes.{openingCause}
 use Rattle.table.specs.OpeningLaws.{Opened, opening-refuses, opening-takes}
 use Rattle.table.proofs.Filled.{filled, filled-length, filled-none, filled-next, filled-all}
-use Rattle.table.proofs.Walk.{gives-up, goes-on, says-three, tests, whiles, Turned, first-of, after, inside, env, none-found, some-found}
+use Rattle.table.proofs.Walk.{gives-up, goes-on, shows-that, three-facts, tests, whiles, Turned, first-of, after, inside, env, none-found, some-found}
 use Rattle.table.proofs.causes.opening_cause as opening-cause
 use Rattle.table.proofs.causes.opening_cause.Symbol as opening-cause-def
 use Rattle.table.proofs.causes.opening_cause.Symbol.{name as #opening-cause}
@@ -176,7 +176,7 @@ module _ {M : Type 1} (𝓤 : URA M) (H : Heap 𝓤) (A : Atoms 𝓤) (W : Given
       → ent 𝓤 (⋆ 𝓤 H A ((‵ (flft κ q) ⊛ (‵ (flft κ′ q′) ⊛ ‵ ftrue)) ∷ ‵ (finally R (x .name) zs) ∷ ‵ (finally u64 (u .name) vs) ∷ [])) (Post (vint w64 k))
   exits k zs vs k-fits long long′ e =
       qed W ((‵ (flft κ q) ⊛ (‵ (flft κ′ q′) ⊛ ‵ ftrue)) ∷ ‵ (finally R (x .name) zs) ∷ ‵ (finally u64 (u .name) vs) ∷ []) ∵
-      suffices ! _ (ends-at 𝓤 H A this.ended stayed (this.clauses 𝓤 H A mem run) W (((κ, (κ′, tt)), (q, (q′, tt)), tt, a, vals), tt) (vint w64 k) k (zs, (vs, (tt, tt))) (long, (long′, (tt, tt)))) $ says-three ! (e .0) (e .1 .0) (e .1 .1) $ frame ! $
+      suffices ! _ (ends-at 𝓤 H A this.ended stayed (this.clauses 𝓤 H A mem run) W (((κ, (κ′, tt)), (q, (q′, tt)), tt, a, vals), tt) (vint w64 k) k (zs, (vs, (tt, tt))) (long, (long′, (tt, tt)))) $ shows-that ! (three-facts 𝓤 (e .0) (e .1 .0) (e .1 .1)) $ frame ! $
       nothing ! $ owned ! RG (Is RG) ((LL.makes G.the-type G′.the-plain) 𝓤 H A) st _ gs $ fjoin ! $ move ! (2 ∷ 0 ∷ []) $ fjoin ! $ move ! (1 ∷ 0 ∷ []) $ fjoin ! $ frame ! $ owned ! u64 (Is u64) (uint-makes 𝓤 H A W w64) k _ (refl, k-fits) $ done !
 
   -- what the three callees are passed

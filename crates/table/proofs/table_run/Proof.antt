@@ -65,7 +65,7 @@ use Rattle.table.specs.CallLaws.{Same, numbered}
 use Rattle.table.specs.HistoryLaws.{readAt, made, first-calls, one-more, one-made, all-calls, history-refused, history-taken, clock-opened}
 use Rattle.table.proofs.Answer as An
 use Rattle.table.proofs.Answer.Laws as An′
-use Rattle.table.proofs.Walk.{gives-up, goes-on, says-three, tests, whiles, Turned, first-of, after, inside, env, none-found, some-found}
+use Rattle.table.proofs.Walk.{gives-up, goes-on, shows-that, three-facts, tests, whiles, Turned, first-of, after, inside, env, none-found, some-found}
 use Rattle.table.proofs.list.call_count as call-count
 use Rattle.table.proofs.list.call_count.Symbol as call-count-def
 use Rattle.table.proofs.list.call_count.Symbol.{name as #call-count}
@@ -192,7 +192,7 @@ module _ {M : Type 1} (𝓤 : URA M) (H : Heap 𝓤) (A : Atoms 𝓤) (W : Given
   exits m zs vs is long long′ e =
       qed W ((‵ (flft κ q) ⊛ (‵ (flft κ′ q′) ⊛ (‵ (flft κ″ q″) ⊛ ‵ ftrue))) ∷ ‵ (finally R (x .name) zs) ∷ ‵ (finally u64 (u .name) vs) ∷ Listed ∷ []) ∵
       suffices ! _ (ends-at 𝓤 H A this.ended stayed (this.clauses 𝓤 H A mem run) W (((κ, (κ′, (κ″, tt))), (q, (q′, (q″, tt))), tt, a, vals), tt) (An′.lowered m) m (zs, (vs, (tt, (tt, tt)))) (long, (long′, (tt, (tt, tt))))) $
-      says-three ! (e .0) (e .1 .0) (e .1 .1) $ frame ! $
+      shows-that ! (three-facts 𝓤 (e .0) (e .1 .0) (e .1 .1)) $ frame ! $
       nothing ! $ move ! (3 ∷ 0 ∷ []) $ fjoin ! $ owned ! RG (Is RG) ((LL.makes G.the-type G′.the-plain) 𝓤 H A) st _ gs $ fjoin ! $
       move ! (2 ∷ 0 ∷ []) $ fjoin ! $ move ! (1 ∷ 0 ∷ []) $ fjoin ! $ frame ! $ owned ! RA (Is RA) ((LL.makes An.the-type An′.the-plain) 𝓤 H A) m _ is $ done !
 
