@@ -3,7 +3,7 @@ use mathlib.Core.Path.{_≡_, refl, subst}
 use mathlib.Core.Bool.{Bool, true, false, not, _||_}
 use Prim.Native.Nat.{ℕ, _≤_, _<_}
 use native.Mathlib.Omega.{arith}
-use lib.Dec.{T, leb, ltb, eqb, le→leb, lt→ltb, leb→le, ltb→lt, nltb→le, eqb→eq, eqb-refl, not-T}
+use lib.Dec.{T, leb, ltb, eqb, le→leb, lt→ltb, leb→le, ltb→lt, nltb→le, eqb→eq, eqb-refl, T-not, not-T}
 
 module _ {A : Type 0} where
   -- x where the test passes, else y. It is the library's `cond`, shut, so that a goal shows it as written.
@@ -50,6 +50,14 @@ module _ {A : Type 0} where
 -- cases on the order of two numbers
 pub by-lt : {P : Type 0} (m n : ℕ) → (m < n → P) → (n ≤ m → P) → P
 by-lt {P} m n f g = on-choose {A = ℕ} (λ _. P) (ltb m n) 0 0 (λ t. f (ltb→lt m n t)) (λ t. g (nltb→le m n t))
+
+-- two numbers that a test found to differ
+pub neqb→ne : (m n : ℕ) → T (not (eqb m n)) → m ≡ n → ⊥
+neqb→ne m n t e = T-not (eqb m n) t (subst (λ (k : ℕ). T (eqb m k)) e (eqb-refl m))
+
+-- cases on whether two numbers are equal
+pub by-eq : {P : Type 0} (m n : ℕ) → (m ≡ n → P) → ((m ≡ n → ⊥) → P) → P
+by-eq {P} m n f g = on-choose {A = ℕ} (λ _. P) (eqb m n) 0 0 (λ t. f (eqb→eq m n t)) (λ t. g (neqb→ne m n t))
 
 -- ---- tests joined by `||`
 

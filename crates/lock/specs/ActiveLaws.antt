@@ -32,7 +32,7 @@ use Rattle.lock.specs.ReadableLaws.{Begun, pastList, place-is, list-clim
 use Rattle.lock.specs.Calls.{settingsOutside}
 
 -- none of two tests is true
-both-false : (a b : Bool) → (a || b) ≡ false → (a ≡ false) × (b ≡ false)
+pub both-false : (a b : Bool) → (a || b) ≡ false → (a ≡ false) × (b ≡ false)
 both-false true b e = absurd (subst T e tt)
 both-false false b e = (refl, e)
 
@@ -57,14 +57,14 @@ settled s e =
 
 -- ---- the cover
 
-in-at : (c : List ℕ) (i : ℕ) → i < length c → In (getD c i 0) c
+pub in-at : (c : List ℕ) (i : ℕ) → i < length c → In (getD c i 0) c
 unfolding In
 in-at [] i b = absurd (omega arith)
 in-at (n ∷ c) zero b = inl refl
 in-at (n ∷ c) (suc i) b = inr (in-at c i (omega arith))
 
 -- two numbers, 0 for none, say a list of one or two nodes
-pieces-are : (r : Record) (c : List ℕ) (n : ℕ) → In n c → length c ≤ 2 → ((m : ℕ) → In m c → 1 ≤ m) → r .first ≡ getD c 0 0 → r .second ≡ getD c 1 0 → pieces r ≡ c
+pub pieces-are : (r : Record) (c : List ℕ) (n : ℕ) → In n c → length c ≤ 2 → ((m : ℕ) → In m c → 1 ≤ m) → r .first ≡ getD c 0 0 → r .second ≡ getD c 1 0 → pieces r ≡ c
 unfolding In pieces
 pieces-are r [] n i b v f g = absurd i
 pieces-are r (p ∷ []) n i b v f g = choose-eq (r .second) 0 _ _ g ∙ ap (λ x. x ∷ []) f

@@ -7,6 +7,10 @@ use Rattle.base.specs.Choice.{choose, choose-eq, choose-ne, by-lt}
 use Rattle.lock.specs.Types.{Phase, idle, ticket, turn, climb, blocked, claim, notify, wait, check, held, returning, unknown, phaseOf}
 
 module _ (p : ℕ) where
+  pub at-idle : p ≡ 0 → phaseOf p ≡ idle
+  unfolding phaseOf choose
+  at-idle e = ap phaseOf e
+
   pub at-ticket : p ≡ 1 → phaseOf p ≡ ticket
   unfolding phaseOf choose
   at-ticket e = ap phaseOf e
@@ -38,6 +42,10 @@ module _ (p : ℕ) where
   pub at-check : p ≡ 8 → phaseOf p ≡ check
   unfolding phaseOf choose
   at-check e = ap phaseOf e
+
+  pub at-held : p ≡ 9 → phaseOf p ≡ held
+  unfolding phaseOf choose
+  at-held e = ap phaseOf e
 
   pub at-returning : p ≡ 10 → phaseOf p ≡ returning
   unfolding phaseOf choose
