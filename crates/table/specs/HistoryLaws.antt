@@ -10,8 +10,9 @@ use Rattle.lock.specs.declared.Record.{Record}
 use Rattle.lock.specs.declared.Settings.{Settings}
 use Rattle.lock.specs.declared.Call.{Call as Asked}
 use Rattle.lock.specs.Table.{State, Call, Out, call, openingNumber, opening}
+use Rattle.lock.specs.History.{run}
 use Rattle.table.specs.declared.Answer.{Answer}
-use Rattle.table.specs.Promises.{lent, callOf, callsOf, run, history}
+use Rattle.table.specs.Promises.{lent, callOf, callsOf, history}
 use Rattle.table.specs.CallLaws.{Same, numbered}
 use Rattle.table.specs.OpeningLaws.{Opened, state-refused, state-opened}
 

@@ -1,12 +1,13 @@
 -- To be believed: document 01, sections "Phases", "Histories" and "The schedule program": what the promises of this crate's functions cite beside the crate
--- `lock`'s Table.antt, which says what a call and an opening do. Assumes nothing.
+-- `lock`'s Table.antt and History.antt, which say what a call, an opening and a run of calls do. Assumes nothing.
 use mathlib.Core.List.{List, [], _∷_}
 use Prim.Native.Nat.{ℕ}
 use lib.Dec.{eqb}
 use Rattle.base.specs.Choice.{choose}
 use Rattle.lock.specs.declared.Record.{Record}
 use Rattle.lock.specs.declared.Settings.{Settings}
-use Rattle.lock.specs.Table.{State, Call, request, step, release, cancel, Out, call, openingNumber, opening}
+use Rattle.lock.specs.Table.{State, Call, request, step, release, cancel, Out, openingNumber, opening}
+use Rattle.lock.specs.History.{run}
 use Rattle.table.specs.declared.Answer.{Answer}
 
 -- "The client table is lent as a list of records. The last clock, H, m and wait T .. travel beside it.": what a call is made on
@@ -29,11 +30,6 @@ callsOf (kind ∷ []) = []
 callsOf (kind ∷ client ∷ []) = []
 callsOf (kind ∷ client ∷ a ∷ []) = []
 callsOf (kind ∷ client ∷ a ∷ b ∷ rest) = callOf kind client a b ∷ callsOf rest
-
--- "Every call in it is made with that opening's H, m and T, on the words, records and last clock that the call before left"
-unfoldable pub run : Settings → State → List Call → State
-run s st [] = st
-run s st (k ∷ ks) = run s (call s st k .state) ks
 
 -- "It starts from the words, records and clock that an accepted opening left." After a refused opening no call is made, and all is as it was
 unfoldable pub history : Settings → State → List Call → Out
