@@ -4,9 +4,9 @@
 --     goes-on          `if c { .. return .. }` and the rest: a premise for the arm, which returns, and one for the rest
 --     whiles           `while c { .. }` and the rest, with an invariant I and a variant in a well-founded order.        tests       the test of a turn: it holds and the turn goes on, or it fails and the rest runs
 --     none-found, some-found      the outcome of the test `0 < cause`, as a fact on numbers
---     says-three       a goal P ∗ ⌜φ⌝ ∗ ⌜χ⌝ ∗ ⌜ψ⌝: the three facts are shown, and P is left
+--     shows-that       a goal P ∗ Q: Q is shown of nothing, and P is left.        three-facts      such a Q: ⌜φ⌝ ∗ ⌜χ⌝ ∗ ⌜ψ⌝
 -- Assumes `Given`.
-use mathlib.Core.Path.{_≡_, refl}
+use mathlib.Core.Path.{_≡_}
 use Prim.Native.Nat.{ℕ}
 use native.Mathlib.Omega.{arith}
 use mathlib.Core.Bool.{Bool, not}
@@ -18,11 +18,11 @@ use mir.Syntax.{Ty, Local, local, Opd as Operand, Body, skip, seq, assign, block
 use mir.Val.{vbool}
 use base.Logic.{SProp, ent, sep, emp, via, emp∗, monoL, comm∗}
 use contract.Monad.{fact, factI}
-use base.Fml.{Lft, GName, froom, fdies}
-use prog.Wp.{Heap, Out, Env, afterSeq, afterBlock, afterTurn, Calls, Loops, Wp, Tables}
+use base.Fml.{Lft, GName}
+use prog.Wp.{Heap, Env, afterSeq, afterBlock, afterTurn, Calls, Loops, Wp, Tables}
 use ghost.Atoms.{Atoms, sem}
-use types.Kit.{Given, Item, ‵, Post, post, anyQ, Goal, runs, frees, prop, Seq, Step, step, _$_}
-use types.Run.{Opd, first, skips, blocks, branches, jumps, free1, free0, Below, loops}
+use types.Kit.{Given, Item, Post, post, anyQ, runs, prop, Seq, Step, step, _$_}
+use types.Run.{Opd, first, skips, blocks, branches, jumps, Below, loops}
 use denote.RattleType.{RattleType}
 use denote.Slice.{heres, codedHoleys, finally, res-finally}
 
@@ -68,12 +68,14 @@ env [] ls = []
 env (v ∷ vs) [] = []
 env (local τ h ∷ vs) (l ∷ ls) = (τ, l) ∷ env vs ls
 
-pub gives-up : {M : Type 1} (𝓤 : URA M) (H : Heap 𝓤) (A : Atoms 𝓤) (W : Given 𝓤 H A) (Q : RattleType) (κ : Lft) (γ : GName) (l : List (Q .Denot)) → ent 𝓤 (A .obs γ (codedHoleys Q .code (heres Q l))) (sem 𝓤 H A (finally Q γ l))
+pub gives-up : {M : Type 1} (𝓤 : URA M) (H : Heap 𝓤) (A : Atoms 𝓤) (W : Given 𝓤 H A) (Q : RattleType) (κ : Lft) (γ : GName) (l : List (Q .Denot))
+    → ent 𝓤 (A .obs γ (codedHoleys Q .code (heres Q l))) (sem 𝓤 H A (finally Q γ l))
 gives-up 𝓤 H A W Q κ γ l = via 𝓤 (A .res γ (codedHoleys Q .code (heres Q l))) (W .names .obs-res γ (codedHoleys Q .code (heres Q l))) (res-finally 𝓤 H A W (named 0) κ Q γ l)
 
 module _ {M : Type 1} {𝓤 : URA M} {H : Heap 𝓤} {A : Atoms 𝓤} {K : Type 0} {W : Given 𝓤 H A} {Γ : List (Item 𝓤)} {E : Env 𝓤 H} {C : Calls 𝓤 H} {Λ : Loops 𝓤 H} {q : Post 𝓤 H} where
   pub goes-on : K → {c : Operand} {a b : Body} {y : Bool} → Opd K W Γ E c (vbool y)
-      → (T y → Seq K W Γ (runs C Λ E a (anyQ (afterSeq 𝓤 H (Wp 𝓤 H C Λ E b (post 𝓤 H q)) (post 𝓤 H q))))) → (T (not y) → Seq K W Γ (runs C Λ E b q)) → Seq K W Γ (runs C Λ E (seq (cond c a skip) b) q)
+      → (T y → Seq K W Γ (runs C Λ E a (anyQ (afterSeq 𝓤 H (Wp 𝓤 H C Λ E b (post 𝓤 H q)) (post 𝓤 H q))))) → (T (not y) → Seq K W Γ (runs C Λ E b q))
+      → Seq K W Γ (runs C Λ E (seq (cond c a skip) b) q)
   goes-on t o held failed = first t $ branches t o held (λ h. skips t $ record { prf = failed h .prf })
 
 -- a turn's postcondition: it ends in X, or the loop is left and the rest of the body runs
@@ -90,17 +92,21 @@ module _ {M : Type 1} {𝓤 : URA M} {H : Heap 𝓤} {A : Atoms 𝓤} {K : Type 
 
 module _ {M : Type 1} {𝓤 : URA M} {H : Heap 𝓤} {A : Atoms 𝓤} {K : Type 0} {W : Given 𝓤 H A} {X : Type 0} where
   pub whiles : K → (𝓣 : Tables 𝓤 H) (≺ : X → X → Type 0) → WellFounded ≺ → (I : X → List (Item 𝓤)) {E : Env 𝓤 H} {b rest : Body} {q : Post 𝓤 H}
-      → ((t : X) → Seq K W (I t) (runs (𝓣 .C) (𝓣 .Λ) E b (Turned 𝓤 H (𝓣 .C) (𝓣 .Λ) E q (Below 𝓤 H A ≺ I t) rest))) → (t : X) → Seq K W (I t) (runs (𝓣 .C) (𝓣 .Λ) E (seq (block (loop b)) rest) q)
+      → ((t : X) → Seq K W (I t) (runs (𝓣 .C) (𝓣 .Λ) E b (Turned 𝓤 H (𝓣 .C) (𝓣 .Λ) E q (Below 𝓤 H A ≺ I t) rest))) → (t : X)
+      → Seq K W (I t) (runs (𝓣 .C) (𝓣 .Λ) E (seq (block (loop b)) rest) q)
   whiles k 𝓣 ≺ wf I turn t = first k $ blocks k $ loops k 𝓣 ≺ wf I turn t
 
-pub says-three : {M : Type 1} {𝓤 : URA M} {H : Heap 𝓤} {A : Atoms 𝓤} {K : Type 0} {W : Given 𝓤 H A} {Γ : List (Item 𝓤)} → K → {φ χ ψ : Type 0} {P : SProp 𝓤} → φ → χ → ψ
-    → Step K W Γ (prop P) Γ (prop (sep 𝓤 P (sep 𝓤 (fact 𝓤 φ) (sep 𝓤 (fact 𝓤 χ) (fact 𝓤 ψ)))))
-says-three {𝓤 = 𝓤} t {φ} {χ} {ψ} {P} x y z =
-    let two = via 𝓤 (fact 𝓤 ψ) (factI 𝓤 ψ (emp 𝓤) z) (via 𝓤 (sep 𝓤 (emp 𝓤) (fact 𝓤 ψ)) (emp∗ 𝓤 (fact 𝓤 ψ)) (monoL 𝓤 (fact 𝓤 ψ) (factI 𝓤 χ (emp 𝓤) y))) in
+-- three facts, as a contract with three clauses has them
+pub three-facts : {M : Type 1} (𝓤 : URA M) {φ χ ψ : Type 0} → φ → χ → ψ → ent 𝓤 (emp 𝓤) (sep 𝓤 (fact 𝓤 φ) (sep 𝓤 (fact 𝓤 χ) (fact 𝓤 ψ)))
+three-facts 𝓤 {φ} {χ} {ψ} x y z =
     let rest = sep 𝓤 (fact 𝓤 χ) (fact 𝓤 ψ) in
-    let all = sep 𝓤 (fact 𝓤 φ) rest in
-    let three = via 𝓤 rest two (via 𝓤 (sep 𝓤 (emp 𝓤) rest) (emp∗ 𝓤 rest) (monoL 𝓤 rest (factI 𝓤 φ (emp 𝓤) x))) in
-    step (λ s. record { prf = via 𝓤 P (s .prf) (via 𝓤 (sep 𝓤 (emp 𝓤) P) (emp∗ 𝓤 P) (via 𝓤 (sep 𝓤 all P) (monoL 𝓤 P three) (comm∗ 𝓤 all P))) })
+    let two = via 𝓤 (fact 𝓤 ψ) (factI 𝓤 ψ (emp 𝓤) z) (via 𝓤 (sep 𝓤 (emp 𝓤) (fact 𝓤 ψ)) (emp∗ 𝓤 (fact 𝓤 ψ)) (monoL 𝓤 (fact 𝓤 ψ) (factI 𝓤 χ (emp 𝓤) y))) in
+    via 𝓤 rest two (via 𝓤 (sep 𝓤 (emp 𝓤) rest) (emp∗ 𝓤 rest) (monoL 𝓤 rest (factI 𝓤 φ (emp 𝓤) x)))
+
+pub shows-that : {M : Type 1} {𝓤 : URA M} {H : Heap 𝓤} {A : Atoms 𝓤} {K : Type 0} {W : Given 𝓤 H A} {Γ : List (Item 𝓤)} → K → {P Q : SProp 𝓤} → ent 𝓤 (emp 𝓤) Q
+    → Step K W Γ (prop P) Γ (prop (sep 𝓤 P Q))
+shows-that {𝓤 = 𝓤} t {P} {Q} h =
+    step (λ s. record { prf = via 𝓤 P (s .prf) (via 𝓤 (sep 𝓤 (emp 𝓤) P) (emp∗ 𝓤 P) (via 𝓤 (sep 𝓤 Q P) (monoL 𝓤 P h) (comm∗ 𝓤 Q P))) })
 
 pub none-found : (e : ℕ) → T (not (ltb 0 e)) → e ≡ 0
 none-found e t = let h = nltb→le 0 e t in omega (arith, h)

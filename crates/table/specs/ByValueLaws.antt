@@ -4,7 +4,7 @@ use mathlib.Core.List.{List}
 use Prim.Native.Nat.{ℕ}
 use native.Mathlib.Omega.{arith}
 use lib.Dec.{eqb}
-use Rattle.base.specs.Choice.{choose, choose-eq, choose-ne, on-choose}
+use Rattle.base.specs.Choice.{choose-eq, choose-ne, on-choose}
 use Rattle.lock.specs.declared.Record.{Record}
 use Rattle.lock.specs.declared.Settings.{Settings}
 use Rattle.lock.specs.declared.Stepped.{Stepped}
@@ -57,6 +57,7 @@ module _ (s : Settings) (r : Record) (words : List ℕ) (c : Asked) (x : Stepped
   unfolding answered wordsAfter
   acts-release e g h = named (release (c .client)) (kind-release _ _ _ _ e) (g, h)
 
-  pub acts-cancel : (c .kind ≡ 0 → ⊥) → (c .kind ≡ 1 → ⊥) → (c .kind ≡ 2 → ⊥) → x ≡ cancelAnswer s (c .last) r words → vs ≡ words → Acted (callOf (c .kind) (c .client) (c .a) (c .b))
+  pub acts-cancel : (c .kind ≡ 0 → ⊥) → (c .kind ≡ 1 → ⊥) → (c .kind ≡ 2 → ⊥) → x ≡ cancelAnswer s (c .last) r words → vs ≡ words
+      → Acted (callOf (c .kind) (c .client) (c .a) (c .b))
   unfolding answered wordsAfter
   acts-cancel d e f g h = named (cancel (c .client)) (kind-cancel _ _ _ _ d e f) (g, h)

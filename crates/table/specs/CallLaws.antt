@@ -10,9 +10,9 @@ use Rattle.base.specs.Choice.{choose, choose-ne}
 use Rattle.lock.specs.declared.Record.{Record}
 use Rattle.lock.specs.declared.Settings.{Settings}
 use Rattle.lock.specs.declared.Stepped.{Stepped}
-use Rattle.lock.specs.Types.{idleWith, wordAt, written}
-use Rattle.lock.specs.Steps.{touched, moved}
-use Rattle.lock.specs.Calls.{Tests, firstCause, treeTests, clientsOutside, clientTests, requested, released, cancelled, answered as answeredBy, requestNumber, requestAnswer, releaseAnswer, cancelAnswer, stepNumber, stepAnswer, stepWords}
+use Rattle.lock.specs.Types.{idleWith}
+use Rattle.lock.specs.Calls.{firstCause, treeTests, clientsOutside, clientTests, requested, released, cancelled, answered as answeredBy, requestNumber, requestAnswer}
+use Rattle.lock.specs.Calls.{releaseAnswer, cancelAnswer, stepNumber, stepAnswer, stepWords}
 use Rattle.lock.specs.Table.{State, Call, request, step, release, cancel, clientOf, recordAt, Out, ownTests, numberOf, after, call}
 use Rattle.table.specs.declared.Answer.{Answer}
 use Rattle.table.specs.Promises.{lent, answer}
@@ -56,7 +56,8 @@ module _ (s : Settings) (records : List Record) (words : List ℕ) (last : ℕ) 
 
   -- ---- refused by 1, 2, 3 or 4: all as it was
 
-  pub table-refuses : (k : Call) (n : ℕ) → n ≡ tableCause s (length words) (length records) (clientOf k) → (n ≡ 0 → ⊥) → Same (call s st k) (numbered n last) records words
+  pub table-refuses : (k : Call) (n : ℕ) → n ≡ tableCause s (length words) (length records) (clientOf k) → (n ≡ 0 → ⊥)
+      → Same (call s st k) (numbered n last) records words
   unfolding call
   table-refuses k n e d =
       let number : numberOf s st k ≡ n = cause-refuses k (λ z. d (e ∙ z)) ∙ sym e in

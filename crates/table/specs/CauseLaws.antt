@@ -1,15 +1,15 @@
 -- Laws of the chains of tests: a chain that goes on behind another, and the causes that the functions of this crate find. Assumes nothing.
 use mathlib.Core.Path.{_≡_, refl, sym, ap, _∙_}
 use mathlib.Core.Bool.{Bool, true, false, not, _||_}
-use mathlib.Core.List.{List, [], _∷_, _++_}
+use mathlib.Core.List.{[], _∷_, _++_}
 use Prim.Native.Nat.{ℕ, _<_, _≤_}
 use native.Mathlib.Omega.{arith}
 use borrow.Author.Tests.{eq-eqb, ne-eqb, lt-ltb, le-ltb}
-use lib.Dec.{T, eqb, leb, ltb, le→leb, nleb→lt, leb→le, not-T}
+use lib.Dec.{T, eqb, leb, ltb, nleb→lt}
 use Rattle.base.specs.Choice.{choose, choose-le, choose-gt}
 use Rattle.lock.specs.declared.Settings.{Settings}
 use Rattle.lock.specs.Calls.{Tests, firstCause, treeTests}
-use Rattle.lock.specs.CallLaws.{TreeTested, cause-hit, cause-skip, tree-passed}
+use Rattle.lock.specs.CallLaws.{TreeTested, tree-passed}
 use Rattle.table.specs.Causes.{openingCause, tableCause}
 
 -- ---- a chain behind another
@@ -115,4 +115,5 @@ module _ (s : Settings) (words records client : ℕ) where
   pub client-below : tableCause s words records client ≡ 0 → client < records
   unfolding openingCause tableCause treeTests firstCause
   client-below z =
-      nleb→lt records client (four-none (leb records client) (sym (behind-opening (both-none (treeTests s words ++ ((eqb records 0 || ltb 32767 records, 3) ∷ [])) ((leb records client, 4) ∷ []) z)) ∙ z))
+      nleb→lt records client (four-none (leb records client) (sym (behind-opening (both-none (treeTests s words ++ ((eqb records 0 || ltb 32767 records, 3)
+      ∷ [])) ((leb records client, 4) ∷ []) z)) ∙ z))

@@ -10,11 +10,11 @@ use Rattle.lock.specs.declared.Record.{Record}
 use Rattle.lock.specs.declared.Settings.{Settings}
 use Rattle.lock.specs.declared.Call.{Call as Asked}
 use Rattle.lock.specs.Table.{State, Call, Out, call, openingNumber, opening}
-use Rattle.table.specs.declared.Answer.{Answer}
 use Rattle.lock.specs.History.{run}
+use Rattle.table.specs.declared.Answer.{Answer}
 use Rattle.table.specs.Promises.{lent, callOf, callsOf, history}
 use Rattle.table.specs.CallLaws.{Same, numbered}
-use Rattle.table.specs.OpeningLaws.{Opened, state-refused, state-opened}
+use Rattle.table.specs.OpeningLaws.{state-refused, state-opened}
 
 -- the call at place k, and as the code reads it after a clock
 abbrev pub callAt : List ℕ → ℕ → Call
@@ -73,7 +73,8 @@ all-calls s [] t = refl
 all-calls s (kind ∷ []) t = refl
 all-calls s (kind ∷ client ∷ []) t = refl
 all-calls s (kind ∷ client ∷ a ∷ []) t = refl
-all-calls s (kind ∷ client ∷ a ∷ b ∷ l) t = ap (first-calls s (kind ∷ client ∷ a ∷ b ∷ l) t) (count-on (length l)) ∙ calls-on s kind client a b l t (length l / 4) ∙ all-calls s l _
+all-calls s (kind ∷ client ∷ a ∷ b ∷ l) t = ap (first-calls s (kind ∷ client ∷ a ∷ b
+    ∷ l) t) (count-on (length l)) ∙ calls-on s kind client a b l t (length l / 4) ∙ all-calls s l _
 
 -- ---- the opening before them
 

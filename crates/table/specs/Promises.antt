@@ -1,5 +1,5 @@
 -- To be believed: document 01, sections "Phases", "Histories" and "The schedule program": what the promises of this crate's functions cite beside the crate
--- `lock`'s Table.antt, which says what a call and an opening do. Assumes nothing.
+-- `lock`'s Table.antt and History.antt, which say what a call, an opening and a run of calls do. Assumes nothing.
 use mathlib.Core.List.{List, [], _∷_}
 use Prim.Native.Nat.{ℕ}
 use lib.Dec.{eqb}

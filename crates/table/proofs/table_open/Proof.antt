@@ -24,13 +24,15 @@ use prog.Wp.{Heap, Env, afterTurn, WpFn, Tables}
 use ghost.Atoms.{Atoms, sem}
 use contract.Monad.{Fun, fact}
 use contract.Running.{givenOf, tables, tablesOf}
-use types.Kit.{Given, Item, ‵, raw, _⊛_, some, later, ⋆, runs, atRet, Sq, _$_, _∵_, !, qed, by, move, keep, drop, use0, use1, use2, split, join, pick, rewrite, fsplit, fjoin, feqL, suffices, frame, await, done}
-use types.Run.{look, init, store, store-raw, forget, stop, hop, fld, from, load, lit, addr, of-opd, bin, and-then, no-more, assigns, assigns-last, returns-within, returns, land, enter, alloc1, alloc0, params1, pass1, pass0, free1, free0, Below, again}
+use types.Kit.{Given, Item, ‵, raw, _⊛_, some, later, ⋆, runs, atRet, Sq, _$_, _∵_, !, qed, by, move, keep, drop, use0, use1, use2, split, join, pick, rewrite, fsplit}
+use types.Kit.{fjoin, feqL, suffices, frame, await, done}
+use types.Run.{look, init, store, store-raw, forget, stop, hop, fld, from, load, lit, addr, of-opd, bin, and-then, no-more, assigns, assigns-last, returns-within}
+use types.Run.{returns, land, enter, alloc1, alloc0, params1, pass1, pass0, free1, free0, Below, again}
 use types.Part.{agg, whole, sub, look-in}
 use sound.WpLaws.{fmOf, WpFn-mono}
 use denote.RattleType.{RattleType, owns}
 use denote.Laws.{Is, shows}
-use denote.Plain.{Nothing, uint-vals, uint-tells, uint-makes, uint-lawful, nothing-lawful}
+use denote.Plain.{Nothing, uint-makes, uint-lawful, nothing-lawful}
 use denote.Builtin.{u64, usize}
 use denote.Memory.{pointee}
 use denote.Ref.{RefT}
@@ -46,7 +48,7 @@ use denote.Triple.Statement.{Contract, Triple}
 use denote.Triple.Call.{calls-at}
 use denote.Triple.Clauses.{ensured, lasts}
 use denote.Triple.Table.{entered, cited}
-use denote.Triple.Walked.{says, Stays, stay-none, gave-slice, walkOf, goes-none, goes-gave-slice, Walks, ends-at, walked, walk-meets}
+use denote.Triple.Walked.{Stays, stay-none, gave-slice, walkOf, goes-none, goes-gave-slice, Walks, ends-at, walked, walk-meets}
 use denote.Exit.{yes}
 use Rattle.lock.specs.declared.Record.{Record}
 use Rattle.lock.specs.declared.Settings.{Settings}
@@ -64,7 +66,7 @@ use Rattle.table.specs.Promises.{lent}
 use Rattle.table.specs.Causes.{openingCause}
 use Rattle.table.specs.OpeningLaws.{Opened, opening-refuses, opening-takes}
 use Rattle.table.proofs.Filled.{filled, filled-length, filled-none, filled-next, filled-all}
-use Rattle.table.proofs.Walk.{gives-up, goes-on, says-three, tests, whiles, Turned, first-of, after, inside, env, none-found, some-found}
+use Rattle.table.proofs.Walk.{gives-up, goes-on, shows-that, three-facts, tests, whiles, Turned, first-of, after, inside, env, none-found, some-found}
 use Rattle.table.proofs.causes.opening_cause as opening-cause
 use Rattle.table.proofs.causes.opening_cause.Symbol as opening-cause-def
 use Rattle.table.proofs.causes.opening_cause.Symbol.{name as #opening-cause}
@@ -113,7 +115,8 @@ Said ys ws st n zs vs = Opened (Table.opening st (lent ys ws 0)) n zs vs
 refused : (ys : List Record) (ws : List ℕ) (st : Settings) (e : ℕ) → e ≡ openingCause st (length ws) (length ys) → T (ltb 0 e) → Said ys ws st e ys ws
 refused ys ws st e ge h = opening-refuses st ys ws 0 e ge (some-found e h)
 
-taken : (ys : List Record) (ws : List ℕ) (st : Settings) (e : ℕ) → e ≡ openingCause st (length ws) (length ys) → T (not (ltb 0 e)) → Said ys ws st e (blanks ys) (zeros ws)
+taken : (ys : List Record) (ws : List ℕ) (st : Settings) (e : ℕ) → e ≡ openingCause st (length ws) (length ys) → T (not (ltb 0 e))
+    → Said ys ws st e (blanks ys) (zeros ws)
 taken ys ws st e ge h = opening-takes st ys ws 0 e ge (none-found e h)
 
 -- the body of the loop, and what runs after it
@@ -138,7 +141,9 @@ module _ {M : Type 1} (𝓤 : URA M) (H : Heap 𝓤) (A : Atoms 𝓤) (mem : Mem
   abbrev Idle : Contract 𝓤
   Idle = tripleOf 𝓤 H A idle-with.signature (idle-with.spec 𝓤 H A mem run)
 
-module _ {M : Type 1} (𝓤 : URA M) (H : Heap 𝓤) (A : Atoms 𝓤) (W : Given 𝓤 H A) (mem : Memory → SProp 𝓤) (run : Routine → Fun 𝓤) (κ κ′ : Lft) (q q′ : Share) (x : RefT (List Record)) (u : RefT (List ℕ)) (st : Settings) (gs : Is RG st (G′.lowered st ∷ [])) (room : Room R (length (x .now))) (room′ : Room u64 (length (u .now))) where
+module _ {M : Type 1} (𝓤 : URA M) (H : Heap 𝓤) (A : Atoms 𝓤) (W : Given 𝓤 H A) (mem : Memory → SProp 𝓤) (run : Routine
+    → Fun 𝓤) (κ κ′ : Lft) (q q′ : Share) (x : RefT (List Record)) (u : RefT (List ℕ)) (st : Settings) (gs : Is RG st (G′.lowered st
+    ∷ [])) (room : Room R (length (x .now))) (room′ : Room u64 (length (u .now))) where
   abbrev ys : List Record
   ys = x .now
 
@@ -176,8 +181,10 @@ module _ {M : Type 1} (𝓤 : URA M) (H : Heap 𝓤) (A : Atoms 𝓤) (W : Given
       → ent 𝓤 (⋆ 𝓤 H A ((‵ (flft κ q) ⊛ (‵ (flft κ′ q′) ⊛ ‵ ftrue)) ∷ ‵ (finally R (x .name) zs) ∷ ‵ (finally u64 (u .name) vs) ∷ [])) (Post (vint w64 k))
   exits k zs vs k-fits long long′ e =
       qed W ((‵ (flft κ q) ⊛ (‵ (flft κ′ q′) ⊛ ‵ ftrue)) ∷ ‵ (finally R (x .name) zs) ∷ ‵ (finally u64 (u .name) vs) ∷ []) ∵
-      suffices ! _ (ends-at 𝓤 H A this.ended stayed (this.clauses 𝓤 H A mem run) W (((κ, (κ′, tt)), (q, (q′, tt)), tt, a, vals), tt) (vint w64 k) k (zs, (vs, (tt, tt))) (long, (long′, (tt, tt)))) $ says-three ! (e .0) (e .1 .0) (e .1 .1) $ frame ! $
-      nothing ! $ owned ! RG (Is RG) ((LL.makes G.the-type G′.the-plain) 𝓤 H A) st _ gs $ fjoin ! $ move ! (2 ∷ 0 ∷ []) $ fjoin ! $ move ! (1 ∷ 0 ∷ []) $ fjoin ! $ frame ! $ owned ! u64 (Is u64) (uint-makes 𝓤 H A W w64) k _ (refl, k-fits) $ done !
+      suffices ! _ (ends-at 𝓤 H A this.ended stayed (this.clauses 𝓤 H A mem run) W (((κ, (κ′, tt)), (q, (q′, tt)), tt, a, vals), tt) (vint w64 k) k (zs, (vs, (tt, tt))) (long, (long′, (tt, tt)))) $
+      shows-that ! (three-facts 𝓤 (e .0) (e .1 .0) (e .1 .1)) $ frame ! $
+      nothing ! $ owned ! RG (Is RG) ((LL.makes G.the-type G′.the-plain) 𝓤 H A) st _ gs $ fjoin ! $ move ! (2 ∷ 0 ∷ []) $ fjoin ! $ move ! (1 ∷ 0 ∷ []) $ fjoin ! $
+      frame ! $ owned ! u64 (Is u64) (uint-makes 𝓤 H A W w64) k _ (refl, k-fits) $ done !
 
   -- what the three callees are passed
   abbrev tested : Settings × (ℕ × (ℕ × Unit {0}))
@@ -188,17 +195,20 @@ module _ {M : Type 1} (𝓤 : URA M) (H : Heap 𝓤) (A : Atoms 𝓤) (W : Given
 
   goes-cause : ent 𝓤 (emp 𝓤) (Cause 𝓤 H A mem run .pre asked)
   goes-cause =
-      qed W [] ∵ nothing ! $ owned ! usize (Is usize) (uint-makes 𝓤 H A W w64) (length ys) _ (refl, room .0) $ fjoin ! $ owned ! usize (Is usize) (uint-makes 𝓤 H A W w64) (length ws) _ (refl, room′ .0) $ fjoin ! $
+      qed W [] ∵ nothing ! $ owned ! usize (Is usize) (uint-makes 𝓤 H A W w64) (length ys) _ (refl, room .0) $ fjoin ! $
+      owned ! usize (Is usize) (uint-makes 𝓤 H A W w64) (length ws) _ (refl, room′ .0) $ fjoin ! $
       owned ! RG (Is RG) ((LL.makes G.the-type G′.the-plain) 𝓤 H A) st _ gs $ fjoin ! $ nothing ! $ join ! $ nothing ! $ move ! (1 ∷ 0 ∷ []) $ done !
 
-  cause-of : (e : ℕ) → ent 𝓤 (ensured 𝓤 H A opening-cause.ended (opening-cause.clauses 𝓤 H A mem run) tt tested tt e) (fact 𝓤 (e ≡ openingCause st (length ws) (length ys)))
+  cause-of : (e : ℕ)
+      → ent 𝓤 (ensured 𝓤 H A opening-cause.ended (opening-cause.clauses 𝓤 H A mem run) tt tested tt e) (fact 𝓤 (e ≡ openingCause st (length ws) (length ys)))
   cause-of e = exE 𝓤 _ (λ vs. snd∗ 𝓤 (sem 𝓤 H A (lasts opening-cause.ended tt tested vs)) (fact 𝓤 (e ≡ openingCause st (length ws) (length ys))))
 
   abbrev wanted : Idle 𝓤 H A mem run .Ghost
   wanted = ((tt, tt, tt, (0, tt), (vint w64 0 ∷ [], tt)), tt)
 
   goes-idle : ent 𝓤 (emp 𝓤) (Idle 𝓤 H A mem run .pre wanted)
-  goes-idle = qed W [] ∵ nothing ! $ owned ! u64 (Is u64) (uint-makes 𝓤 H A W w64) 0 _ (refl, lit< tt) $ fjoin ! $ nothing ! $ join ! $ nothing ! $ move ! (1 ∷ 0 ∷ []) $ done !
+  goes-idle = qed W [] ∵ nothing ! $ owned ! u64 (Is u64) (uint-makes 𝓤 H A W w64) 0 _ (refl, lit< tt) $ fjoin ! $ nothing ! $ join ! $ nothing ! $ move ! (1 ∷ 0 ∷ []) $
+      done !
 
   idle-of : (d : Record) → ent 𝓤 (ensured 𝓤 H A idle-with.ended (idle-with.clauses 𝓤 H A mem run) tt (0, tt) tt d) (fact 𝓤 (d ≡ idleWith 0))
   idle-of d = exE 𝓤 _ (λ vs. snd∗ 𝓤 (sem 𝓤 H A (lasts idle-with.ended tt (0, tt) vs)) (fact 𝓤 (d ≡ idleWith 0)))
@@ -207,7 +217,8 @@ module _ {M : Type 1} (𝓤 : URA M) (H : Heap 𝓤) (A : Atoms 𝓤) (W : Given
   to = (((κ′, tt), (q′, tt), tt, (u, tt), (s′ ∷ [], tt)), tt)
 
   goes : ent 𝓤 (sep 𝓤 (sep 𝓤 (A .lft κ′ q′) (sem 𝓤 H A ftrue)) (sem 𝓤 H A (MutSlice (named 0) κ′ u64 .own u (s′ ∷ [])))) (Zero 𝓤 H A mem run .pre to)
-  goes = qed W ((‵ (flft κ′ q′) ⊛ ‵ ftrue) ∷ ‵ (MutSlice (named 0) κ′ u64 .own u (s′ ∷ [])) ∷ []) ∵ nothing ! $ move ! (2 ∷ 0 ∷ []) $ fjoin ! $ move ! (1 ∷ 0 ∷ []) $ join ! $ nothing ! $ move ! (1 ∷ 0 ∷ []) $ done !
+  goes = qed W ((‵ (flft κ′ q′) ⊛ ‵ ftrue) ∷ ‵ (MutSlice (named 0) κ′ u64 .own u (s′ ∷ [])) ∷ []) ∵ nothing ! $ move ! (2 ∷ 0 ∷ []) $ fjoin ! $ move ! (1 ∷ 0 ∷ []) $
+      join ! $ nothing ! $ move ! (1 ∷ 0 ∷ []) $ done !
 
   abbrev Upto : Type 0
   Upto = (i : ℕ) × (i ≤ n)
@@ -222,11 +233,17 @@ module _ {M : Type 1} (𝓤 : URA M) (H : Heap 𝓤) (A : Atoms 𝓤) (W : Given
     module _ (e : ℕ) (e-fits : e < 2 ^ 64) (ge : e ≡ openingCause st (length ws) (length ys)) (below : T (not (ltb 0 e))) (long′ : length (zeros ws) ≡ length ws) (l₀ l₁ l₂ l₃ l₄ l₅ l₆ l₇ l₈ l₉ l₁₀ l₁₁ l₁₂ l₁₃ l₁₄ l₁₅ : ℕ) where
       -- the invariant: the open borrow, the row at `filled ys i`, the words' last list, and the locals
       abbrev At : Upto → List (Item 𝓤)
-      At i = ‵ (row R fullShare (filled (idleWith 0) ys (i .0)) b o) ∷ ‵ (fobor κ q (Held R n b o (x .name))) ∷ ‵ (fobs (x .name) (codedHoleys R .code (heres R ys))) ∷ ‵ (fauth (x .name) (codedHoleys R .code (heres R ys))) ∷ (‵ (flft κ′ q′) ⊛ ‵ ftrue) ∷ ‵ (finally u64 (u .name) (zeros ws)) ∷ ‵ (froom tyPtr l₁₅ 0) ∷ ‵ (fdies tyPtr l₁₅)
-          ∷ ‵ (froom tyBool l₁₄ 0) ∷ ‵ (fdies tyBool l₁₄) ∷ ‵ (froom word l₁₃ 0) ∷ ‵ (fdies word l₁₃) ∷ ‵ (froom (sliceTy (tyRef erased mut word)) l₁₂ 0) ∷ ‵ (fdies (sliceTy (tyRef erased mut word)) l₁₂) ∷ ‵ (froom (tyRef erased mut word) l₁₁ 0) ∷ ‵ (fdies (tyRef erased mut word) l₁₁)
-          ∷ ‵ (froom tyUnit l₁₀ 0) ∷ ‵ (fdies tyUnit l₁₀) ∷ ‵ (froom tyBool l₉ 0) ∷ ‵ (fdies tyBool l₉) ∷ ‵ (froom word l₈ 0) ∷ ‵ (fdies word l₈) ∷ ‵ (froom word l₇ 0) ∷ ‵ (fdies word l₇)
-          ∷ ‵ (fat fullShare word l₆ 0 (vint w64 (i .0))) ∷ ‵ (fdies word l₆) ∷ ‵ (fat fullShare Rec′.mir l₅ 0 (Rec′.lowered (idleWith 0))) ∷ ‵ (fdies Rec′.mir l₅) ∷ ‵ (fat fullShare word l₄ 0 (vint w64 e)) ∷ ‵ (fdies word l₄) ∷ ‵ (froom G′.mir l₃ 0) ∷ ‵ (fdies G′.mir l₃)
-          ∷ ‵ (froom (sliceTy (tyRef (named 1) mut word)) l₂ 0) ∷ ‵ (fdies (sliceTy (tyRef (named 1) mut word)) l₂) ∷ ‵ (fat fullShare slice l₁ 0 s) ∷ ‵ (fdies slice l₁) ∷ ‵ (froom word l₀ 0) ∷ ‵ (fdies word l₀) ∷ []
+      At i = ‵ (row R fullShare (filled (idleWith 0) ys (i .0)) b o) ∷ ‵ (fobor κ q (Held R n b o (x .name))) ∷ ‵ (fobs (x .name) (codedHoleys R .code (heres R ys)))
+          ∷ ‵ (fauth (x .name) (codedHoleys R .code (heres R ys))) ∷ (‵ (flft κ′ q′) ⊛ ‵ ftrue) ∷ ‵ (finally u64 (u .name) (zeros ws)) ∷ ‵ (froom tyPtr l₁₅ 0)
+          ∷ ‵ (fdies tyPtr l₁₅)
+          ∷ ‵ (froom tyBool l₁₄ 0) ∷ ‵ (fdies tyBool l₁₄) ∷ ‵ (froom word l₁₃ 0) ∷ ‵ (fdies word l₁₃) ∷ ‵ (froom (sliceTy (tyRef erased mut word)) l₁₂ 0)
+          ∷ ‵ (fdies (sliceTy (tyRef erased mut word)) l₁₂) ∷ ‵ (froom (tyRef erased mut word) l₁₁ 0) ∷ ‵ (fdies (tyRef erased mut word) l₁₁)
+          ∷ ‵ (froom tyUnit l₁₀ 0) ∷ ‵ (fdies tyUnit l₁₀) ∷ ‵ (froom tyBool l₉ 0) ∷ ‵ (fdies tyBool l₉) ∷ ‵ (froom word l₈ 0) ∷ ‵ (fdies word l₈) ∷ ‵ (froom word l₇ 0)
+          ∷ ‵ (fdies word l₇)
+          ∷ ‵ (fat fullShare word l₆ 0 (vint w64 (i .0))) ∷ ‵ (fdies word l₆) ∷ ‵ (fat fullShare Rec′.mir l₅ 0 (Rec′.lowered (idleWith 0))) ∷ ‵ (fdies Rec′.mir l₅)
+          ∷ ‵ (fat fullShare word l₄ 0 (vint w64 e)) ∷ ‵ (fdies word l₄) ∷ ‵ (froom G′.mir l₃ 0) ∷ ‵ (fdies G′.mir l₃)
+          ∷ ‵ (froom (sliceTy (tyRef (named 1) mut word)) l₂ 0) ∷ ‵ (fdies (sliceTy (tyRef (named 1) mut word)) l₂) ∷ ‵ (fat fullShare slice l₁ 0 s) ∷ ‵ (fdies slice l₁)
+          ∷ ‵ (froom word l₀ 0) ∷ ‵ (fdies word l₀) ∷ []
 
       abbrev En : Env 𝓤 H
       En = env (code.function .locals) (l₀ ∷ l₁ ∷ l₂ ∷ l₃ ∷ l₄ ∷ l₅ ∷ l₆ ∷ l₇ ∷ l₈ ∷ l₉ ∷ l₁₀ ∷ l₁₁ ∷ l₁₂ ∷ l₁₃ ∷ l₁₄ ∷ l₁₅ ∷ [])
@@ -244,7 +261,8 @@ module _ {M : Type 1} (𝓤 : URA M) (H : Heap 𝓤) (A : Atoms 𝓤) (W : Given
           rewrite ! 6 (λ (p : ℕ). ‵ (fat fullShare tyPtr l₁₅ 0 (vptr b p))) (sym (place-is 112 o (i .0))) refl $
           elem-out ! R (Is R) (shows 𝓤 H A R) (LL.vals Rec.the-type Rec′.the-laws) (LL.tells Rec.the-type Rec′.the-laws) fullShare (filled (idleWith 0) ys (i .0)) (i .0) (idleWith 0) b o within (λ _.
           assigns ! (of-opd ! (load ! (from ! (stop !)) (look ! 28 refl))) (from ! (hop ! (look ! 8 refl) (stop !))) (store-raw ! 0 refl (LL.lawful Rec.the-type Rec′.the-laws 𝓤 H A W .typed (idleWith 0) _ made .0)) $
-          move ! (1 ∷ []) $ drop ! $ owned ! R (Is R) ((LL.makes Rec.the-type Rec′.the-plain) 𝓤 H A) (idleWith 0) _ made $ move ! (1 ∷ 0 ∷ []) $ elem-put ! R fullShare (filled (idleWith 0) ys (i .0)) (i .0) (idleWith 0) (Rec′.lowered (idleWith 0) ∷ []) b o within $
+          move ! (1 ∷ []) $ drop ! $ owned ! R (Is R) ((LL.makes Rec.the-type Rec′.the-plain) 𝓤 H A) (idleWith 0) _ made $ move ! (1 ∷ 0 ∷ []) $
+          elem-put ! R fullShare (filled (idleWith 0) ys (i .0)) (i .0) (idleWith 0) (Rec′.lowered (idleWith 0) ∷ []) b o within $
           rewrite ! 0 (λ (l : List Record). ‵ (row R fullShare l b o)) (filled-next (idleWith 0) ys (i .0) small) refl $
           assigns-last ! (bin ! (load ! (from ! (stop !)) (look ! 24 refl)) (lit ! tt) (record { fits = lt-of-le-of-lt (add-one-le small) (room .0) })) (from ! (stop !)) (store ! 24 refl (tt, record { fits = lt-of-le-of-lt (add-one-le small) (room .0) })) $
           forget ! 6 refl $ forget ! 8 refl $ forget ! 10 refl $ again ! Nearer At i (i .0 + 1, add-one-le small) (add-one-dec n (i .0) small)))
@@ -252,51 +270,79 @@ module _ {M : Type 1} (𝓤 : URA M) (H : Heap 𝓤) (A : Atoms 𝓤) (W : Given
           (λ over. rewrite ! 0 (λ (l : List Record). ‵ (row R fullShare l b o)) (ap (filled (idleWith 0) ys) (le-antisymm (i .1) (nltb→le (i .0) n over)) ∙ filled-all (idleWith 0) ys) refl $
           closes-slice ! tt R ys (blanks ys) (blanks-length ys) b o $
           assigns ! (of-opd ! (load ! (from ! (stop !)) (look ! 27 refl))) (from ! (stop !)) (init ! 35 refl (tt, record { fits = e-fits })) $
-          returns ! (look ! 35 refl) $ forget ! 7 refl $ forget ! 9 refl $ forget ! 23 refl $ forget ! 25 refl $ forget ! 27 refl $ forget ! 33 refl $ forget ! 35 refl $ move ! (35 ∷ 36 ∷ []) $ free1 ! $ move ! (33 ∷ 34 ∷ []) $ free1 ! $ move ! (31 ∷ 32 ∷ []) $ free1 ! $ move ! (29 ∷ 30 ∷ []) $ free1 ! $ move ! (27 ∷ 28 ∷ []) $ free1 ! $ move ! (25 ∷ 26 ∷ []) $ free1 ! $ move ! (23 ∷ 24 ∷ []) $ free1 ! $ move ! (21 ∷ 22 ∷ []) $ free1 ! $ move ! (19 ∷ 20 ∷ []) $ free1 ! $ move ! (17 ∷ 18 ∷ []) $ free1 ! $ move ! (15 ∷ 16 ∷ []) $ free1 ! $ move ! (13 ∷ 14 ∷ []) $ free1 ! $ move ! (11 ∷ 12 ∷ []) $ free1 ! $ move ! (9 ∷ 10 ∷ []) $ free1 ! $ move ! (7 ∷ 8 ∷ []) $ free1 ! $ move ! (5 ∷ 6 ∷ []) $ free1 ! $ free0 ! $
-          use1 W (‵ (finally R (x .name) (blanks ys))) (gives-up 𝓤 H A W R κ (x .name) (blanks ys)) $ move ! (2 ∷ 3 ∷ []) $ join ! $ keep ! (0 ∷ 1 ∷ 3 ∷ []) $ by ! (exits e (blanks ys) (zeros ws) e-fits (blanks-length ys) long′ (taken ys ws st e ge below)))
+          returns ! (look ! 35 refl) $ forget ! 7 refl $ forget ! 9 refl $ forget ! 23 refl $ forget ! 25 refl $ forget ! 27 refl $ forget ! 33 refl $ forget ! 35 refl $
+          move ! (35 ∷ 36 ∷ []) $ free1 ! $ move ! (33 ∷ 34 ∷ []) $ free1 ! $ move ! (31 ∷ 32 ∷ []) $ free1 ! $ move ! (29 ∷ 30 ∷ []) $ free1 ! $ move ! (27 ∷ 28 ∷ []) $
+          free1 ! $ move ! (25 ∷ 26 ∷ []) $ free1 ! $ move ! (23 ∷ 24 ∷ []) $ free1 ! $ move ! (21 ∷ 22 ∷ []) $ free1 ! $ move ! (19 ∷ 20 ∷ []) $ free1 ! $
+          move ! (17 ∷ 18 ∷ []) $ free1 ! $ move ! (15 ∷ 16 ∷ []) $ free1 ! $ move ! (13 ∷ 14 ∷ []) $ free1 ! $ move ! (11 ∷ 12 ∷ []) $ free1 ! $ move ! (9 ∷ 10 ∷ []) $
+          free1 ! $ move ! (7 ∷ 8 ∷ []) $ free1 ! $ move ! (5 ∷ 6 ∷ []) $ free1 ! $ free0 ! $
+          use1 W (‵ (finally R (x .name) (blanks ys))) (gives-up 𝓤 H A W R κ (x .name) (blanks ys)) $ move ! (2 ∷ 3 ∷ []) $ join ! $ keep ! (0 ∷ 1 ∷ 3 ∷ []) $
+          by ! (exits e (blanks ys) (zeros ws) e-fits (blanks-length ys) long′ (taken ys ws st e ge below)))
 
     module _ (sure : Triple 𝓤 (𝓣 .C #opening-cause) (Cause 𝓤 H A mem run)) (known : Triple 𝓤 (𝓣 .C #zero-words) (Zero 𝓤 H A mem run)) (idles : Triple 𝓤 (𝓣 .C #idle-with) (Idle 𝓤 H A mem run)) where
       walk : ent 𝓤 (onEntry 𝓤 H A this.signature (κ, (κ′, tt)) (q, (q′, tt)) a vals) (WpFn 𝓤 H (𝓣 .C) (𝓣 .Λ) code.function (s ∷ s′ ∷ G′.lowered st ∷ []) Post)
       walk =
           let fm = fmOf 𝓤 H (W .laws) 𝓣 in
-          qed W ((‵ (flft κ q) ⊛ (‵ (flft κ′ q′) ⊛ ‵ ftrue)) ∷ ‵ (owns (MutSlice (named 0) κ R ∷ MutSlice (named 1) κ′ u64 ∷ RG ∷ []) a vals) ∷ []) ∵ enter ! (𝓣 .C) (𝓣 .Λ) code.function (s ∷ s′ ∷ G′.lowered st ∷ []) _ $
-          alloc1 ! (λ l₀. alloc1 ! (λ l₁. alloc1 ! (λ l₂. alloc1 ! (λ l₃. alloc1 ! (λ l₄. alloc1 ! (λ l₅. alloc1 ! (λ l₆. alloc1 ! (λ l₇. alloc1 ! (λ l₈. alloc1 ! (λ l₉. alloc1 ! (λ l₁₀. alloc1 ! (λ l₁₁. alloc1 ! (λ l₁₂. alloc1 ! (λ l₁₃. alloc1 ! (λ l₁₄. alloc1 ! (λ l₁₅. alloc0 ! $ params1 ! $
-          pass1 ! (init ! 28 refl (tt, (tt, (record { fits = room .0 }, tt)))) $ pass1 ! (init ! 26 refl (tt, (tt, (record { fits = room′ .0 }, tt)))) $ pass1 ! (init ! 24 refl (LL.lawful G.the-type G′.the-laws 𝓤 H A W .typed st _ gs .0)) $ pass0 ! $
-          move ! (33 ∷ []) $ fsplit ! $ fsplit ! $ drop ! $ fsplit ! $ move ! (2 ∷ []) $ fsplit ! $ move ! (1 ∷ []) $ drop ! $ move ! (35 ∷ []) $ split ! $ move ! (3 ∷ 4 ∷ 0 ∷ 1 ∷ 2 ∷ []) $
+          qed W ((‵ (flft κ q) ⊛ (‵ (flft κ′ q′) ⊛ ‵ ftrue)) ∷ ‵ (owns (MutSlice (named 0) κ R ∷ MutSlice (named 1) κ′ u64 ∷ RG ∷ []) a vals)
+          ∷ []) ∵ enter ! (𝓣 .C) (𝓣 .Λ) code.function (s ∷ s′ ∷ G′.lowered st ∷ []) _ $
+          alloc1 ! (λ l₀. alloc1 ! (λ l₁. alloc1 ! (λ l₂. alloc1 ! (λ l₃. alloc1 ! (λ l₄. alloc1 ! (λ l₅. alloc1 ! (λ l₆. alloc1 ! (λ l₇. alloc1 ! (λ l₈. alloc1 ! (λ l₉. alloc1 ! (λ l₁₀. alloc1 ! (λ l₁₁. alloc1 ! (λ l₁₂. alloc1 ! (λ l₁₃. alloc1 ! (λ l₁₄. alloc1 ! (λ l₁₅. alloc0 ! $
+          params1 ! $
+          pass1 ! (init ! 28 refl (tt, (tt, (record { fits = room .0 }, tt)))) $ pass1 ! (init ! 26 refl (tt, (tt, (record { fits = room′ .0 }, tt)))) $
+          pass1 ! (init ! 24 refl (LL.lawful G.the-type G′.the-laws 𝓤 H A W .typed st _ gs .0)) $ pass0 ! $
+          move ! (33 ∷ []) $ fsplit ! $ fsplit ! $ drop ! $ fsplit ! $ move ! (2 ∷ []) $ fsplit ! $ move ! (1 ∷ []) $ drop ! $ move ! (35 ∷ []) $ split ! $
+          move ! (3 ∷ 4 ∷ 0 ∷ 1 ∷ 2 ∷ []) $
           -- [t's obs; t's borrow; t's token; words' token; what words owns; _14; …; _0; …]
           assigns ! (of-opd ! (load ! (from ! (fld ! refl (stop !))) (look-in ! 31 (sub ! 1 refl (whole !))))) (from ! (stop !)) (init ! 21 refl (tt, record { fits = room′ .0 })) $
           assigns ! (of-opd ! (load ! (from ! (fld ! refl (stop !))) (look-in ! 33 (sub ! 1 refl (whole !))))) (from ! (stop !)) (init ! 19 refl (tt, record { fits = room .0 })) $
           use0 W (raw (Cause 𝓤 H A mem run .pre asked)) goes-cause $
           calls-at ! fm (Cause 𝓤 H A mem run) sure asked (and-then ! (load ! (from ! (stop !)) (look ! 30 refl)) (and-then ! (load ! (from ! (stop !)) (look ! 22 refl)) (and-then ! (load ! (from ! (stop !)) (look ! 20 refl)) (no-more !)))) (λ v.
-          use1 W (later (some (λ (e : ℕ). (‵ ftrue ⊛ ‵ (u64 .own e (v ∷ []))) ⊛ raw (ensured 𝓤 H A opening-cause.ended (opening-cause.clauses 𝓤 H A mem run) tt tested tt e)))) (id⊢ 𝓤 _) $ await ! tt $ pick ! (λ e.
-          split ! $ move ! (1 ∷ []) $ use1 W (raw (fact 𝓤 (e ≡ openingCause st (length ws) (length ys)))) (cause-of e) $ heard ! (e ≡ openingCause st (length ws) (length ys)) (λ ge. split ! $ drop ! $
-          peeks ! u64 (Is u64) (shows 𝓤 H A u64) e (v ∷ []) (λ ie. land ! (from ! (stop !)) (init ! 28 refl (uint-lawful 𝓤 H A W w64 .typed e _ ie .0)) $ rewrite ! 28 (λ (z : Val). ‵ (fat fullShare word l₄ 0 z)) (ap only (ie .0)) refl $ drop ! $
+          use1 W (later (some (λ (e : ℕ). (‵ ftrue ⊛ ‵ (u64 .own e (v
+          ∷ []))) ⊛ raw (ensured 𝓤 H A opening-cause.ended (opening-cause.clauses 𝓤 H A mem run) tt tested tt e)))) (id⊢ 𝓤 _) $
+          await ! tt $ pick ! (λ e.
+          split ! $ move ! (1 ∷ []) $ use1 W (raw (fact 𝓤 (e ≡ openingCause st (length ws) (length ys)))) (cause-of e) $
+          heard ! (e ≡ openingCause st (length ws) (length ys)) (λ ge. split ! $ drop ! $
+          peeks ! u64 (Is u64) (shows 𝓤 H A u64) e (v ∷ []) (λ ie. land ! (from ! (stop !)) (init ! 28 refl (uint-lawful 𝓤 H A W w64 .typed e _ ie .0)) $
+          rewrite ! 28 (λ (z : Val). ‵ (fat fullShare word l₄ 0 z)) (ap only (ie .0)) refl $ drop ! $
           assigns ! (bin ! (lit ! tt) (load ! (from ! (stop !)) (look ! 27 refl)) tt) (from ! (stop !)) (init ! 17 refl (tt, tt)) $
           goes-on ! (load ! (from ! (stop !)) (look ! 17 refl))
           -- refused: both slices are given up as they are
           (λ past. assigns ! (of-opd ! (load ! (from ! (stop !)) (look ! 27 refl))) (from ! (stop !)) (init ! 35 refl (tt, record { fits = ie .1 })) $
-          returns-within ! Post refl (look ! 35 refl) $ forget ! 17 refl $ forget ! 19 refl $ forget ! 21 refl $ forget ! 27 refl $ forget ! 29 refl $ forget ! 31 refl $ forget ! 33 refl $ forget ! 35 refl $ move ! (35 ∷ 36 ∷ []) $ free1 ! $ move ! (33 ∷ 34 ∷ []) $ free1 ! $ move ! (31 ∷ 32 ∷ []) $ free1 ! $ move ! (29 ∷ 30 ∷ []) $ free1 ! $ move ! (27 ∷ 28 ∷ []) $ free1 ! $ move ! (25 ∷ 26 ∷ []) $ free1 ! $ move ! (23 ∷ 24 ∷ []) $ free1 ! $ move ! (21 ∷ 22 ∷ []) $ free1 ! $ move ! (19 ∷ 20 ∷ []) $ free1 ! $ move ! (17 ∷ 18 ∷ []) $ free1 ! $ move ! (15 ∷ 16 ∷ []) $ free1 ! $ move ! (13 ∷ 14 ∷ []) $ free1 ! $ move ! (11 ∷ 12 ∷ []) $ free1 ! $ move ! (9 ∷ 10 ∷ []) $ free1 ! $ move ! (7 ∷ 8 ∷ []) $ free1 ! $ move ! (5 ∷ 6 ∷ []) $ free1 ! $ free0 ! $
-          use1 W (‵ (finally R (x .name) ys)) (gives-up 𝓤 H A W R κ (x .name) ys) $ move ! (4 ∷ []) $ fsplit ! $ drop ! $ fsplit ! $ use1 W (‵ (finally u64 (u .name) ws)) (gives-up 𝓤 H A W u64 κ′ (u .name) ws) $ move ! (4 ∷ 5 ∷ []) $ join ! $ keep ! (0 ∷ 3 ∷ 1 ∷ []) $ by ! (exits e ys ws (ie .1) refl refl (refused ys ws st e ge past)))
+          returns-within ! Post refl (look ! 35 refl) $ forget ! 17 refl $ forget ! 19 refl $ forget ! 21 refl $ forget ! 27 refl $ forget ! 29 refl $ forget ! 31 refl $
+          forget ! 33 refl $ forget ! 35 refl $ move ! (35 ∷ 36 ∷ []) $ free1 ! $ move ! (33 ∷ 34 ∷ []) $ free1 ! $ move ! (31 ∷ 32 ∷ []) $ free1 ! $
+          move ! (29 ∷ 30 ∷ []) $ free1 ! $ move ! (27 ∷ 28 ∷ []) $ free1 ! $ move ! (25 ∷ 26 ∷ []) $ free1 ! $ move ! (23 ∷ 24 ∷ []) $ free1 ! $ move ! (21 ∷ 22 ∷ []) $
+          free1 ! $ move ! (19 ∷ 20 ∷ []) $ free1 ! $ move ! (17 ∷ 18 ∷ []) $ free1 ! $ move ! (15 ∷ 16 ∷ []) $ free1 ! $ move ! (13 ∷ 14 ∷ []) $ free1 ! $
+          move ! (11 ∷ 12 ∷ []) $ free1 ! $ move ! (9 ∷ 10 ∷ []) $ free1 ! $ move ! (7 ∷ 8 ∷ []) $ free1 ! $ move ! (5 ∷ 6 ∷ []) $ free1 ! $ free0 ! $
+          use1 W (‵ (finally R (x .name) ys)) (gives-up 𝓤 H A W R κ (x .name) ys) $ move ! (4 ∷ []) $ fsplit ! $ drop ! $ fsplit ! $
+          use1 W (‵ (finally u64 (u .name) ws)) (gives-up 𝓤 H A W u64 κ′ (u .name) ws) $ move ! (4 ∷ 5 ∷ []) $ join ! $ keep ! (0 ∷ 3 ∷ 1 ∷ []) $
+          by ! (exits e ys ws (ie .1) refl refl (refused ys ws st e ge past)))
           -- not refused: the words go to `zero_words`
           (λ below. assigns ! (addr ! (from ! (fld ! refl (hop ! (look-in ! 31 (sub ! 0 refl (whole !))) (stop !))))) (from ! (stop !)) (init ! 13 refl (tt, tt)) $
           assigns ! (agg ! (and-then ! (load ! (from ! (stop !)) (look ! 13 refl)) (and-then ! (load ! (from ! (fld ! refl (stop !))) (look-in ! 31 (sub ! 1 refl (whole !)))) (no-more !)))) (from ! (stop !)) (init ! 11 refl (tt, (tt, (record { fits = room′ .0 }, tt)))) $
           move ! (3 ∷ 4 ∷ []) $ use2 W (raw (Zero 𝓤 H A mem run .pre to)) goes $
           calls-at ! fm (Zero 𝓤 H A mem run) known to (and-then ! (load ! (from ! (stop !)) (look ! 10 refl)) (no-more !)) (λ w.
-          use1 W (later (some (λ (r : Unit {0}). ((‵ (flft κ′ q′) ⊛ ‵ ftrue) ⊛ ‵ (Nothing .own r (w ∷ []))) ⊛ raw (ensured 𝓤 H A zero-words.ended (zero-words.clauses 𝓤 H A mem run) (κ′, tt) (u, tt) tt r)))) (id⊢ 𝓤 _) $ await ! tt $ pick ! (λ r.
-          split ! $ move ! (1 ∷ []) $ use1 W (some (λ (vs : List ℕ × Unit {0}). ‵ (lasts zero-words.ended (κ′, tt) (u, tt) vs) ⊛ raw (fact 𝓤 (vs .0 ≡ zeros ws)))) (id⊢ 𝓤 _) $ pick ! (λ vs.
-          split ! $ move ! (1 ∷ []) $ heard ! (vs .0 ≡ zeros ws) (λ g′. fsplit ! $ fsplit ! $ move ! (1 ∷ []) $ feqL ! (λ l. move ! (1 ∷ []) $ drop ! $ rewrite ! 0 (λ (z : List ℕ). ‵ (finally u64 (u .name) z)) g′ refl $ move ! (1 ∷ []) $ split ! $ move ! (1 ∷ []) $
-          peeks ! Nothing (Is Nothing) (shows 𝓤 H A Nothing) r (w ∷ []) (λ is. land ! (from ! (stop !)) (init ! 16 refl (nothing-lawful 𝓤 H A W .typed r _ is .0)) $ drop ! $
+          use1 W (later (some (λ (r : Unit {0}). ((‵ (flft κ′ q′) ⊛ ‵ ftrue) ⊛ ‵ (Nothing .own r (w
+          ∷ []))) ⊛ raw (ensured 𝓤 H A zero-words.ended (zero-words.clauses 𝓤 H A mem run) (κ′, tt) (u, tt) tt r)))) (id⊢ 𝓤 _) $
+          await ! tt $ pick ! (λ r.
+          split ! $ move ! (1 ∷ []) $
+          use1 W (some (λ (vs : List ℕ × Unit {0}). ‵ (lasts zero-words.ended (κ′, tt) (u, tt) vs) ⊛ raw (fact 𝓤 (vs .0 ≡ zeros ws)))) (id⊢ 𝓤 _) $ pick ! (λ vs.
+          split ! $ move ! (1 ∷ []) $ heard ! (vs .0 ≡ zeros ws) (λ g′. fsplit ! $ fsplit ! $ move ! (1 ∷ []) $ feqL ! (λ l. move ! (1 ∷ []) $ drop ! $
+          rewrite ! 0 (λ (z : List ℕ). ‵ (finally u64 (u .name) z)) g′ refl $ move ! (1 ∷ []) $ split ! $ move ! (1 ∷ []) $
+          peeks ! Nothing (Is Nothing) (shows 𝓤 H A Nothing) r (w ∷ []) (λ is. land ! (from ! (stop !)) (init ! 16 refl (nothing-lawful 𝓤 H A W .typed r _ is .0)) $
+          drop ! $
           -- the idle record
           use0 W (raw (Idle 𝓤 H A mem run .pre wanted)) goes-idle $
           calls-at ! fm (Idle 𝓤 H A mem run) idles wanted (and-then ! (lit ! tt) (no-more !)) (λ v′.
-          use1 W (later (some (λ (d : Record). (‵ ftrue ⊛ ‵ (R .own d (v′ ∷ []))) ⊛ raw (ensured 𝓤 H A idle-with.ended (idle-with.clauses 𝓤 H A mem run) tt (0, tt) tt d)))) (id⊢ 𝓤 _) $ await ! tt $ pick ! (λ d.
+          use1 W (later (some (λ (d : Record). (‵ ftrue ⊛ ‵ (R .own d (v′
+          ∷ []))) ⊛ raw (ensured 𝓤 H A idle-with.ended (idle-with.clauses 𝓤 H A mem run) tt (0, tt) tt d)))) (id⊢ 𝓤 _) $
+          await ! tt $ pick ! (λ d.
           split ! $ move ! (1 ∷ []) $ use1 W (raw (fact 𝓤 (d ≡ idleWith 0))) (idle-of d) $ heard ! (d ≡ idleWith 0) (λ gd. split ! $ drop ! $
           peeks ! R (Is R) (shows 𝓤 H A R) d (v′ ∷ []) (λ id. land ! (from ! (stop !)) (init ! 26 refl (LL.lawful Rec.the-type Rec′.the-laws 𝓤 H A W .typed d _ id .0)) $
-          rewrite ! 26 (λ (z : Val). ‵ (fat fullShare Rec′.mir l₅ 0 z)) (ap only (LL.tells Rec.the-type Rec′.the-laws d (v′ ∷ []) id)) refl $ rewrite ! 26 (λ (z : Record). ‵ (fat fullShare Rec′.mir l₅ 0 (Rec′.lowered z))) gd refl $ drop ! $
+          rewrite ! 26 (λ (z : Val). ‵ (fat fullShare Rec′.mir l₅ 0 z)) (ap only (LL.tells Rec.the-type Rec′.the-laws d (v′ ∷ []) id)) refl $
+          rewrite ! 26 (λ (z : Record). ‵ (fat fullShare Rec′.mir l₅ 0 (Rec′.lowered z))) gd refl $ drop ! $
           assigns ! (of-opd ! (lit ! tt)) (from ! (stop !)) (init ! 23 refl (tt, record { fits = lit< tt })) $
           move ! (2 ∷ 3 ∷ 4 ∷ []) $ opens-slice ! tt R ys b o $ rewrite ! 0 (λ (l : List Record). ‵ (row R fullShare l b o)) (sym (filled-none (idleWith 0) ys)) refl $
           forget ! 12 refl $ forget ! 14 refl $ forget ! 16 refl $ forget ! 18 refl $ forget ! 20 refl $ forget ! 22 refl $ forget ! 30 refl $ forget ! 32 refl $
-          keep ! (0 ∷ 1 ∷ 2 ∷ 3 ∷ 4 ∷ 5 ∷ 6 ∷ 7 ∷ 8 ∷ 9 ∷ 10 ∷ 11 ∷ 12 ∷ 13 ∷ 14 ∷ 15 ∷ 16 ∷ 17 ∷ 18 ∷ 19 ∷ 20 ∷ 21 ∷ 22 ∷ 23 ∷ 24 ∷ 25 ∷ 26 ∷ 27 ∷ 28 ∷ 29 ∷ 30 ∷ 31 ∷ 32 ∷ 33 ∷ 34 ∷ 35 ∷ 36 ∷ 37 ∷ []) $
+          keep ! (0 ∷ 1 ∷ 2 ∷ 3 ∷ 4 ∷ 5 ∷ 6 ∷ 7 ∷ 8 ∷ 9 ∷ 10 ∷ 11 ∷ 12 ∷ 13 ∷ 14 ∷ 15 ∷ 16 ∷ 17 ∷ 18 ∷ 19 ∷ 20 ∷ 21 ∷ 22 ∷ 23 ∷ 24 ∷ 25 ∷ 26 ∷ 27 ∷ 28 ∷ 29 ∷ 30 ∷ 31 ∷ 32
+          ∷ 33 ∷ 34 ∷ 35 ∷ 36 ∷ 37 ∷ []) $
           whiles ! 𝓣 Nearer Nearer-wf (At e (ie .1) ge below (subst (λ (z : List ℕ). length z ≡ length ws) g′ l) l₀ l₁ l₂ l₃ l₄ l₅ l₆ l₇ l₈ l₉ l₁₀ l₁₁ l₁₂ l₁₃ l₁₄ l₁₅) (turns e (ie .1) ge below (subst (λ (z : List ℕ). length z ≡ length ws) g′ l) l₀ l₁ l₂ l₃ l₄ l₅ l₆ l₇ l₈ l₉ l₁₀ l₁₁ l₁₂ l₁₃ l₁₄ l₁₅) (0, zero-le))))))))))))))))))))))))))))))))
 
 module _ {M : Type 1} (𝓤 : URA M) (H : Heap 𝓤) (A : Atoms 𝓤) (W : Given 𝓤 H A) (mem : Memory → SProp 𝓤) (run : Routine → Fun 𝓤) (𝓣 : Tables 𝓤 H)

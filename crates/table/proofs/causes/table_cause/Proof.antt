@@ -1,5 +1,5 @@
 -- `table::causes::table_cause` meets its contract. Assumes nothing.
-use mathlib.Core.Path.{_≡_, sym, _∙_}
+use mathlib.Core.Path.{sym, _∙_}
 use borrow.Author.Needs.{needs}
 use Rattle.table.specs.CauseLaws.{table-opening, table-client, table-passed}
 use Rattle.table.proofs.causes.table_cause.Statement.{statement}
