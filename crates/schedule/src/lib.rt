@@ -1,0 +1,1 @@
+// A schedule: the file format that `rangelog` reads, the calls in it, and the log of running them.
