@@ -1,2 +1,5 @@
 pub mod Format
+pub mod FormatLaws
+pub mod Little
 pub mod Log
+pub mod WellFormed
