@@ -4,7 +4,7 @@ use mathlib.Core.Path.{_≡_, refl, sym, subst}
 use mathlib.Core.Logic.{inl, inr}
 use mathlib.Core.Bool.{Bool, true, false, not}
 use mathlib.Core.List.{List, [], _∷_, _++_}
-use Prim.Native.Nat.{ℕ, zero, suc, _+_, _*_}
+use Prim.Native.Nat.{ℕ, zero, suc, _+_, _*_, _<_}
 use native.Mathlib.Omega.{arith}
 use lib.Dec.{T, eqb, eqb-refl, T-not}
 use lib.ListN.{getD, take, drop, replicate}
@@ -12,31 +12,37 @@ use Rattle.base.specs.Every.{both, both-l, both-r}
 use Rattle.base.specs.Choice.{choose}
 use Rattle.word.specs.Word.{field, putField, addField, matches, replaced, maskedSwap, leafBits, wantedBits, takeBits, giveBits, returnOcc}
 use Rattle.tree.specs.Tree.{climb, leftmost, first, level, levelWithin, size, left, units, holder, wordCount}
-use Rattle.tree.specs.Level.{level-pos, level-root-only}
 use Rattle.tree.specs.Lists.{upward, ancestors, ancestor, notifies, notifiedFrom, notifyLevels, notifyList, row, descendants, nearest, checkList}
 use Rattle.cover.specs.Cover.{part, over, total, rank}
 use Rattle.cover.specs.Order.{before}
 use Rattle.cover.specs.Search.{lesser, behind, leastOf, rest, search, found, leastCover}
 use Rattle.cover.specs.Answer.{levelsOutside, windowOutside}
-use Rattle.lock.specs.Types.{phaseOf, pieces, pieceAt, isLeaf, gripOf, noticesOf, wordAt, written}
+use Rattle.lock.specs.Types.{phaseOf, pieces, pieceAt, isLeaf, gripOf, noticesOf, wordAt, written, idleWith}
 use Rattle.lock.specs.Readable.{numberTooLarge, idleFilled, notCovered, noCurrent, ticketTooLarge, listLength, placePast, noticesWrong, timeAhead, phaseElsewhere, heldEarly, outcomeWrong, lacksGrip, givingWrong, unreadable}
 use Rattle.lock.specs.Steps.{touchedIn, startPhase, begin, taken, ticketTaken, turnAwaited, goUp, climbed, unblocked, bitsClaimed, occClaimed, allNotified, noticeGiven, waited, checkPassed, pieceReturned, wordReturned, turnReturned, claimPiece, returnBits, returnInner, giveBack, movedIn}
 use Rattle.lock.specs.Calls.{firstCause, settingsOutside, treeTests, clientsOutside, clientTests, requestTests, stepTests, releaseTests, cancelTests, requested, released, cancelled}
 use Rattle.lock.specs.Table.{State, Call, request, step, release, cancel, clientOf, recordAt, ownTests, numberOf, after, call, openingNumber, opened, opening}
-use Rattle.lock.specs.Example.{settings, lent}
+use Rattle.lock.specs.declared.Settings.{Settings}
 use Rattle.lock.specs.History.{run, Event, events, Some, CallOf, RequestOf, StepOf, ReleaseOf, Accepted, GaveBackIn, LastRequest, Holds, Idle, CleanInner, Clean}
 
 -- ---- the calls
 
--- client 0 takes [10, 20) in the leaf 2, and client 1 [60, 70), whose pieces are the leaves 2 and 3; a second request of client 0 is refused by 8
+-- H 3, m 1, T 5, two clients; what is lent to the opening is of the right size, and of any content
+abbrev pub settings : Settings
+settings = record { levels = 3; distance = 1; wait = 5 }
+
+abbrev pub lent : State
+lent = record { words = replicate 21 7; records = replicate 2 (idleWith 3); clock = 9 }
+
+-- client 1 takes [300, 310), in the leaf 10, and client 0 [0, 256), the inner node 2; a second request of client 0 is refused by 8
 abbrev pub holding : List Call
 holding =
-    request 0 10 20 ∷ step 0 1 ∷ step 0 1 ∷ step 0 2
-    ∷ request 1 60 70 ∷ request 0 0 64 ∷ step 1 3 ∷ step 1 3 ∷ step 1 4 ∷ step 1 5 ∷ step 1 5 ∷ step 1 6 ∷ []
+    request 0 0 256 ∷ request 1 300 310 ∷ step 1 1 ∷ step 1 1 ∷ step 1 1 ∷ step 1 1 ∷ step 1 1
+    ∷ step 0 1 ∷ step 0 1 ∷ step 0 1 ∷ step 0 1 ∷ step 0 1 ∷ step 0 6 ∷ step 0 6 ∷ request 0 0 64 ∷ []
 
 -- both give back
 abbrev pub returned : List Call
-returned = holding ++ (release 0 ∷ step 0 7 ∷ step 0 7 ∷ release 1 ∷ step 1 8 ∷ step 1 8 ∷ step 1 8 ∷ step 1 8 ∷ [])
+returned = holding ++ (release 0 ∷ step 0 7 ∷ step 0 7 ∷ release 1 ∷ step 1 7 ∷ step 1 7 ∷ step 1 7 ∷ [])
 
 abbrev pub fresh : State
 fresh = opening settings lent .state
@@ -48,18 +54,18 @@ seen k n p = record { made = k; number = n; phase = p }
 
 abbrev events-holding : List Event
 events-holding =
-    seen (request 0 10 20) 0 3 ∷ seen (step 0 1) 0 5 ∷ seen (step 0 1) 0 6 ∷ seen (step 0 2) 0 9
-    ∷ seen (request 1 60 70) 0 3 ∷ seen (request 0 0 64) 8 9 ∷ seen (step 1 3) 0 5 ∷ seen (step 1 3) 0 6 ∷ seen (step 1 4) 0 3 ∷ seen (step 1 5) 0 5
-    ∷ seen (step 1 5) 0 6 ∷ seen (step 1 6) 0 9 ∷ []
+    seen (request 0 0 256) 0 1 ∷ seen (request 1 300 310) 0 3 ∷ seen (step 1 1) 0 3 ∷ seen (step 1 1) 0 5 ∷ seen (step 1 1) 0 6 ∷ seen (step 1 1) 0 6
+    ∷ seen (step 1 1) 0 9 ∷ seen (step 0 1) 0 2 ∷ seen (step 0 1) 0 3 ∷ seen (step 0 1) 0 5 ∷ seen (step 0 1) 0 6 ∷ seen (step 0 1) 0 7 ∷ seen (step 0 6) 0 8
+    ∷ seen (step 0 6) 0 9 ∷ seen (request 0 0 64) 8 9 ∷ []
 
 abbrev events-returned : List Event
 events-returned =
     events-holding ++ (seen (release 0) 0 10 ∷ seen (step 0 7) 0 10 ∷ seen (step 0 7) 0 0
-    ∷ seen (release 1) 0 10 ∷ seen (step 1 8) 0 10 ∷ seen (step 1 8) 0 10 ∷ seen (step 1 8) 0 10 ∷ seen (step 1 8) 0 0 ∷ [])
+    ∷ seen (release 1) 0 10 ∷ seen (step 1 7) 0 10 ∷ seen (step 1 7) 0 10 ∷ seen (step 1 7) 0 0 ∷ [])
 
--- the leaves are 0; three leaf pieces were taken, so the root has 3 in DMax and in DCnt
+-- the leaves are 0; the root has two notices given and given back, node 2 one ticket, node 3 one notice
 abbrev words-returned : List ℕ
-words-returned = (3 * 65536 + 3) ∷ replicate 4 0
+words-returned = (2 * 65536 + 2) ∷ (140737488355328 + 4294967296) ∷ (65536 + 1) ∷ replicate 18 0
 
 computed : (opening settings lent .number ≡ 0) × (events settings fresh holding ≡ events-holding)
     × (events settings fresh returned ≡ events-returned) × (run settings fresh returned .words ≡ words-returned)
@@ -124,67 +130,67 @@ later P (suc n) (e ∷ es) x = inr (later P n es x)
 
 -- each client's only accepted request, `rest` after it
 module _ (rest : List Event) where
-  asked-0 : T (noneOf (isRequest 0) rest) → LastRequest (seen (request 0 10 20) 0 3 ∷ rest) 0 10 20 rest
+  asked-0 : T (noneOf (isRequest 0) rest) → LastRequest (seen (request 0 0 256) 0 1 ∷ rest) 0 0 256 rest
   asked-0 t = record {
     before = [];
-    asked = seen (request 0 10 20) 0 3;
+    asked = seen (request 0 0 256) 0 1;
     whole = refl;
     accepted = refl;
     edges = refl;
     last = none (RequestOf 0) (isRequest 0) (is-request 0) rest t;
   }
 
-  asked-1 : (before : List Event) → T (noneOf (isRequest 1) rest) → LastRequest (before ++ (seen (request 1 60 70) 0 3 ∷ rest)) 1 60 70 rest
+  asked-1 : (before : List Event) → T (noneOf (isRequest 1) rest) → LastRequest (before ++ (seen (request 1 300 310) 0 3 ∷ rest)) 1 300 310 rest
   asked-1 before t = record {
     before = before;
-    asked = seen (request 1 60 70) 0 3;
+    asked = seen (request 1 300 310) 0 3;
     whole = refl;
     accepted = refl;
     edges = refl;
     last = none (RequestOf 1) (isRequest 1) (is-request 1) rest t;
   }
 
-holds-0 : Holds events-holding 0 10 20
+holds-0 : Holds events-holding 0 0 256
 unfolding noneOf both isRequest isRelease Some StepOf
 holds-0 = record {
   since = drop 1 events-holding;
   asked = asked-0 (drop 1 events-holding) tt;
-  taken = later (GaveBackIn 9 (StepOf 0)) 2 (drop 1 events-holding) (inl ((refl, refl), refl));
+  taken = later (GaveBackIn 9 (StepOf 0)) 12 (drop 1 events-holding) (inl ((refl, refl), refl));
   kept = none (ReleaseOf 0) (isRelease 0) (is-release 0) (drop 1 events-holding) tt;
 }
 
-holds-1 : Holds events-holding 1 60 70
+holds-1 : Holds events-holding 1 300 310
 unfolding noneOf both isRequest isRelease Some StepOf
 holds-1 = record {
-  since = drop 5 events-holding;
-  asked = asked-1 (drop 5 events-holding) (take 4 events-holding) tt;
-  taken = later (GaveBackIn 9 (StepOf 1)) 6 (drop 5 events-holding) (inl ((refl, refl), refl));
-  kept = none (ReleaseOf 1) (isRelease 1) (is-release 1) (drop 5 events-holding) tt;
+  since = drop 2 events-holding;
+  asked = asked-1 (drop 2 events-holding) (take 1 events-holding) tt;
+  taken = later (GaveBackIn 9 (StepOf 1)) 4 (drop 2 events-holding) (inl ((refl, refl), refl));
+  kept = none (ReleaseOf 1) (isRelease 1) (is-release 1) (drop 2 events-holding) tt;
 }
 
-pub both-hold : (opening settings lent .number ≡ 0) × Holds (events settings fresh holding) 0 10 20 × Holds (events settings fresh holding) 1 60 70
-both-hold = (computed .0, subst (λ h. Holds h 0 10 20) (sym (computed .1)) holds-0, subst (λ h. Holds h 1 60 70) (sym (computed .1)) holds-1)
+pub both-hold : (opening settings lent .number ≡ 0) × Holds (events settings fresh holding) 0 0 256 × Holds (events settings fresh holding) 1 300 310
+both-hold = (computed .0, subst (λ h. Holds h 0 0 256) (sym (computed .1)) holds-0, subst (λ h. Holds h 1 300 310) (sym (computed .1)) holds-1)
 
 -- ---- both are idle, and the words clean
 
 idle-0 : Idle events-returned 0
 unfolding noneOf both isRequest Some clientOf
 idle-0 = inr (record {
-  left = 10;
-  right = 20;
+  left = 0;
+  right = 256;
   since = drop 1 events-returned;
   asked = asked-0 (drop 1 events-returned) tt;
-  returned = later (GaveBackIn 0 (CallOf 0)) 13 (drop 1 events-returned) (inl ((refl, refl), refl));
+  returned = later (GaveBackIn 0 (CallOf 0)) 16 (drop 1 events-returned) (inl ((refl, refl), refl));
 })
 
 idle-1 : Idle events-returned 1
 unfolding noneOf both isRequest Some clientOf
 idle-1 = inr (record {
-  left = 60;
-  right = 70;
-  since = drop 5 events-returned;
-  asked = asked-1 (drop 5 events-returned) (take 4 events-returned) tt;
-  returned = later (GaveBackIn 0 (CallOf 1)) 14 (drop 5 events-returned) (inl ((refl, refl), refl));
+  left = 300;
+  right = 310;
+  since = drop 2 events-returned;
+  asked = asked-1 (drop 2 events-returned) (take 1 events-returned) tt;
+  returned = later (GaveBackIn 0 (CallOf 1)) 19 (drop 2 events-returned) (inl ((refl, refl), refl));
 })
 
 zeros : (n i : ℕ) → getD {A = ℕ} (replicate n 0) i 0 ≡ 0
@@ -192,21 +198,24 @@ zeros zero i = refl
 zeros (suc n) zero = refl
 zeros (suc n) (suc i) = zeros n i
 
-leaf-clean : (n : ℕ) → level n ≡ 2 → wordAt words-returned n ≡ 0
+leaf-clean : (n : ℕ) → level n ≡ 3 → wordAt words-returned n ≡ 0
 unfolding wordAt level levelWithin choose
 leaf-clean zero e = refl
 leaf-clean (suc zero) e = absurd (omega arith)
-leaf-clean (suc (suc i)) e = zeros 4 i
+leaf-clean (suc (suc zero)) e = absurd (omega arith)
+leaf-clean (suc (suc (suc zero))) e = absurd (omega arith)
+leaf-clean (suc (suc (suc (suc i)))) e = zeros 18 i
 
-root-clean : CleanInner (wordAt words-returned 1)
+inner-clean : (n : ℕ) → level n < 3 → CleanInner (wordAt words-returned n)
 unfolding wordAt field
-root-clean = record { exp-clear = refl; occ-clear = refl; tickets = refl; notices = refl }
+inner-clean zero b = record { exp-clear = refl; occ-clear = refl; tickets = refl; notices = refl }
+inner-clean (suc zero) b = record { exp-clear = refl; occ-clear = refl; tickets = refl; notices = refl }
+inner-clean (suc (suc zero)) b = record { exp-clear = refl; occ-clear = refl; tickets = refl; notices = refl }
+inner-clean (suc (suc (suc zero))) b = record { exp-clear = refl; occ-clear = refl; tickets = refl; notices = refl }
+inner-clean (suc (suc (suc (suc i)))) b = subst CleanInner (sym (zeros 18 i)) (record { exp-clear = refl; occ-clear = refl; tickets = refl; notices = refl })
 
 returned-clean : Clean settings words-returned
-returned-clean = record {
-  leaf = λ n v e. leaf-clean n e;
-  inner = λ n v b. subst (λ (m : ℕ). CleanInner (wordAt words-returned m)) (sym (level-root-only n (v .some) (omega (arith, level-pos n)))) root-clean;
-}
+returned-clean = record { leaf = λ n v e. leaf-clean n e; inner = λ n v b. inner-clean n b }
 
 pub both-return : Idle (events settings fresh returned) 0 × Idle (events settings fresh returned) 1 × Clean settings (run settings fresh returned .words)
 both-return = (

@@ -140,13 +140,7 @@ abbrev pub check-ended : Ended
 check-ended = record { signature = check; kept = (yes, (yes, (yes, (yes, tt)))) }
 
 abbrev pub callee : Signature
-callee = record {
-  lifetimes = 1;
-  outlives = [];
-  params = plain (λ _. R) ∷ SliceRefMutOf (0 ∷ []) tt (plain (λ _. u64)) (λ _. tt) ∷ plain (λ _. RG) ∷ plain (λ _. RK)
-      ∷ [];
-  result = plain (λ _. RS);
-}
+callee = record { lifetimes = 1; outlives = []; params = plain (λ _. R) ∷ SliceRefMutOf (0 ∷ []) tt (plain (λ _. u64)) (λ _. tt) ∷ plain (λ _. RG) ∷ plain (λ _. RK) ∷ []; result = plain (λ _. RS) }
 
 abbrev pub callee-ended : Ended
 callee-ended = record { signature = callee; kept = (yes, (yes, (yes, (yes, tt)))) }
@@ -186,8 +180,7 @@ module _ (kind : Call → Table.Call) (its-client : (c : Call) → Table.clientO
   refused ys ws st ca e ge h = table-refuses st ys ws (ca .last) (kind ca) e (ge ∙ ap (tableCause st (length ws) (length ys)) (sym (its-client ca))) (some-found e h)
 
   taken : (ys : List Record) (ws : List ℕ) (st : Settings) (ca : Call) (e : ℕ) (r : Stepped) (vs : List ℕ) → e ≡ refusal st ca ys ws → T (not (ltb 0 e))
-      → r ≡ next (getD ys (ca .client) (idleWith 0)) ws st ca → vs ≡ after (getD ys (ca .client) (idleWith 0)) ws st ca
-      → Same (called-on ys ws st ca) (answeredOf r) (set ys (ca .client) (r .next)) vs
+      → r ≡ next (getD ys (ca .client) (idleWith 0)) ws st ca → vs ≡ after (getD ys (ca .client) (idleWith 0)) ws st ca → Same (called-on ys ws st ca) (answeredOf r) (set ys (ca .client) (r .next)) vs
   unfolding Table.recordAt
   taken ys ws st ca e r vs ge h g g′ =
       let t = table-takes st ys ws (ca .last) (kind ca) (ca .client) (its-client ca) (sym ge ∙ none-found e h) in
@@ -201,8 +194,7 @@ module _ (kind : Call → Table.Call) (its-client : (c : Call) → Table.clientO
   Said 𝓤 = (κs : Lfts 2) → Args signature κs → Answer → AtExit ended κs → SProp 𝓤
 
   abbrev pub Shown : {M : Type 1} (𝓤 : URA M) → Said 𝓤 → Type 1
-  Shown 𝓤 said = (κs : Lfts 2) (a : Args signature κs) (r : Answer) (e : AtExit ended κs)
-      → Same (called-on (now (a .0)) (now (a .1 .0)) (a .1 .1 .0) (a .1 .1 .1 .0)) r (now (e .0)) (now (e .1 .0)) → ent 𝓤 (emp 𝓤) (said κs a r e)
+  Shown 𝓤 said = (κs : Lfts 2) (a : Args signature κs) (r : Answer) (e : AtExit ended κs) → Same (called-on (now (a .0)) (now (a .1 .0)) (a .1 .1 .0) (a .1 .1 .1 .0)) r (now (e .0)) (now (e .1 .0)) → ent 𝓤 (emp 𝓤) (said κs a r e)
 
   abbrev pub clauses : {M : Type 1} (𝓤 : URA M) → Said 𝓤 → Clauses 𝓤 ended
   clauses 𝓤 said κs a = record { ghost = Unit {0}; requires = λ _. emp 𝓤; ensures = λ _ r e. said κs a r e }
@@ -211,8 +203,7 @@ module _ (kind : Call → Table.Call) (its-client : (c : Call) → Table.clientO
   abbrev Callee : {M : Type 1} (𝓤 : URA M) (H : Heap 𝓤) (A : Atoms 𝓤) → Contract 𝓤
   Callee 𝓤 H A = tripleOf 𝓤 H A callee (closing 𝓤 H A callee-ended (called 𝓤))
 
-  module _ {M : Type 1} (𝓤 : URA M) (H : Heap 𝓤) (A : Atoms 𝓤) (W : Given 𝓤 H A) (said : Said 𝓤) (shown : Shown 𝓤 said) (κ κ′ : Lft) (q q′ : Share) (x : RefT (List Record)) (u : RefT (List ℕ)) (st : Settings) (ca : Call) (gs : Is RG st (G′.lowered st
-      ∷ [])) (gc : Is RK ca (K′.lowered ca ∷ [])) (room : Room R (length (x .now))) (room′ : Room u64 (length (u .now))) where
+  module _ {M : Type 1} (𝓤 : URA M) (H : Heap 𝓤) (A : Atoms 𝓤) (W : Given 𝓤 H A) (said : Said 𝓤) (shown : Shown 𝓤 said) (κ κ′ : Lft) (q q′ : Share) (x : RefT (List Record)) (u : RefT (List ℕ)) (st : Settings) (ca : Call) (gs : Is RG st (G′.lowered st ∷ [])) (gc : Is RK ca (K′.lowered ca ∷ [])) (room : Room R (length (x .now))) (room′ : Room u64 (length (u .now))) where
     abbrev ys : List Record
     ys = x .now
 
@@ -297,8 +288,7 @@ module _ (kind : Call → Table.Call) (its-client : (c : Call) → Table.clientO
     module _ (test key : Name) (C : Calls 𝓤 H) (Λ : Loops 𝓤 H) (fm : FmC 𝓤 H (W .laws) C) (sure : Triple 𝓤 (C test) (Checked 𝓤 H A)) (known : Triple 𝓤 (C key) (Callee 𝓤 H A)) where
       walk : ent 𝓤 (onEntry 𝓤 H A signature (κ, (κ′, tt)) (q, (q′, tt)) a vals) (WpFn 𝓤 H C Λ (function test key) (s ∷ s′ ∷ G′.lowered st ∷ K′.lowered ca ∷ []) Post)
       walk =
-          qed W ((‵ (flft κ q) ⊛ (‵ (flft κ′ q′) ⊛ ‵ ftrue)) ∷ ‵ (owns (MutSlice (named 0) κ R ∷ MutSlice (named 1) κ′ u64 ∷ RG ∷ RK ∷ []) a vals)
-          ∷ []) ∵ enter ! C Λ (function test key) (s ∷ s′ ∷ G′.lowered st ∷ K′.lowered ca ∷ []) _ $
+          qed W ((‵ (flft κ q) ⊛ (‵ (flft κ′ q′) ⊛ ‵ ftrue)) ∷ ‵ (owns (MutSlice (named 0) κ R ∷ MutSlice (named 1) κ′ u64 ∷ RG ∷ RK ∷ []) a vals) ∷ []) ∵ enter ! C Λ (function test key) (s ∷ s′ ∷ G′.lowered st ∷ K′.lowered ca ∷ []) _ $
           alloc1 ! (λ l₀. alloc1 ! (λ l₁. alloc1 ! (λ l₂. alloc1 ! (λ l₃. alloc1 ! (λ l₄. alloc1 ! (λ l₅. alloc1 ! (λ l₆. alloc1 ! (λ l₇. alloc1 ! (λ l₈. alloc1 ! (λ l₉. alloc1 ! (λ l₁₀. alloc1 ! (λ l₁₁. alloc1 ! (λ l₁₂. alloc1 ! (λ l₁₃. alloc1 ! (λ l₁₄. alloc1 ! (λ l₁₅. alloc1 ! (λ l₁₆. alloc0 ! $
           params1 ! $
           pass1 ! (init ! 30 refl (tt, (tt, (record { fits = room .0 }, tt)))) $ pass1 ! (init ! 28 refl (tt, (tt, (record { fits = room′ .0 }, tt)))) $

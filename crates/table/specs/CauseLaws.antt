@@ -89,14 +89,20 @@ module _ (s : Settings) (words records n : ℕ) (t : TreeTested s words n) where
 -- ---- causes 1 to 4
 
 module _ (s : Settings) (words records client : ℕ) where
+  -- the chain of 1 to 3, and the test of 4 behind it
+  abbrev opening-tests : Tests
+  opening-tests = treeTests s words ++ ((eqb records 0 || ltb 32767 records, 3) ∷ [])
+
+  abbrev client-test : Tests
+  client-test = (leb records client, 4) ∷ []
+
   pub table-opening : (openingCause s words records ≡ 0 → ⊥) → openingCause s words records ≡ tableCause s words records client
   unfolding openingCause tableCause treeTests
-  table-opening d = sym (first-hits (treeTests s words ++ ((eqb records 0 || ltb 32767 records, 3) ∷ [])) ((leb records client, 4) ∷ []) d)
+  table-opening d = sym (first-hits opening-tests client-test d)
 
-  behind-opening : openingCause s words records ≡ 0 → tableCause s words records client ≡ firstCause ((leb records client, 4) ∷ [])
+  behind-opening : openingCause s words records ≡ 0 → tableCause s words records client ≡ firstCause client-test
   unfolding openingCause tableCause treeTests
-  behind-opening z = first-passes (treeTests s words ++ ((eqb records 0 || ltb 32767 records, 3) ∷ [])) ((leb records client, 4) ∷ [])
-      ((λ e. omega (arith, e)), ((λ e. omega (arith, e)), ((λ e. omega (arith, e)), tt))) z
+  behind-opening z = first-passes opening-tests client-test ((λ e. omega (arith, e)), ((λ e. omega (arith, e)), ((λ e. omega (arith, e)), tt))) z
 
   pub table-client : openingCause s words records ≡ 0 → records ≤ client → 4 ≡ tableCause s words records client
   unfolding firstCause
@@ -111,9 +117,10 @@ module _ (s : Settings) (words records client : ℕ) where
   four-none true h = absurd (omega (arith, h))
   four-none false h = tt
 
+  opening-none-of : tableCause s words records client ≡ 0 → openingCause s words records ≡ 0
+  unfolding openingCause tableCause treeTests
+  opening-none-of z = both-none opening-tests client-test z
+
   -- a client that passed
   pub client-below : tableCause s words records client ≡ 0 → client < records
-  unfolding openingCause tableCause treeTests firstCause
-  client-below z =
-      nleb→lt records client (four-none (leb records client) (sym (behind-opening (both-none (treeTests s words ++ ((eqb records 0 || ltb 32767 records, 3)
-      ∷ [])) ((leb records client, 4) ∷ []) z)) ∙ z))
+  client-below z = nleb→lt records client (four-none (leb records client) (sym (behind-opening (opening-none-of z)) ∙ z))

@@ -73,8 +73,10 @@ all-calls s [] t = refl
 all-calls s (kind ∷ []) t = refl
 all-calls s (kind ∷ client ∷ []) t = refl
 all-calls s (kind ∷ client ∷ a ∷ []) t = refl
-all-calls s (kind ∷ client ∷ a ∷ b ∷ l) t = ap (first-calls s (kind ∷ client ∷ a ∷ b
-    ∷ l) t) (count-on (length l)) ∙ calls-on s kind client a b l t (length l / 4) ∙ all-calls s l _
+all-calls s (kind ∷ client ∷ a ∷ b ∷ l) t =
+    ap (first-calls s (kind ∷ client ∷ a ∷ b ∷ l) t) (count-on (length l))
+    ∙ calls-on s kind client a b l t (length l / 4)
+    ∙ all-calls s l (call s t (callOf kind client a b) .state)
 
 -- ---- the opening before them
 

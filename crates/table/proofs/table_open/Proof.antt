@@ -141,9 +141,7 @@ module _ {M : Type 1} (𝓤 : URA M) (H : Heap 𝓤) (A : Atoms 𝓤) (mem : Mem
   abbrev Idle : Contract 𝓤
   Idle = tripleOf 𝓤 H A idle-with.signature (idle-with.spec 𝓤 H A mem run)
 
-module _ {M : Type 1} (𝓤 : URA M) (H : Heap 𝓤) (A : Atoms 𝓤) (W : Given 𝓤 H A) (mem : Memory → SProp 𝓤) (run : Routine
-    → Fun 𝓤) (κ κ′ : Lft) (q q′ : Share) (x : RefT (List Record)) (u : RefT (List ℕ)) (st : Settings) (gs : Is RG st (G′.lowered st
-    ∷ [])) (room : Room R (length (x .now))) (room′ : Room u64 (length (u .now))) where
+module _ {M : Type 1} (𝓤 : URA M) (H : Heap 𝓤) (A : Atoms 𝓤) (W : Given 𝓤 H A) (mem : Memory → SProp 𝓤) (run : Routine → Fun 𝓤) (κ κ′ : Lft) (q q′ : Share) (x : RefT (List Record)) (u : RefT (List ℕ)) (st : Settings) (gs : Is RG st (G′.lowered st ∷ [])) (room : Room R (length (x .now))) (room′ : Room u64 (length (u .now))) where
   abbrev ys : List Record
   ys = x .now
 
@@ -282,8 +280,7 @@ module _ {M : Type 1} (𝓤 : URA M) (H : Heap 𝓤) (A : Atoms 𝓤) (W : Given
       walk : ent 𝓤 (onEntry 𝓤 H A this.signature (κ, (κ′, tt)) (q, (q′, tt)) a vals) (WpFn 𝓤 H (𝓣 .C) (𝓣 .Λ) code.function (s ∷ s′ ∷ G′.lowered st ∷ []) Post)
       walk =
           let fm = fmOf 𝓤 H (W .laws) 𝓣 in
-          qed W ((‵ (flft κ q) ⊛ (‵ (flft κ′ q′) ⊛ ‵ ftrue)) ∷ ‵ (owns (MutSlice (named 0) κ R ∷ MutSlice (named 1) κ′ u64 ∷ RG ∷ []) a vals)
-          ∷ []) ∵ enter ! (𝓣 .C) (𝓣 .Λ) code.function (s ∷ s′ ∷ G′.lowered st ∷ []) _ $
+          qed W ((‵ (flft κ q) ⊛ (‵ (flft κ′ q′) ⊛ ‵ ftrue)) ∷ ‵ (owns (MutSlice (named 0) κ R ∷ MutSlice (named 1) κ′ u64 ∷ RG ∷ []) a vals) ∷ []) ∵ enter ! (𝓣 .C) (𝓣 .Λ) code.function (s ∷ s′ ∷ G′.lowered st ∷ []) _ $
           alloc1 ! (λ l₀. alloc1 ! (λ l₁. alloc1 ! (λ l₂. alloc1 ! (λ l₃. alloc1 ! (λ l₄. alloc1 ! (λ l₅. alloc1 ! (λ l₆. alloc1 ! (λ l₇. alloc1 ! (λ l₈. alloc1 ! (λ l₉. alloc1 ! (λ l₁₀. alloc1 ! (λ l₁₁. alloc1 ! (λ l₁₂. alloc1 ! (λ l₁₃. alloc1 ! (λ l₁₄. alloc1 ! (λ l₁₅. alloc0 ! $
           params1 ! $
           pass1 ! (init ! 28 refl (tt, (tt, (record { fits = room .0 }, tt)))) $ pass1 ! (init ! 26 refl (tt, (tt, (record { fits = room′ .0 }, tt)))) $
@@ -295,8 +292,7 @@ module _ {M : Type 1} (𝓤 : URA M) (H : Heap 𝓤) (A : Atoms 𝓤) (W : Given
           assigns ! (of-opd ! (load ! (from ! (fld ! refl (stop !))) (look-in ! 33 (sub ! 1 refl (whole !))))) (from ! (stop !)) (init ! 19 refl (tt, record { fits = room .0 })) $
           use0 W (raw (Cause 𝓤 H A mem run .pre asked)) goes-cause $
           calls-at ! fm (Cause 𝓤 H A mem run) sure asked (and-then ! (load ! (from ! (stop !)) (look ! 30 refl)) (and-then ! (load ! (from ! (stop !)) (look ! 22 refl)) (and-then ! (load ! (from ! (stop !)) (look ! 20 refl)) (no-more !)))) (λ v.
-          use1 W (later (some (λ (e : ℕ). (‵ ftrue ⊛ ‵ (u64 .own e (v
-          ∷ []))) ⊛ raw (ensured 𝓤 H A opening-cause.ended (opening-cause.clauses 𝓤 H A mem run) tt tested tt e)))) (id⊢ 𝓤 _) $
+          use1 W (later (some (λ (e : ℕ). (‵ ftrue ⊛ ‵ (u64 .own e (v ∷ []))) ⊛ raw (ensured 𝓤 H A opening-cause.ended (opening-cause.clauses 𝓤 H A mem run) tt tested tt e)))) (id⊢ 𝓤 _) $
           await ! tt $ pick ! (λ e.
           split ! $ move ! (1 ∷ []) $ use1 W (raw (fact 𝓤 (e ≡ openingCause st (length ws) (length ys)))) (cause-of e) $
           heard ! (e ≡ openingCause st (length ws) (length ys)) (λ ge. split ! $ drop ! $
@@ -319,8 +315,7 @@ module _ {M : Type 1} (𝓤 : URA M) (H : Heap 𝓤) (A : Atoms 𝓤) (W : Given
           assigns ! (agg ! (and-then ! (load ! (from ! (stop !)) (look ! 13 refl)) (and-then ! (load ! (from ! (fld ! refl (stop !))) (look-in ! 31 (sub ! 1 refl (whole !)))) (no-more !)))) (from ! (stop !)) (init ! 11 refl (tt, (tt, (record { fits = room′ .0 }, tt)))) $
           move ! (3 ∷ 4 ∷ []) $ use2 W (raw (Zero 𝓤 H A mem run .pre to)) goes $
           calls-at ! fm (Zero 𝓤 H A mem run) known to (and-then ! (load ! (from ! (stop !)) (look ! 10 refl)) (no-more !)) (λ w.
-          use1 W (later (some (λ (r : Unit {0}). ((‵ (flft κ′ q′) ⊛ ‵ ftrue) ⊛ ‵ (Nothing .own r (w
-          ∷ []))) ⊛ raw (ensured 𝓤 H A zero-words.ended (zero-words.clauses 𝓤 H A mem run) (κ′, tt) (u, tt) tt r)))) (id⊢ 𝓤 _) $
+          use1 W (later (some (λ (r : Unit {0}). ((‵ (flft κ′ q′) ⊛ ‵ ftrue) ⊛ ‵ (Nothing .own r (w ∷ []))) ⊛ raw (ensured 𝓤 H A zero-words.ended (zero-words.clauses 𝓤 H A mem run) (κ′, tt) (u, tt) tt r)))) (id⊢ 𝓤 _) $
           await ! tt $ pick ! (λ r.
           split ! $ move ! (1 ∷ []) $
           use1 W (some (λ (vs : List ℕ × Unit {0}). ‵ (lasts zero-words.ended (κ′, tt) (u, tt) vs) ⊛ raw (fact 𝓤 (vs .0 ≡ zeros ws)))) (id⊢ 𝓤 _) $ pick ! (λ vs.
@@ -331,8 +326,7 @@ module _ {M : Type 1} (𝓤 : URA M) (H : Heap 𝓤) (A : Atoms 𝓤) (W : Given
           -- the idle record
           use0 W (raw (Idle 𝓤 H A mem run .pre wanted)) goes-idle $
           calls-at ! fm (Idle 𝓤 H A mem run) idles wanted (and-then ! (lit ! tt) (no-more !)) (λ v′.
-          use1 W (later (some (λ (d : Record). (‵ ftrue ⊛ ‵ (R .own d (v′
-          ∷ []))) ⊛ raw (ensured 𝓤 H A idle-with.ended (idle-with.clauses 𝓤 H A mem run) tt (0, tt) tt d)))) (id⊢ 𝓤 _) $
+          use1 W (later (some (λ (d : Record). (‵ ftrue ⊛ ‵ (R .own d (v′ ∷ []))) ⊛ raw (ensured 𝓤 H A idle-with.ended (idle-with.clauses 𝓤 H A mem run) tt (0, tt) tt d)))) (id⊢ 𝓤 _) $
           await ! tt $ pick ! (λ d.
           split ! $ move ! (1 ∷ []) $ use1 W (raw (fact 𝓤 (d ≡ idleWith 0))) (idle-of d) $ heard ! (d ≡ idleWith 0) (λ gd. split ! $ drop ! $
           peeks ! R (Is R) (shows 𝓤 H A R) d (v′ ∷ []) (λ id. land ! (from ! (stop !)) (init ! 26 refl (LL.lawful Rec.the-type Rec′.the-laws 𝓤 H A W .typed d _ id .0)) $
@@ -341,8 +335,7 @@ module _ {M : Type 1} (𝓤 : URA M) (H : Heap 𝓤) (A : Atoms 𝓤) (W : Given
           assigns ! (of-opd ! (lit ! tt)) (from ! (stop !)) (init ! 23 refl (tt, record { fits = lit< tt })) $
           move ! (2 ∷ 3 ∷ 4 ∷ []) $ opens-slice ! tt R ys b o $ rewrite ! 0 (λ (l : List Record). ‵ (row R fullShare l b o)) (sym (filled-none (idleWith 0) ys)) refl $
           forget ! 12 refl $ forget ! 14 refl $ forget ! 16 refl $ forget ! 18 refl $ forget ! 20 refl $ forget ! 22 refl $ forget ! 30 refl $ forget ! 32 refl $
-          keep ! (0 ∷ 1 ∷ 2 ∷ 3 ∷ 4 ∷ 5 ∷ 6 ∷ 7 ∷ 8 ∷ 9 ∷ 10 ∷ 11 ∷ 12 ∷ 13 ∷ 14 ∷ 15 ∷ 16 ∷ 17 ∷ 18 ∷ 19 ∷ 20 ∷ 21 ∷ 22 ∷ 23 ∷ 24 ∷ 25 ∷ 26 ∷ 27 ∷ 28 ∷ 29 ∷ 30 ∷ 31 ∷ 32
-          ∷ 33 ∷ 34 ∷ 35 ∷ 36 ∷ 37 ∷ []) $
+          keep ! (0 ∷ 1 ∷ 2 ∷ 3 ∷ 4 ∷ 5 ∷ 6 ∷ 7 ∷ 8 ∷ 9 ∷ 10 ∷ 11 ∷ 12 ∷ 13 ∷ 14 ∷ 15 ∷ 16 ∷ 17 ∷ 18 ∷ 19 ∷ 20 ∷ 21 ∷ 22 ∷ 23 ∷ 24 ∷ 25 ∷ 26 ∷ 27 ∷ 28 ∷ 29 ∷ 30 ∷ 31 ∷ 32 ∷ 33 ∷ 34 ∷ 35 ∷ 36 ∷ 37 ∷ []) $
           whiles ! 𝓣 Nearer Nearer-wf (At e (ie .1) ge below (subst (λ (z : List ℕ). length z ≡ length ws) g′ l) l₀ l₁ l₂ l₃ l₄ l₅ l₆ l₇ l₈ l₉ l₁₀ l₁₁ l₁₂ l₁₃ l₁₄ l₁₅) (turns e (ie .1) ge below (subst (λ (z : List ℕ). length z ≡ length ws) g′ l) l₀ l₁ l₂ l₃ l₄ l₅ l₆ l₇ l₈ l₉ l₁₀ l₁₁ l₁₂ l₁₃ l₁₄ l₁₅) (0, zero-le))))))))))))))))))))))))))))))))
 
 module _ {M : Type 1} (𝓤 : URA M) (H : Heap 𝓤) (A : Atoms 𝓤) (W : Given 𝓤 H A) (mem : Memory → SProp 𝓤) (run : Routine → Fun 𝓤) (𝓣 : Tables 𝓤 H)

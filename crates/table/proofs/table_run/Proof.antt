@@ -108,20 +108,7 @@ abbrev slice : Ty
 slice = sliceTy (tyRef (named 0) mut (pointee (R .written)))
 
 abbrev stayed : Stays (this.ended .signature .params) (this.ended .kept)
-stayed = (
-  gave-slice (0 ∷ []) tt (plain (λ _. R)),
-  (
-    gave-slice (1 ∷ []) tt (plain (λ _. u64)),
-    (
-      stay-none (λ _. RG) yes,
-      (
-        stay-none-slice (2
-            ∷ []) tt (plain (λ _. u64)) yes,
-        tt,
-      ),
-    ),
-  ),
-)
+stayed = (gave-slice (0 ∷ []) tt (plain (λ _. R)), (gave-slice (1 ∷ []) tt (plain (λ _. u64)), (stay-none (λ _. RG) yes, (stay-none-slice (2 ∷ []) tt (plain (λ _. u64)) yes, tt))))
 
 -- the body of the loop, and what runs after it
 abbrev turn : Body
@@ -144,8 +131,7 @@ module _ {M : Type 1} (𝓤 : URA M) (H : Heap 𝓤) (A : Atoms 𝓤) (mem : Mem
   abbrev Act : Contract 𝓤
   Act = tripleOf 𝓤 H A table-act.signature (table-act.spec 𝓤 H A mem run)
 
-module _ {M : Type 1} (𝓤 : URA M) (H : Heap 𝓤) (A : Atoms 𝓤) (W : Given 𝓤 H A) (mem : Memory → SProp 𝓤) (run : Routine
-    → Fun 𝓤) (κ κ′ κ″ : Lft) (q q′ q″ : Share) (x : RefT (List Record)) (u : RefT (List ℕ)) (st : Settings) (cs : RefT (List ℕ))
+module _ {M : Type 1} (𝓤 : URA M) (H : Heap 𝓤) (A : Atoms 𝓤) (W : Given 𝓤 H A) (mem : Memory → SProp 𝓤) (run : Routine → Fun 𝓤) (κ κ′ κ″ : Lft) (q q′ q″ : Share) (x : RefT (List Record)) (u : RefT (List ℕ)) (st : Settings) (cs : RefT (List ℕ))
     (gs : Is RG st (G′.lowered st ∷ [])) (room : Room R (length (x .now))) (room′ : Room u64 (length (u .now))) (room″ : Room u64 (length (cs .now))) where
   abbrev ys : List Record
   ys = x .now
@@ -205,8 +191,7 @@ module _ {M : Type 1} (𝓤 : URA M) (H : Heap 𝓤) (A : Atoms 𝓤) (W : Given
 
   exits : (m : Answer) (zs : List Record) (vs : List ℕ) → Is RA m (An′.lowered m ∷ []) → length zs ≡ length ys → length vs ≡ length ws
       → Same (history st (lent ys ws 0) (callsOf (cs .now))) m zs vs
-      → ent 𝓤 (⋆ 𝓤 H A ((‵ (flft κ q) ⊛ (‵ (flft κ′ q′) ⊛ (‵ (flft κ″ q″) ⊛ ‵ ftrue))) ∷ ‵ (finally R (x .name) zs) ∷ ‵ (finally u64 (u .name) vs) ∷ Listed
-      ∷ [])) (Post (An′.lowered m))
+      → ent 𝓤 (⋆ 𝓤 H A ((‵ (flft κ q) ⊛ (‵ (flft κ′ q′) ⊛ (‵ (flft κ″ q″) ⊛ ‵ ftrue))) ∷ ‵ (finally R (x .name) zs) ∷ ‵ (finally u64 (u .name) vs) ∷ Listed ∷ [])) (Post (An′.lowered m))
   exits m zs vs is long long′ e =
       qed W ((‵ (flft κ q) ⊛ (‵ (flft κ′ q′) ⊛ (‵ (flft κ″ q″) ⊛ ‵ ftrue))) ∷ ‵ (finally R (x .name) zs) ∷ ‵ (finally u64 (u .name) vs) ∷ Listed ∷ []) ∵
       suffices ! _ (ends-at 𝓤 H A this.ended stayed (this.clauses 𝓤 H A mem run) W (((κ, (κ′, (κ″, tt))), (q, (q′, (q″, tt))), tt, a, vals), tt) (An′.lowered m) m (zs, (vs, (tt, (tt, tt)))) (long, (long′, (tt, (tt, tt))))) $
@@ -257,33 +242,10 @@ module _ {M : Type 1} (𝓤 : URA M) (H : Heap 𝓤) (A : Atoms 𝓤) (W : Given
 
   -- the tokens of the two lifetimes, and the two slices
   abbrev Handed : List Record → List ℕ → ℕ → GName → ℕ → GName → List (Item 𝓤)
-  Handed zs vs α γ β γ′ = (‵ (flft (α ∷ []) fullShare) ⊛ (‵ (flft (β ∷ []) fullShare) ⊛ ‵ ftrue)) ∷ ‵ (MutSlice (named 0) (α ∷ []) R .own (xk zs γ) (sk zs ∷ []))
-      ∷ ‵ (MutSlice (named 0) (β ∷ []) u64 .own (uk vs γ′) (sk′ vs ∷ [])) ∷ []
+  Handed zs vs α γ β γ′ = (‵ (flft (α ∷ []) fullShare) ⊛ (‵ (flft (β ∷ []) fullShare) ⊛ ‵ ftrue)) ∷ ‵ (MutSlice (named 0) (α ∷ []) R .own (xk zs γ) (sk zs ∷ [])) ∷ ‵ (MutSlice (named 0) (β ∷ []) u64 .own (uk vs γ′) (sk′ vs ∷ [])) ∷ []
 
   abbrev to-act : List Record → List ℕ → ℕ → GName → ℕ → GName → Call → Act 𝓤 H A mem run .Ghost
-  to-act zs vs α γ β γ′ c = (
-    (
-      (α ∷ [], (β ∷ [], tt)),
-      (fullShare, (fullShare, tt)),
-      tt,
-      passed zs vs γ γ′ c,
-      (
-        sk zs ∷ [],
-        (
-          sk′ vs ∷ [],
-          (
-            G′.lowered st ∷ [],
-            (
-              K′.lowered c
-                  ∷ [],
-              tt,
-            ),
-          ),
-        ),
-      ),
-    ),
-    tt,
-  )
+  to-act zs vs α γ β γ′ c = (((α ∷ [], (β ∷ [], tt)), (fullShare, (fullShare, tt)), tt, passed zs vs γ γ′ c, (sk zs ∷ [], (sk′ vs ∷ [], (G′.lowered st ∷ [], (K′.lowered c ∷ [], tt))))), tt)
 
   goes-act : (zs : List Record) (vs : List ℕ) (α : ℕ) (γ : GName) (β : ℕ) (γ′ : GName) (c : Call) → Is RK c (K′.lowered c ∷ [])
       → ent 𝓤 (⋆ 𝓤 H A (Handed zs vs α γ β γ′)) (Act 𝓤 H A mem run .pre (to-act zs vs α γ β γ′ c))
@@ -294,26 +256,7 @@ module _ {M : Type 1} (𝓤 : URA M) (H : Heap 𝓤) (A : Atoms 𝓤) (W : Given
       move ! (1 ∷ 0 ∷ []) $ join ! $ nothing ! $ move ! (1 ∷ 0 ∷ []) $ done !
 
   abbrev to-open : ℕ → GName → ℕ → GName → Open 𝓤 H A mem run .Ghost
-  to-open α γ β γ′ = (
-    (
-      (α ∷ [], (β ∷ [], tt)),
-      (fullShare, (fullShare, tt)),
-      tt,
-      (xk ys γ, (uk ws γ′, (st, tt))),
-      (
-        sk ys ∷ [],
-        (
-          sk′ ws ∷ [],
-          (
-            G′.lowered st
-                ∷ [],
-            tt,
-          ),
-        ),
-      ),
-    ),
-    tt,
-  )
+  to-open α γ β γ′ = (((α ∷ [], (β ∷ [], tt)), (fullShare, (fullShare, tt)), tt, (xk ys γ, (uk ws γ′, (st, tt))), (sk ys ∷ [], (sk′ ws ∷ [], (G′.lowered st ∷ [], tt)))), tt)
 
   goes-open : (α : ℕ) (γ : GName) (β : ℕ) (γ′ : GName) → ent 𝓤 (⋆ 𝓤 H A (Handed ys ws α γ β γ′)) (Open 𝓤 H A mem run .pre (to-open α γ β γ′))
   goes-open α γ β γ′ =
@@ -371,13 +314,11 @@ module _ {M : Type 1} (𝓤 : URA M) (H : Heap 𝓤) (A : Atoms 𝓤) (W : Given
           move ! (9 ∷ []) $ use1 W (Listed ⊛ Listed) (shr-slice-copy 𝓤 H A W (named 2) κ″ u64 .twice cs (s″ ∷ [])) $ split ! $ move ! (10 ∷ 0 ∷ []) $
           use2 W (raw (Read 𝓤 H A mem run .pre (to-read k (at k .clock)))) (goes-read k (at k .clock) c-fits within k-fits) $
           calls-at ! fm (Read 𝓤 H A mem run) known-read (to-read k (at k .clock)) (and-then ! (load ! (from ! (stop !)) (look ! 42 refl)) (and-then ! (load ! (from ! (stop !)) (look ! 34 refl)) (and-then ! (load ! (from ! (stop !)) (look ! 36 refl)) (no-more !)))) (λ v.
-          use1 W (later (some (λ (c : Call). ((‵ (flft κ″ q″) ⊛ ‵ ftrue) ⊛ ‵ (RK .own c (v
-          ∷ []))) ⊛ raw (ensured 𝓤 H A call-at.ended (call-at.clauses 𝓤 H A mem run) (κ″, tt) (cs, (k, (at k .clock, tt))) tt c)))) (id⊢ 𝓤 _) $
+          use1 W (later (some (λ (c : Call). ((‵ (flft κ″ q″) ⊛ ‵ ftrue) ⊛ ‵ (RK .own c (v ∷ []))) ⊛ raw (ensured 𝓤 H A call-at.ended (call-at.clauses 𝓤 H A mem run) (κ″, tt) (cs, (k, (at k .clock, tt))) tt c)))) (id⊢ 𝓤 _) $
           await ! tt $ pick ! (λ c.
           split ! $ move ! (1 ∷ []) $ use1 W (raw (fact 𝓤 (c ≡ readAt (cs .now) k (at k .clock)))) (read-of k (at k .clock) c) $
           heard ! (c ≡ readAt (cs .now) k (at k .clock)) (λ hc. split ! $ move ! (1 ∷ []) $
-          peeks ! RK (Is RK) (shows 𝓤 H A RK) c (v ∷ []) (λ ic. let gc = subst (Is RK c) (LL.tells K.the-type K′.the-laws c (v
-          ∷ []) ic) ic in land ! (from ! (stop !)) (init ! 33 refl (LL.lawful K.the-type K′.the-laws 𝓤 H A W .typed c _ ic .0)) $
+          peeks ! RK (Is RK) (shows 𝓤 H A RK) c (v ∷ []) (λ ic. let gc = subst (Is RK c) (LL.tells K.the-type K′.the-laws c (v ∷ []) ic) ic in land ! (from ! (stop !)) (init ! 33 refl (LL.lawful K.the-type K′.the-laws 𝓤 H A W .typed c _ ic .0)) $
           rewrite ! 33 (λ (z : Val). ‵ (fat fullShare K′.mir l₉ 0 z)) (ap only (LL.tells K.the-type K′.the-laws c (v ∷ []) ic)) refl $ drop ! $
           -- both slices are lent to `table_act`, each for a lifetime that is made here
           assigns ! (addr ! (from ! (fld ! refl (hop ! (look-in ! 48 (sub ! 0 refl (whole !))) (stop !))))) (from ! (stop !)) (init ! 16 refl (tt, tt)) $
@@ -387,42 +328,24 @@ module _ {M : Type 1} (𝓤 : URA M) (H : Heap 𝓤) (A : Atoms 𝓤) (W : Given
           assigns ! (agg ! (and-then ! (load ! (from ! (stop !)) (look ! 12 refl)) (and-then ! (load ! (from ! (fld ! refl (stop !))) (look-in ! 46 (sub ! 1 refl (whole !)))) (no-more !)))) (from ! (stop !)) (init ! 10 refl (tt, (tt, (record { fits = room′ .0 }, tt)))) $
           rewrite ! 10 (λ (m : ℕ). ‵ (fat fullShare (sliceTy (tyRef erased mut word)) l₂₀ 0 (sliceVal (b′, o′) m))) (sym long′) refl $
           move ! (2 ∷ []) $ use1 W (‵ (cells (memOf R) (at k .records) b o)) (whole-in 𝓤 H A W R (at k .records) b o) $ lft-new ! tt (λ α. move ! (1 ∷ []) $
-          use1 W (later (some (λ (γ : GName). ‵ (MutSlice (named 0) (α ∷ []) R .own (xk (at k .records) γ) (sk (at k .records) ∷ [])) ⊛ ‵ (flent (α
-          ∷ []) (Held R (length (at k .records)) b o γ))))) (lends-slice 𝓤 H A W R (named 0) (α ∷ []) (at k .records) b o (subst (Room R) (sym long) room)) $
+          use1 W (later (some (λ (γ : GName). ‵ (MutSlice (named 0) (α ∷ []) R .own (xk (at k .records) γ) (sk (at k .records) ∷ [])) ⊛ ‵ (flent (α ∷ []) (Held R (length (at k .records)) b o γ))))) (lends-slice 𝓤 H A W R (named 0) (α ∷ []) (at k .records) b o (subst (Room R) (sym long) room)) $
           await ! tt $ pick ! (λ γ. split ! $
           move ! (8 ∷ []) $ use1 W (‵ (cells (memOf u64) (at k .words) b′ o′)) (whole-in 𝓤 H A W u64 (at k .words) b′ o′) $ lft-new ! tt (λ β. move ! (1 ∷ []) $
-          use1 W (later (some (λ (γ′ : GName). ‵ (MutSlice (named 0) (β ∷ []) u64 .own (uk (at k .words) γ′) (sk′ (at k .words) ∷ [])) ⊛ ‵ (flent (β
-          ∷ []) (Held u64 (length (at k .words)) b′ o′ γ′))))) (lends-slice 𝓤 H A W u64 (named 0) (β ∷ []) (at k .words) b′ o′ (subst (Room u64) (sym long′) room′)) $
+          use1 W (later (some (λ (γ′ : GName). ‵ (MutSlice (named 0) (β ∷ []) u64 .own (uk (at k .words) γ′) (sk′ (at k .words) ∷ [])) ⊛ ‵ (flent (β ∷ []) (Held u64 (length (at k .words)) b′ o′ γ′))))) (lends-slice 𝓤 H A W u64 (named 0) (β ∷ []) (at k .words) b′ o′ (subst (Room u64) (sym long′) room′)) $
           await ! tt $ pick ! (λ γ′. split ! $
           nothing ! $ move ! (3 ∷ 0 ∷ []) $ join ! $ move ! (5 ∷ 0 ∷ []) $ join ! $ move ! (0 ∷ 3 ∷ 1 ∷ []) $
           use3 W (raw (Act 𝓤 H A mem run .pre (to-act (at k .records) (at k .words) α γ β γ′ c))) (goes-act (at k .records) (at k .words) α γ β γ′ c gc) $
           calls-at ! fm (Act 𝓤 H A mem run) known-act (to-act (at k .records) (at k .words) α γ β γ′ c) (and-then ! (load ! (from ! (stop !)) (look ! 15 refl)) (and-then ! (load ! (from ! (stop !)) (look ! 11 refl)) (and-then ! (load ! (from ! (stop !)) (look ! 45 refl)) (and-then ! (load ! (from ! (stop !)) (look ! 33 refl)) (no-more !))))) (λ w.
-          use1 W (later (some (λ (r : Answer). ((‵ (flft (α ∷ []) fullShare) ⊛ (‵ (flft (β ∷ []) fullShare) ⊛ ‵ ftrue)) ⊛ ‵ (RA .own r (w
-          ∷ []))) ⊛ raw (ensured 𝓤 H A table-act.ended (table-act.clauses 𝓤 H A mem run) (
-            α ∷ [],
-            (
-              β
-                  ∷ [],
-              tt,
-            ),
-          ) (passed (at k .records) (at k .words) γ γ′ c) tt r)))) (id⊢ 𝓤 _) $
+          use1 W (later (some (λ (r : Answer). ((‵ (flft (α ∷ []) fullShare) ⊛ (‵ (flft (β ∷ []) fullShare) ⊛ ‵ ftrue)) ⊛ ‵ (RA .own r (w ∷ []))) ⊛ raw (ensured 𝓤 H A table-act.ended (table-act.clauses 𝓤 H A mem run) (α ∷ [], (β ∷ [], tt)) (passed (at k .records) (at k .words) γ γ′ c) tt r)))) (id⊢ 𝓤 _) $
           await ! tt $ pick ! (λ r.
           split ! $ move ! (1 ∷ []) $
-          use1 W (some (λ (vs : List Record × (List ℕ × (Unit {0} × (Unit {0} × Unit {0})))). ‵ (lasts table-act.ended (
-            α ∷ [],
-            (
-              β
-                  ∷ [],
-              tt,
-            ),
-          ) (passed (at k .records) (at k .words) γ γ′ c) vs) ⊛ (raw (fact 𝓤 (r ≡ answer (made st (at k .records) (at k .words) c))) ⊛ (raw (fact 𝓤 (vs .0 ≡ made st (at k .records) (at k .words) c .state .records)) ⊛ raw (fact 𝓤 (vs .1 .0 ≡ made st (at k .records) (at k .words) c .state .words)))))) (id⊢ 𝓤 _) $
+          use1 W (some (λ (vs : List Record × (List ℕ × (Unit {0} × (Unit {0} × Unit {0})))). ‵ (lasts table-act.ended (α ∷ [], (β ∷ [], tt)) (passed (at k .records) (at k .words) γ γ′ c) vs) ⊛ (raw (fact 𝓤 (r ≡ answer (made st (at k .records) (at k .words) c))) ⊛ (raw (fact 𝓤 (vs .0 ≡ made st (at k .records) (at k .words) c .state .records)) ⊛ raw (fact 𝓤 (vs .1 .0 ≡ made st (at k .records) (at k .words) c .state .words)))))) (id⊢ 𝓤 _) $
           pick ! (λ vs.
           split ! $ move ! (1 ∷ []) $ split ! $ heard ! (r ≡ answer (made st (at k .records) (at k .words) c)) (λ h₀. split ! $
           heard ! (vs .0 ≡ made st (at k .records) (at k .words) c .state .records) (λ h₁. heard ! (vs .1 .0 ≡ made st (at k .records) (at k .words) c .state .words) (λ h₂. fsplit ! $
           fsplit ! $ move ! (1 ∷ []) $ feqL ! (λ lt. move ! (1 ∷ []) $ fsplit ! $ fsplit ! $ move ! (1 ∷ []) $ feqL ! (λ lw. move ! (1 ∷ []) $ drop ! $ move ! (2 ∷ []) $
           split ! $ move ! (1 ∷ []) $
-          peeks ! RA (Is RA) (shows 𝓤 H A RA) r (w
-          ∷ []) (λ is. let parts = LL.owed An.the-type An′.the-laws r _ is in land ! (from ! (stop !)) (init ! 34 refl (LL.lawful An.the-type An′.the-laws 𝓤 H A W .typed r _ is .0)) $
+          peeks ! RA (Is RA) (shows 𝓤 H A RA) r (w ∷ []) (λ is. let parts = LL.owed An.the-type An′.the-laws r _ is in land ! (from ! (stop !)) (init ! 34 refl (LL.lawful An.the-type An′.the-laws 𝓤 H A W .typed r _ is .0)) $
           rewrite ! 34 (λ (z : Val). ‵ (fat fullShare An′.mir l₁₀ 0 z)) (ap only (LL.tells An.the-type An′.the-laws r (w ∷ []) is)) refl $ drop ! $
           -- both lifetimes are ended, and the rows come back
           move ! (0 ∷ []) $ split ! $ lft-end ! tt $ move ! (1 ∷ []) $ split ! $ lft-end ! tt $ move ! (1 ∷ []) $ drop ! $
@@ -430,8 +353,7 @@ module _ {M : Type 1} (𝓤 : URA M) (H : Heap 𝓤) (A : Atoms 𝓤) (W : Given
           use3 W (later (‵ (Arr (memOf R) (length (at k .records)) .lies (vs .0) b o))) (slice-back 𝓤 H A W R (α ∷ []) γ (vs .0) (length (at k .records)) b o) $
           await ! tt $ fsplit ! $ drop ! $ use1 W (‵ (row R fullShare (vs .0) b o)) (whole-out 𝓤 H A W R (vs .0) b o) $
           move ! (1 ∷ 3 ∷ 2 ∷ []) $
-          use3 W (later (‵ (Arr (memOf u64) (length (at k .words)) .lies (vs .1 .0) b′ o′))) (slice-back 𝓤 H A W u64 (β
-          ∷ []) γ′ (vs .1 .0) (length (at k .words)) b′ o′) $
+          use3 W (later (‵ (Arr (memOf u64) (length (at k .words)) .lies (vs .1 .0) b′ o′))) (slice-back 𝓤 H A W u64 (β ∷ []) γ′ (vs .1 .0) (length (at k .words)) b′ o′) $
           await ! tt $ fsplit ! $ drop ! $ use1 W (‵ (row u64 fullShare (vs .1 .0) b′ o′)) (whole-out 𝓤 H A W u64 (vs .1 .0) b′ o′) $
           -- the clock, and the state after k + 1 calls
           assigns ! (of-opd ! (load ! (from ! (fld ! refl (stop !))) (look-in ! 30 (sub ! 1 refl (whole !))))) (from ! (stop !)) (store ! 36 refl (tt, record { fits = parts .1 .0 .1 })) $
@@ -440,34 +362,29 @@ module _ {M : Type 1} (𝓤 : URA M) (H : Heap 𝓤) (A : Atoms 𝓤) (W : Given
           rewrite ! 36 (λ (t : State). ‵ (fat fullShare word l₇ 0 (vint w64 (t .clock)))) next refl $
           assigns-last ! (bin ! (load ! (from ! (stop !)) (look ! 34 refl)) (lit ! tt) (record { fits = lt-of-le-of-lt (add-one-le within) n-fits })) (from ! (stop !)) (store ! 34 refl (tt, record { fits = lt-of-le-of-lt (add-one-le within) n-fits })) $
           forget ! 10 refl $ forget ! 12 refl $ forget ! 14 refl $ forget ! 16 refl $ forget ! 18 refl $ forget ! 30 refl $ forget ! 32 refl $
-          keep ! (1 ∷ 4 ∷ 5 ∷ 6 ∷ 0 ∷ 7 ∷ 8 ∷ 9 ∷ 2 ∷ 3 ∷ 10 ∷ 11 ∷ 12 ∷ 13 ∷ 14 ∷ 15 ∷ 16 ∷ 17 ∷ 18 ∷ 19 ∷ 20 ∷ 21 ∷ 22 ∷ 23 ∷ 24 ∷ 25 ∷ 26 ∷ 27 ∷ 28 ∷ 29 ∷ 30 ∷ 31 ∷ 32
-          ∷ 33 ∷ 34 ∷ 35 ∷ 36 ∷ 37 ∷ 38 ∷ 39 ∷ 40 ∷ 41 ∷ 42 ∷ 43 ∷ 44 ∷ 45 ∷ 46 ∷ 47 ∷ 48 ∷ 49 ∷ 50 ∷ 51 ∷ []) $
+          keep ! (1 ∷ 4 ∷ 5 ∷ 6 ∷ 0 ∷ 7 ∷ 8 ∷ 9 ∷ 2 ∷ 3 ∷ 10 ∷ 11 ∷ 12 ∷ 13 ∷ 14 ∷ 15 ∷ 16 ∷ 17 ∷ 18 ∷ 19 ∷ 20 ∷ 21 ∷ 22 ∷ 23 ∷ 24 ∷ 25 ∷ 26 ∷ 27 ∷ 28 ∷ 29 ∷ 30 ∷ 31 ∷ 32 ∷ 33 ∷ 34 ∷ 35 ∷ 36 ∷ 37 ∷ 38 ∷ 39 ∷ 40 ∷ 41 ∷ 42 ∷ 43 ∷ 44 ∷ 45 ∷ 46 ∷ 47 ∷ 48 ∷ 49 ∷ 50 ∷ 51 ∷ []) $
           again ! Nearer At i (k + 1, (add-one-le within, (subst (λ (t : State). t .clock < 2 ^ 64) next (parts .1 .0 .1), (subst (λ (t : State). length (t .records) ≡ length ys) next (lt ∙ long), subst (λ (t : State). length (t .words) ≡ length ws) next (lw ∙ long′))))) (add-one-dec n k within)))))))))))))))))))
           -- the loop is left: both borrows are closed
           (λ over. let ans : Answer = numbered e (at k .clock) in let is = LL.owes An.the-type An′.the-laws ans ((refl, e-fits), ((refl, c-fits), tt)) in
           move ! (0 ∷ 1 ∷ 2 ∷ 3 ∷ []) $ closes-slice ! tt R ys (at k .records) long b o $
           move ! (3 ∷ 4 ∷ 5 ∷ 6 ∷ []) $ closes-slice ! tt u64 ws (at k .words) long′ b′ o′ $
           assigns ! (agg ! (and-then ! (load ! (from ! (stop !)) (look ! 38 refl)) (and-then ! (load ! (from ! (stop !)) (look ! 34 refl)) (no-more !)))) (from ! (stop !)) (init ! 48 refl (LL.lawful An.the-type An′.the-laws 𝓤 H A W .typed ans _ is .0)) $
-          returns ! (look ! 48 refl) $ forget ! 16 refl $ forget ! 32 refl $ forget ! 34 refl $ forget ! 36 refl $ forget ! 38 refl $ forget ! 40 refl $
-          forget ! 42 refl $
+          returns ! (look ! 48 refl) $ forget ! 16 refl $ forget ! 32 refl $ forget ! 34 refl $ forget ! 36 refl $ forget ! 38 refl $ forget ! 40 refl $ forget ! 42 refl $
           forget ! 44 refl $ forget ! 46 refl $ forget ! 48 refl $ move ! (48 ∷ 49 ∷ []) $ free1 ! $ move ! (46 ∷ 47 ∷ []) $ free1 ! $ move ! (44 ∷ 45 ∷ []) $ free1 ! $
           move ! (42 ∷ 43 ∷ []) $ free1 ! $ move ! (40 ∷ 41 ∷ []) $ free1 ! $ move ! (38 ∷ 39 ∷ []) $ free1 ! $ move ! (36 ∷ 37 ∷ []) $ free1 ! $ move ! (34 ∷ 35 ∷ []) $
           free1 ! $ move ! (32 ∷ 33 ∷ []) $ free1 ! $ move ! (30 ∷ 31 ∷ []) $ free1 ! $ move ! (28 ∷ 29 ∷ []) $ free1 ! $ move ! (26 ∷ 27 ∷ []) $ free1 ! $
           move ! (24 ∷ 25 ∷ []) $ free1 ! $ move ! (22 ∷ 23 ∷ []) $ free1 ! $ move ! (20 ∷ 21 ∷ []) $ free1 ! $ move ! (18 ∷ 19 ∷ []) $ free1 ! $ move ! (16 ∷ 17 ∷ []) $
           free1 ! $ move ! (14 ∷ 15 ∷ []) $ free1 ! $ move ! (12 ∷ 13 ∷ []) $ free1 ! $ move ! (10 ∷ 11 ∷ []) $ free1 ! $ move ! (8 ∷ 9 ∷ []) $ free1 ! $ free0 ! $
           use1 W (‵ (finally u64 (u .name) (at k .words))) (gives-up 𝓤 H A W u64 κ′ (u .name) (at k .words)) $ move ! (3 ∷ []) $
-          use1 W (‵ (finally R (x .name) (at k .records))) (gives-up 𝓤 H A W R κ (x .name) (at k .records)) $ move ! (3 ∷ 6 ∷ []) $ join ! $ move ! (5 ∷ 0 ∷ []) $
-          join ! $
+          use1 W (‵ (finally R (x .name) (at k .records))) (gives-up 𝓤 H A W R κ (x .name) (at k .records)) $ move ! (3 ∷ 6 ∷ []) $ join ! $ move ! (5 ∷ 0 ∷ []) $ join ! $
           keep ! (0 ∷ 1 ∷ 2 ∷ 5 ∷ []) $
           by ! (exits ans (at k .records) (at k .words) is long long′ (history-taken st ys ws (callsOf (cs .now)) e ge none (at k) (ap at (le-antisymm (i .1 .0) (nltb→le k n over)) ∙ all-calls st (cs .now) start))))
 
-    walk : ent 𝓤 (onEntry 𝓤 H A this.signature (κ, (κ′, (κ″, tt))) (q, (q′, (q″, tt))) a vals) (WpFn 𝓤 H (𝓣 .C) (𝓣 .Λ) code.function (s ∷ s′ ∷ G′.lowered st ∷ s″
-        ∷ []) Post)
+    walk : ent 𝓤 (onEntry 𝓤 H A this.signature (κ, (κ′, (κ″, tt))) (q, (q′, (q″, tt))) a vals) (WpFn 𝓤 H (𝓣 .C) (𝓣 .Λ) code.function (s ∷ s′ ∷ G′.lowered st ∷ s″ ∷ []) Post)
     unfolding first-calls
     walk =
         let fm = fmOf 𝓤 H (W .laws) 𝓣 in
-        qed W ((‵ (flft κ q) ⊛ (‵ (flft κ′ q′) ⊛ (‵ (flft κ″ q″) ⊛ ‵ ftrue))) ∷ ‵ (owns (MutSlice (named 0) κ R ∷ MutSlice (named 1) κ′ u64 ∷ RG
-        ∷ ShrSlice (named 2) κ″ u64 ∷ []) a vals) ∷ []) ∵ enter ! (𝓣 .C) (𝓣 .Λ) code.function (s ∷ s′ ∷ G′.lowered st ∷ s″ ∷ []) _ $
+        qed W ((‵ (flft κ q) ⊛ (‵ (flft κ′ q′) ⊛ (‵ (flft κ″ q″) ⊛ ‵ ftrue))) ∷ ‵ (owns (MutSlice (named 0) κ R ∷ MutSlice (named 1) κ′ u64 ∷ RG ∷ ShrSlice (named 2) κ″ u64 ∷ []) a vals) ∷ []) ∵ enter ! (𝓣 .C) (𝓣 .Λ) code.function (s ∷ s′ ∷ G′.lowered st ∷ s″ ∷ []) _ $
         alloc1 ! (λ l₀. alloc1 ! (λ l₁. alloc1 ! (λ l₂. alloc1 ! (λ l₃. alloc1 ! (λ l₄. alloc1 ! (λ l₅. alloc1 ! (λ l₆. alloc1 ! (λ l₇. alloc1 ! (λ l₈. alloc1 ! (λ l₉. alloc1 ! (λ l₁₀. alloc1 ! (λ l₁₁. alloc1 ! (λ l₁₂. alloc1 ! (λ l₁₃. alloc1 ! (λ l₁₄. alloc1 ! (λ l₁₅. alloc1 ! (λ l₁₆. alloc1 ! (λ l₁₇. alloc1 ! (λ l₁₈. alloc1 ! (λ l₁₉. alloc1 ! (λ l₂₀. alloc0 ! $
         params1 ! $
         pass1 ! (init ! 38 refl (tt, (tt, (record { fits = room .0 }, tt)))) $ pass1 ! (init ! 36 refl (tt, (tt, (record { fits = room′ .0 }, tt)))) $
@@ -482,28 +399,18 @@ module _ {M : Type 1} (𝓤 : URA M) (H : Heap 𝓤) (A : Atoms 𝓤) (W : Given
         assigns ! (addr ! (from ! (fld ! refl (hop ! (look-in ! 46 (sub ! 0 refl (whole !))) (stop !))))) (from ! (stop !)) (init ! 24 refl (tt, tt)) $
         assigns ! (agg ! (and-then ! (load ! (from ! (stop !)) (look ! 24 refl)) (and-then ! (load ! (from ! (fld ! refl (stop !))) (look-in ! 46 (sub ! 1 refl (whole !)))) (no-more !)))) (from ! (stop !)) (init ! 22 refl (tt, (tt, (record { fits = room′ .0 }, tt)))) $
         move ! (4 ∷ []) $ use1 W (‵ (cells (memOf R) ys b o)) (whole-in 𝓤 H A W R ys b o) $ lft-new ! tt (λ α. move ! (1 ∷ []) $
-        use1 W (later (some (λ (γ : GName). ‵ (MutSlice (named 0) (α ∷ []) R .own (xk ys γ) (sk ys ∷ [])) ⊛ ‵ (flent (α
-        ∷ []) (Held R (length ys) b o γ))))) (lends-slice 𝓤 H A W R (named 0) (α ∷ []) ys b o room) $
+        use1 W (later (some (λ (γ : GName). ‵ (MutSlice (named 0) (α ∷ []) R .own (xk ys γ) (sk ys ∷ [])) ⊛ ‵ (flent (α ∷ []) (Held R (length ys) b o γ))))) (lends-slice 𝓤 H A W R (named 0) (α ∷ []) ys b o room) $
         await ! tt $ pick ! (λ γ. split ! $
         move ! (3 ∷ []) $ use1 W (‵ (cells (memOf u64) ws b′ o′)) (whole-in 𝓤 H A W u64 ws b′ o′) $ lft-new ! tt (λ β. move ! (1 ∷ []) $
-        use1 W (later (some (λ (γ′ : GName). ‵ (MutSlice (named 0) (β ∷ []) u64 .own (uk ws γ′) (sk′ ws ∷ [])) ⊛ ‵ (flent (β
-        ∷ []) (Held u64 (length ws) b′ o′ γ′))))) (lends-slice 𝓤 H A W u64 (named 0) (β ∷ []) ws b′ o′ room′) $
+        use1 W (later (some (λ (γ′ : GName). ‵ (MutSlice (named 0) (β ∷ []) u64 .own (uk ws γ′) (sk′ ws ∷ [])) ⊛ ‵ (flent (β ∷ []) (Held u64 (length ws) b′ o′ γ′))))) (lends-slice 𝓤 H A W u64 (named 0) (β ∷ []) ws b′ o′ room′) $
         await ! tt $ pick ! (λ γ′. split ! $
         nothing ! $ move ! (3 ∷ 0 ∷ []) $ join ! $ move ! (5 ∷ 0 ∷ []) $ join ! $ move ! (0 ∷ 3 ∷ 1 ∷ []) $
         use3 W (raw (Open 𝓤 H A mem run .pre (to-open α γ β γ′))) (goes-open α γ β γ′) $
         calls-at ! fm (Open 𝓤 H A mem run) known-open (to-open α γ β γ′) (and-then ! (load ! (from ! (stop !)) (look ! 27 refl)) (and-then ! (load ! (from ! (stop !)) (look ! 23 refl)) (and-then ! (load ! (from ! (stop !)) (look ! 45 refl)) (no-more !)))) (λ w.
-        use1 W (later (some (λ (r : ℕ). ((‵ (flft (α ∷ []) fullShare) ⊛ (‵ (flft (β ∷ []) fullShare) ⊛ ‵ ftrue)) ⊛ ‵ (u64 .own r (w
-        ∷ []))) ⊛ raw (ensured 𝓤 H A table-open.ended (table-open.clauses 𝓤 H A mem run) (α ∷ [], (β ∷ [], tt)) (xk ys γ, (uk ws γ′, (st, tt))) tt r)))) (id⊢ 𝓤 _) $
+        use1 W (later (some (λ (r : ℕ). ((‵ (flft (α ∷ []) fullShare) ⊛ (‵ (flft (β ∷ []) fullShare) ⊛ ‵ ftrue)) ⊛ ‵ (u64 .own r (w ∷ []))) ⊛ raw (ensured 𝓤 H A table-open.ended (table-open.clauses 𝓤 H A mem run) (α ∷ [], (β ∷ [], tt)) (xk ys γ, (uk ws γ′, (st, tt))) tt r)))) (id⊢ 𝓤 _) $
         await ! tt $ pick ! (λ r.
         split ! $ move ! (1 ∷ []) $
-        use1 W (some (λ (vs : List Record × (List ℕ × (Unit {0} × Unit {0}))). ‵ (lasts table-open.ended (
-          α ∷ [],
-          (
-            β
-                ∷ [],
-            tt,
-          ),
-        ) (xk ys γ, (uk ws γ′, (st, tt))) vs) ⊛ (raw (fact 𝓤 (r ≡ begun .number)) ⊛ (raw (fact 𝓤 (vs .0 ≡ begun .state .records)) ⊛ raw (fact 𝓤 (vs .1 .0 ≡ begun .state .words)))))) (id⊢ 𝓤 _) $
+        use1 W (some (λ (vs : List Record × (List ℕ × (Unit {0} × Unit {0}))). ‵ (lasts table-open.ended (α ∷ [], (β ∷ [], tt)) (xk ys γ, (uk ws γ′, (st, tt))) vs) ⊛ (raw (fact 𝓤 (r ≡ begun .number)) ⊛ (raw (fact 𝓤 (vs .0 ≡ begun .state .records)) ⊛ raw (fact 𝓤 (vs .1 .0 ≡ begun .state .words)))))) (id⊢ 𝓤 _) $
         pick ! (λ vs.
         split ! $ move ! (1 ∷ []) $ split ! $ heard ! (r ≡ begun .number) (λ h₀. split ! $
         heard ! (vs .0 ≡ begun .state .records) (λ h₁. heard ! (vs .1 .0 ≡ begun .state .words) (λ h₂. fsplit ! $ fsplit ! $ move ! (1 ∷ []) $
@@ -513,12 +420,10 @@ module _ {M : Type 1} (𝓤 : URA M) (H : Heap 𝓤) (A : Atoms 𝓤) (W : Given
         -- both lifetimes are ended, and the rows come back
         move ! (0 ∷ []) $ split ! $ lft-end ! tt $ move ! (1 ∷ []) $ split ! $ lft-end ! tt $ move ! (1 ∷ []) $ drop ! $
         move ! (1 ∷ 5 ∷ 3 ∷ []) $ use3 W (later (‵ (Arr (memOf R) (length ys) .lies (vs .0) b o))) (slice-back 𝓤 H A W R (α ∷ []) γ (vs .0) (length ys) b o) $
-        await ! tt $
-        fsplit ! $ drop ! $ use1 W (‵ (row R fullShare (vs .0) b o)) (whole-out 𝓤 H A W R (vs .0) b o) $
+        await ! tt $ fsplit ! $ drop ! $ use1 W (‵ (row R fullShare (vs .0) b o)) (whole-out 𝓤 H A W R (vs .0) b o) $
         move ! (1 ∷ 3 ∷ 2 ∷ []) $
         use3 W (later (‵ (Arr (memOf u64) (length ws) .lies (vs .1 .0) b′ o′))) (slice-back 𝓤 H A W u64 (β ∷ []) γ′ (vs .1 .0) (length ws) b′ o′) $ await ! tt $
-        fsplit ! $
-        drop ! $ use1 W (‵ (row u64 fullShare (vs .1 .0) b′ o′)) (whole-out 𝓤 H A W u64 (vs .1 .0) b′ o′) $
+        fsplit ! $ drop ! $ use1 W (‵ (row u64 fullShare (vs .1 .0) b′ o′)) (whole-out 𝓤 H A W u64 (vs .1 .0) b′ o′) $
         rewrite ! 0 (λ (z : List ℕ). ‵ (row u64 fullShare z b′ o′)) h₂ refl $ rewrite ! 1 (λ (z : List Record). ‵ (row R fullShare z b o)) h₁ refl $
         let long = subst (λ (z : List Record). length z ≡ length ys) h₁ lt in let long′ = subst (λ (z : List ℕ). length z ≡ length ws) h₂ lw in
         assigns ! (bin ! (lit ! tt) (load ! (from ! (stop !)) (look ! 40 refl)) tt) (from ! (stop !)) (init ! 20 refl (tt, tt)) $
@@ -537,16 +442,14 @@ module _ {M : Type 1} (𝓤 : URA M) (H : Heap 𝓤) (A : Atoms 𝓤) (W : Given
         move ! (8 ∷ 9 ∷ []) $ free1 ! $ free0 ! $
         use1 W (‵ (finally u64 (u .name) (start .words))) (gives-up 𝓤 H A W u64 κ′ (u .name) (start .words)) $ move ! (3 ∷ []) $
         use1 W (‵ (finally R (x .name) (start .records))) (gives-up 𝓤 H A W R κ (x .name) (start .records)) $ move ! (3 ∷ 6 ∷ []) $ join ! $ move ! (5 ∷ 0 ∷ []) $
-        join ! $
-        keep ! (0 ∷ 1 ∷ 2 ∷ 5 ∷ []) $
+        join ! $ keep ! (0 ∷ 1 ∷ 2 ∷ 5 ∷ []) $
         by ! (exits ans (start .records) (start .words) made-of long long′ (history-refused st ys ws (callsOf (cs .now)) r h₀ (some-found r past))))
         -- accepted: the calls are counted
         (λ below. let none = none-found r below in
         move ! (9 ∷ []) $ use1 W (Listed ⊛ Listed) (shr-slice-copy 𝓤 H A W (named 2) κ″ u64 .twice cs (s″ ∷ [])) $ split ! $ move ! (10 ∷ 0 ∷ []) $
         use2 W (raw (Count 𝓤 H A mem run .pre to-count)) goes-count $
         calls-at ! fm (Count 𝓤 H A mem run) known-count to-count (and-then ! (load ! (from ! (stop !)) (look ! 42 refl)) (no-more !)) (λ v.
-        use1 W (later (some (λ (m : ℕ). ((‵ (flft κ″ q″) ⊛ ‵ ftrue) ⊛ ‵ (usize .own m (v
-        ∷ []))) ⊛ raw (ensured 𝓤 H A call-count.ended (call-count.clauses 𝓤 H A mem run) (κ″, tt) (cs, tt) tt m)))) (id⊢ 𝓤 _) $
+        use1 W (later (some (λ (m : ℕ). ((‵ (flft κ″ q″) ⊛ ‵ ftrue) ⊛ ‵ (usize .own m (v ∷ []))) ⊛ raw (ensured 𝓤 H A call-count.ended (call-count.clauses 𝓤 H A mem run) (κ″, tt) (cs, tt) tt m)))) (id⊢ 𝓤 _) $
         await ! tt $ pick ! (λ m.
         split ! $ move ! (1 ∷ []) $ use1 W (raw (fact 𝓤 (m ≡ n))) (count-of m) $ heard ! (m ≡ n) (λ gm. split ! $ move ! (1 ∷ []) $
         peeks ! usize (Is usize) (shows 𝓤 H A usize) m (v ∷ []) (λ im. land ! (from ! (stop !)) (init ! 39 refl (uint-lawful 𝓤 H A W w64 .typed m _ im .0)) $
@@ -556,12 +459,10 @@ module _ {M : Type 1} (𝓤 : URA M) (H : Heap 𝓤) (A : Atoms 𝓤) (W : Given
         let from-0 = clock-opened st ys ws (callsOf (cs .now)) r h₀ none in rewrite ! 36 (λ (j : ℕ). ‵ (fat fullShare word l₇ 0 (vint w64 j))) from-0 refl $
         assigns ! (of-opd ! (lit ! tt)) (from ! (stop !)) (init ! 34 refl (tt, record { fits = lit< tt })) $
         forget ! 20 refl $ forget ! 22 refl $ forget ! 24 refl $ forget ! 26 refl $ forget ! 28 refl $
-        keep ! (3 ∷ 7 ∷ 8 ∷ 9 ∷ 2 ∷ 4 ∷ 5 ∷ 6 ∷ 0 ∷ 1 ∷ 10 ∷ 11 ∷ 12 ∷ 13 ∷ 14 ∷ 15 ∷ 16 ∷ 17 ∷ 18 ∷ 19 ∷ 20 ∷ 21 ∷ 22 ∷ 23 ∷ 24 ∷ 25 ∷ 26 ∷ 27 ∷ 28 ∷ 29 ∷ 30 ∷ 31 ∷ 32
-        ∷ 33 ∷ 34 ∷ 35 ∷ 36 ∷ 37 ∷ 38 ∷ 39 ∷ 40 ∷ 41 ∷ 42 ∷ 43 ∷ 44 ∷ 45 ∷ 46 ∷ 47 ∷ 48 ∷ 49 ∷ 50 ∷ 51 ∷ []) $
+        keep ! (3 ∷ 7 ∷ 8 ∷ 9 ∷ 2 ∷ 4 ∷ 5 ∷ 6 ∷ 0 ∷ 1 ∷ 10 ∷ 11 ∷ 12 ∷ 13 ∷ 14 ∷ 15 ∷ 16 ∷ 17 ∷ 18 ∷ 19 ∷ 20 ∷ 21 ∷ 22 ∷ 23 ∷ 24 ∷ 25 ∷ 26 ∷ 27 ∷ 28 ∷ 29 ∷ 30 ∷ 31 ∷ 32 ∷ 33 ∷ 34 ∷ 35 ∷ 36 ∷ 37 ∷ 38 ∷ 39 ∷ 40 ∷ 41 ∷ 42 ∷ 43 ∷ 44 ∷ 45 ∷ 46 ∷ 47 ∷ 48 ∷ 49 ∷ 50 ∷ 51 ∷ []) $
         whiles ! 𝓣 Nearer Nearer-wf (At r (is .1) h₀ none (subst (λ (j : ℕ). j < 2 ^ 64) gm (im .1)) l₀ l₁ l₂ l₃ l₄ l₅ l₆ l₇ l₈ l₉ l₁₀ l₁₁ l₁₂ l₁₃ l₁₄ l₁₅ l₁₆ l₁₇ l₁₈ l₁₉ l₂₀) (turns r (is .1) h₀ none (subst (λ (j : ℕ). j < 2 ^ 64) gm (im .1)) l₀ l₁ l₂ l₃ l₄ l₅ l₆ l₇ l₈ l₉ l₁₀ l₁₁ l₁₂ l₁₃ l₁₄ l₁₅ l₁₆ l₁₇ l₁₈ l₁₉ l₂₀) (0, (zero-le, (subst (λ (j : ℕ). j < 2 ^ 64) from-0 (lit< tt), (long, long′)))))))))))))))))))))))))))))))))))))))))))
 
-module _ {M : Type 1} (𝓤 : URA M) (H : Heap 𝓤) (A : Atoms 𝓤) (W : Given 𝓤 H A) (mem : Memory → SProp 𝓤) (run : Routine
-    → Fun 𝓤) (𝓣 : Tables 𝓤 H) (known-count : Triple 𝓤 (𝓣 .C #call-count) (Count 𝓤 H A mem run)) (known-read : Triple 𝓤 (𝓣 .C #call-at) (Read 𝓤 H A mem run)) (known-open : Triple 𝓤 (𝓣 .C #table-open) (Open 𝓤 H A mem run)) (known-act : Triple 𝓤 (𝓣 .C #table-act) (Act 𝓤 H A mem run)) where
+module _ {M : Type 1} (𝓤 : URA M) (H : Heap 𝓤) (A : Atoms 𝓤) (W : Given 𝓤 H A) (mem : Memory → SProp 𝓤) (run : Routine → Fun 𝓤) (𝓣 : Tables 𝓤 H) (known-count : Triple 𝓤 (𝓣 .C #call-count) (Count 𝓤 H A mem run)) (known-read : Triple 𝓤 (𝓣 .C #call-at) (Read 𝓤 H A mem run)) (known-open : Triple 𝓤 (𝓣 .C #table-open) (Open 𝓤 H A mem run)) (known-act : Triple 𝓤 (𝓣 .C #table-act) (Act 𝓤 H A mem run)) where
   run-walks : Walks 𝓤 H A this.ended stayed (WpFn 𝓤 H (𝓣 .C) (𝓣 .Λ) code.function) (this.clauses 𝓤 H A mem run)
   run-walks = walked 𝓤 H A this.ended stayed (this.clauses 𝓤 H A mem run) (WpFn 𝓤 H (𝓣 .C) (𝓣 .Λ) code.function)
       (λ κs. (slice-vals, (slice-vals, (LL.vals G.the-type G′.the-laws, (slice-vals, tt)))))
@@ -571,20 +472,7 @@ module _ {M : Type 1} (𝓤 : URA M) (H : Heap 𝓤) (A : Atoms 𝓤) (W : Given
 
   run-meets : Meets 𝓤 H A this.signature (WpFn 𝓤 H (𝓣 .C) (𝓣 .Λ) code.function) (this.spec 𝓤 H A mem run)
   run-meets =
-      walk-meets 𝓤 H A this.ended stayed W (
-        goes-gave-slice 𝓤 H A W 3 0 tt (plain (λ _. R)),
-        (
-          goes-gave-slice 𝓤 H A W 3 1 tt (plain (λ _. u64)),
-          (
-            goes-none 𝓤 H A W 3 (λ _. RG) yes (λ κs x f. refl),
-            (
-              goes-none-slice 𝓤 H A W 3 (2
-                  ∷ []) tt (plain (λ _. u64)) yes,
-              tt,
-            ),
-          ),
-        ),
-      )
+      walk-meets 𝓤 H A this.ended stayed W (goes-gave-slice 𝓤 H A W 3 0 tt (plain (λ _. R)), (goes-gave-slice 𝓤 H A W 3 1 tt (plain (λ _. u64)), (goes-none 𝓤 H A W 3 (λ _. RG) yes (λ κs x f. refl), (goes-none-slice 𝓤 H A W 3 (2 ∷ []) tt (plain (λ _. u64)) yes, tt))))
       (this.clauses 𝓤 H A mem run) (WpFn 𝓤 H (𝓣 .C) (𝓣 .Λ) code.function) (WpFn-mono 𝓤 H (W .laws) 𝓣 code.function) run-walks
 
 pub table-run-spec : {M : Type 1} → stated.statement M

@@ -44,7 +44,11 @@ loop-less : tie.Need-loop-less Inv-loop μ-loop
 loop-less c = omega (arith, c .loop-test .taken, long (c .before .before .args .words .now) (c .before .loop .words) (c .before .loop .i) (c .before .loop .inv .0))
 
 loop-again : tie.Need-loop-again Inv-loop μ-loop
-loop-again c = (goes (c .before .before .args .words .now) (c .before .loop .words) (c .before .loop .i) (c .before .loop .inv .0) (c .loop-test .taken), omega (arith, c .loop-test .taken, long (c .before .before .args .words .now) (c .before .loop .words) (c .before .loop .i) (c .before .loop .inv .0)))
+loop-again c =
+    let l = c .before .before .args .words .now in
+    let ws = c .before .loop .words in
+    let i = c .before .loop .i in
+    (goes l ws i (c .before .loop .inv .0) (c .loop-test .taken), omega (arith, c .loop-test .taken, long l ws i (c .before .loop .inv .0)))
 
 same-length : tie.Need-same-length Inv-loop μ-loop
 same-length c = long (c .before .before .args .words .now) (c .before .loop .words) (c .before .loop .i) (c .before .loop .inv .0)
