@@ -1,3 +1,23 @@
 // A schedule: the file format that `rangelog` reads, the calls in it, and the log of running them.
+use lock::Record;
+use table::Answer;
 
 pub mod format;
+pub mod front;
+
+// The records of up to 64 clients, kept by value: a call is made on the first of them, as many as there are clients.
+pub struct Shelf {
+    pub records: [Record; 64],
+}
+
+// What a call over the shelf gives: its answer, and the shelf after it.
+pub struct Acted {
+    pub answer: Answer,
+    pub shelf: Shelf,
+}
+
+// What an opening of the shelf gives: its number (0 accepted), and the shelf after it.
+pub struct Opened {
+    pub number: u64,
+    pub shelf: Shelf,
+}
