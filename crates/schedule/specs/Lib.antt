@@ -1,2 +1,5 @@
+pub mod Appended
+pub mod Decimal
 pub mod Format
+pub mod Lines
 pub mod Log
