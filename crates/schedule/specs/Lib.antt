@@ -1,6 +1,10 @@
+pub mod Appended
+pub mod Decimal
 pub mod Format
 pub mod FormatLaws
+pub mod Lines
 pub mod Little
 pub mod Log
+pub mod Running
 pub mod ShelfLaws
 pub mod WellFormed

@@ -1,8 +1,9 @@
 -- To be believed: document 01, section "The schedule program": the log of a schedule, byte by byte (ASCII). Assumes nothing.
+use mathlib.Core.Path.{_≡_}
 use mathlib.Core.List.{List, [], _∷_, _++_}
-use Prim.Native.Nat.{ℕ, zero, suc, _+_, _/_, _%_}
+use Prim.Native.Nat.{ℕ, zero, suc, _+_, _/_, _%_, _≤_, _<_}
 use lib.Dec.{eqb, ltb}
-use lib.ListN.{replicate}
+use lib.ListN.{length, take, replicate}
 use Rattle.base.specs.Choice.{choose}
 use Rattle.tree.specs.Tree.{wordCount}
 use Rattle.lock.specs.declared.Record.{Record}
@@ -78,3 +79,15 @@ logOfCalls s clients calls =
 -- the log of a file
 unfoldable pub logOf : List ℕ → List ℕ
 logOf bytes = choose (eqb (fileCause bytes) 0) (logOfCalls (settingsIn bytes) (clientsIn bytes) (callsIn bytes)) (refusedLine (fileCause bytes))
+
+-- ---- the log in lent bytes
+
+-- every log fits here: at most 2,730 calls fit a file, and a line has at most 144 bytes
+abbrev pub room : ℕ
+room = 400000
+
+-- of bytes lent with room enough the first `count` are the log afterwards; with less room nothing is done
+pub record Logged (bytes lent after : List ℕ) (count : ℕ) : Type 0 where
+  pub text : room ≤ length lent → take count after ≡ logOf bytes
+  pub inside : count ≤ length lent
+  pub short : length lent < room → (count ≡ 0) × (after ≡ lent)

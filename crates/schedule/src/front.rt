@@ -2,7 +2,7 @@
 // records after them stay as they were. A caller holds the shelf by value.
 ghost use mathlib.Core.Path.{_≡_};
 ghost use Prim.Native.Nat.{_≤_};
-ghost use lib.ListN.{length, take, drop, replicate};
+ghost use lib.ListN.{length, getD, take, drop, replicate};
 ghost use Rattle.lock.specs.Table as Table;
 ghost use Rattle.lock.specs.Types.{idleWith};
 ghost use Rattle.table.specs.Promises.{lent, answer, callOf};
@@ -63,4 +63,16 @@ pub fn open_front(shelf: Shelf, clients: usize, words: &mut [u64], settings: Set
         number: number,
         shelf: Shelf { records: records },
     }
+}
+
+// The record of a client after a call; of a client past the table an idle one.
+pub fn record_of(shelf: Shelf, clients: usize, client: u64) -> Record
+    requires { ⌜ clients ≤ 64 ⌝ }
+    ensures { λ r. ⌜ r ≡ getD (take clients (shelf .records)) client (idleWith 0) ⌝ }
+{
+    if clients as u64 <= client {
+        return Record::idle_with(0);
+    }
+    let at = client as usize;
+    shelf.records[at]
 }

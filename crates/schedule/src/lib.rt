@@ -4,6 +4,10 @@ use table::Answer;
 
 pub mod format;
 pub mod front;
+mod logging;
+pub mod text;
+
+pub use logging::log;
 
 // The records of up to 64 clients, kept by value: a call is made on the first of them, as many as there are clients.
 pub struct Shelf {
@@ -20,4 +24,12 @@ pub struct Acted {
 pub struct Opened {
     pub number: u64,
     pub shelf: Shelf,
+}
+
+// How far a run of a schedule has come: the shelf, how many clients it has, the last clock, and where the log's text ends.
+pub struct Run {
+    pub shelf: Shelf,
+    pub clients: usize,
+    pub clock: u64,
+    pub end: usize,
 }

@@ -1,0 +1,125 @@
+// The log of a schedule: the file is examined, the table opened, each call made, and its line written.
+ghost use mathlib.Core.Path.{_≡_};
+ghost use mathlib.Core.List.{_++_};
+ghost use Prim.Native.Nat.{suc, _+_, _≤_, _<_};
+ghost use lib.ListN.{length, take};
+ghost use Rattle.tree.specs.Tree.{wordCount};
+ghost use Rattle.schedule.specs.Format.{settingsIn, clientsIn, countIn, placeOf, callIn, callsIn};
+ghost use Rattle.schedule.specs.Log.{room, headerLine, lines, logOfCalls, Logged};
+ghost use Rattle.schedule.specs.Appended.{Appended};
+ghost use Rattle.schedule.specs.WellFormed.{WellFormed};
+ghost use Rattle.schedule.specs.Running.{stateOf, Made};
+use crate::format;
+use crate::front;
+use crate::text;
+use crate::Run;
+use lock::Settings;
+
+// Makes call k of the file, and writes its line.
+fn one_call(
+    bytes: &[u8],
+    k: usize,
+    run: Run,
+    words: &mut [u64],
+    settings: Settings,
+    out: &mut [u8],
+) -> Run
+    requires { ⌜ (placeOf (now bytes) (suc k) ≤ length (now bytes)) × ((run .clients ≤ 64) × (run .end + 144 ≤ length (now out))) ⌝ }
+    ensures { λ r. ⌜ Made settings (stateOf run (now (words .entry))) k (callIn (now (bytes .entry)) k) (now (out .entry)) (now (out .exit)) (run .end) (r .end) (stateOf r (now (words .exit))) × ((r .clients ≡ run .clients) × (r .end ≤ run .end + 144)) ⌝ }
+{
+    let call = format::call_in(bytes, k, run.clock);
+    let shelf = run.shelf;
+    let clients = run.clients;
+    let acted = front::act_front(shelf, clients, words, settings, call);
+    let answer = acted.answer;
+    let next = acted.shelf;
+    let after = front::record_of(next, clients, call.client);
+    let end = text::put_line(
+        out,
+        run.end,
+        k as u64,
+        call,
+        answer.number,
+        after.phase,
+        after.left,
+        after.right,
+    );
+    Run {
+        shelf: next,
+        clients: clients,
+        clock: answer.clock,
+        end: end,
+    }
+}
+
+// "After it each call has a line": the header line, and a line for each call.
+fn put_lines(
+    bytes: &[u8],
+    run: Run,
+    words: &mut [u64],
+    settings: Settings,
+    out: &mut [u8],
+) -> usize
+    requires { ⌜ WellFormed (now bytes) × ((run .clients ≤ 64) × (room ≤ length (now out))) ⌝ }
+    ensures { λ r. ⌜ (take r (now (out .exit)) ≡ headerLine settings (run .clients) ++ lines settings (stateOf run (now (words .entry))) 0 (callsIn (now (bytes .entry)))) × (r ≤ length (now (out .entry))) ⌝ }
+{
+    let count = format::count_in(bytes);
+    let mut run = run;
+    let clients = run.clients;
+    run.end = text::put_header(out, 0, settings, clients as u64);
+    let mut k = 0;
+    while k < count {
+        run = one_call(bytes, k, run, words, settings, out);
+        k = k + 1;
+    }
+    run.end
+}
+
+// As many words as the tree has; a tree of fewer than 2 levels is refused by the opening.
+fn word_count(levels: u64) -> usize
+    requires { ⌜ levels ≤ 6 ⌝ }
+    ensures { λ n. ⌜ (n ≡ wordCount levels) × (n ≤ 1365) ⌝ }
+{
+    if levels == 0 {
+        return 0;
+    }
+    tree::last_node(levels) as usize
+}
+
+// Opens the table and makes the calls, or writes by which number the opening is refused.
+fn run_file(bytes: &[u8], out: &mut [u8]) -> usize
+    requires { ⌜ WellFormed (now bytes) × (room ≤ length (now out)) ⌝ }
+    ensures { λ r. ⌜ (take r (now (out .exit)) ≡ logOfCalls (settingsIn (now (bytes .entry))) (clientsIn (now (bytes .entry))) (callsIn (now (bytes .entry)))) × (r ≤ length (now (out .entry))) ⌝ }
+{
+    let settings = format::settings_in(bytes);
+    let clients = format::clients_in(bytes);
+    let count = word_count(settings.levels);
+    let mut words = [0u64; 1365];
+    let tree: &mut [u64] = &mut words[..count];
+    let opened = front::open_front(front::empty_shelf(), clients, tree, settings);
+    if opened.number != 0 {
+        return text::put_refused(out, 0, opened.number);
+    }
+    let shelf = opened.shelf;
+    let run = Run {
+        shelf: shelf,
+        clients: clients,
+        clock: 0,
+        end: 0,
+    };
+    put_lines(bytes, run, tree, settings, out)
+}
+
+// The whole file is examined first. The log is in the first bytes of `out`; the answer is how many they are.
+pub fn log(bytes: &[u8], out: &mut [u8]) -> usize
+    ensures { λ r. ⌜ Logged (now (bytes .entry)) (now (out .entry)) (now (out .exit)) r ⌝ }
+{
+    if out.len() < 400000 {
+        return 0;
+    }
+    let cause = format::file_cause(bytes);
+    if cause != 0 {
+        return text::put_refused(out, 0, cause);
+    }
+    run_file(bytes, out)
+}
