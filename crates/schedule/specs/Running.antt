@@ -3,20 +3,24 @@ use mathlib.Core.Path.{_≡_, refl, sym, ap, subst, _∙_}
 use mathlib.Core.List.{List, [], _∷_, _++_, append-assoc, append-nil}
 use Prim.Native.Nat.{ℕ, zero, suc, _+_, _-_, _*_, _≤_, _<_}
 use native.Mathlib.Omega.{arith}
-use lib.ListN.{length, take, getD}
+use lib.Dec.{eqb}
+use lib.ListN.{length, take, getD, replicate}
 use lib.Seq.{getD-take}
+use Rattle.base.specs.Choice.{on-choose, choose-eq, choose-ne}
 use Rattle.base.specs.Sum.{getD-past}
+use Rattle.tree.specs.Tree.{wordCount}
 use Rattle.lock.specs.declared.Record.{Record}
 use Rattle.lock.specs.declared.Settings.{Settings}
 use Rattle.lock.specs.Types.{idleWith}
-use Rattle.lock.specs.Table.{State, Call, clientOf, recordAt, call}
+use Rattle.lock.specs.Table.{State, Call, clientOf, recordAt, call, openingNumber, opened, opening}
 use Rattle.table.specs.declared.Answer.{Answer}
 use Rattle.table.specs.Promises.{lent, answer}
 use Rattle.schedule.specs.declared.Run.{Run}
-use Rattle.schedule.specs.Format.{countIn, placeOf, callIn, callsFrom, callsIn}
-use Rattle.schedule.specs.Log.{headerLine, line, lines}
+use Rattle.schedule.specs.Format.{settingsIn, clientsIn, countIn, placeOf, callIn, callsFrom, callsIn, fileCause}
+use Rattle.schedule.specs.Log.{headerLine, line, lines, refusedLine, lentFor, logOfCalls, logOf, room, Logged}
 use Rattle.schedule.specs.Appended.{Appended}
 use Rattle.schedule.specs.WellFormed.{WellFormed}
+use Rattle.schedule.specs.ShelfLaws.{take-replicate, empty-front}
 
 -- the table that a run is made on
 abbrev pub stateOf : Run → List ℕ → State
@@ -111,3 +115,69 @@ written-first s bytes st clients old out end a b = record {
 pub few-calls : (bytes : List ℕ) → WellFormed bytes → countIn bytes ≤ 2730
 unfolding placeOf
 few-calls bytes w = omega (arith, w .inside, w .offset, w .short)
+
+-- ---- the log of a file
+
+module _ (s : Settings) (clients : ℕ) (calls : List Call) (asked : State) (e : asked ≡ lentFor s clients) where
+  pub log-refused : (n : ℕ) → n ≡ opening s asked .number → (n ≡ 0 → ⊥) → (old out : List ℕ) (end : ℕ) → Appended old 0 out end (refusedLine n)
+      → take end out ≡ logOfCalls s clients calls
+  unfolding logOfCalls
+  log-refused n f d old out end a =
+      let number : n ≡ opening s (lentFor s clients) .number = f ∙ ap (λ (st : State). opening s st .number) e in
+      a .text ∙ ap refusedLine number ∙ sym (choose-ne (opening s (lentFor s clients) .number) 0 _ _ (λ z. d (number ∙ z)))
+
+  pub log-run : (n : ℕ) → n ≡ opening s asked .number → n ≡ 0 → (st : State) → st ≡ opening s asked .state → (text : List ℕ) → text ≡ headerLine s clients ++ lines s st 0 calls
+      → text ≡ logOfCalls s clients calls
+  unfolding logOfCalls
+  log-run n f z st g text t =
+      t ∙ ap (λ (y : State). headerLine s clients ++ lines s y 0 calls) (g ∙ ap (λ (y : State). opening s y .state) e)
+      ∙ sym (choose-eq (opening s (lentFor s clients) .number) 0 _ _ (sym (ap (λ (st : State). opening s st .number) e) ∙ sym f ∙ z))
+
+-- what is lent to the opening is of the tree's size
+pub lent-for : (s : Settings) (clients : ℕ) (records : List Record) (words : List ℕ) → records ≡ replicate 64 (idleWith 0) → clients ≤ 64 → words ≡ replicate (wordCount (s .levels)) 0
+    → lent (take clients records) words 0 ≡ lentFor s clients
+unfolding lentFor
+lent-for s clients records words e b f =
+    ap (λ (l : List Record). lent l words 0) (ap (take clients) e ∙ empty-front clients b) ∙ ap (λ (w : List ℕ). lent (replicate clients (idleWith 0)) w 0) f
+
+-- as many of the words as the tree has
+pub tree-words : (l : List ℕ) (n : ℕ) → l ≡ replicate 1365 0 → n ≤ 1365 → take n l ≡ replicate n 0
+tree-words l n e b = ap (take n) e ∙ take-replicate n 1365 0 b
+
+length-replicate : (n : ℕ) → length {A = ℕ} (replicate n 0) ≡ n
+length-replicate zero = refl
+length-replicate (suc n) = ap suc (length-replicate n)
+
+pub tree-length : (l : List ℕ) (n : ℕ) → l ≡ replicate 1365 0 → n ≤ 1365 → n ≡ length (take n l)
+tree-length l n e b = sym (ap length (tree-words l n e b) ∙ length-replicate n)
+
+-- the table that an opening leaves, whose clock is 0
+pub opened-state : (s : Settings) (asked : State) (records : List Record) (words : List ℕ) → asked .clock ≡ 0 → records ≡ opening s asked .state .records
+    → words ≡ opening s asked .state .words → lent records words 0 ≡ opening s asked .state
+unfolding opening opened
+opened-state s asked records words z e f =
+    let clock : 0 ≡ opening s asked .state .clock = on-choose (λ (st : State). 0 ≡ st .clock) (eqb (openingNumber s asked) 0) (opened asked) asked (λ _. refl) (λ _. sym z) in
+    λ i. record { words = f i; records = e i; clock = clock i }
+
+-- ---- the three ways through a file
+
+module _ (bytes old : List ℕ) where
+  pub no-room : length old < room → Logged bytes old old 0
+  no-room b = record { text = λ c. absurd (omega arith); inside = omega arith; short = λ _. (refl, refl) }
+
+  pub file-refused : (n : ℕ) → n ≡ fileCause bytes → (n ≡ 0 → ⊥) → room ≤ length old → (out : List ℕ) (end : ℕ) → Appended old 0 out end (refusedLine n) → Logged bytes old out end
+  unfolding logOf
+  file-refused n e d b out end a = record {
+    text = λ _. a .text ∙ ap refusedLine e ∙ sym (choose-ne (fileCause bytes) 0 _ _ (λ z. d (e ∙ z)));
+    inside = a .room;
+    short = λ c. absurd (omega arith);
+  }
+
+  pub file-run : fileCause bytes ≡ 0 → room ≤ length old → (out : List ℕ) (end : ℕ) → take end out ≡ logOfCalls (settingsIn bytes) (clientsIn bytes) (callsIn bytes) → end ≤ length old
+      → Logged bytes old out end
+  unfolding logOf
+  file-run z b out end t i = record {
+    text = λ _. t ∙ sym (choose-eq (fileCause bytes) 0 _ _ z);
+    inside = i;
+    short = λ c. absurd (omega arith);
+  }

@@ -2,17 +2,17 @@
 ghost use mathlib.Core.Path.{_≡_};
 ghost use mathlib.Core.List.{_++_};
 ghost use Prim.Native.Nat.{suc, _+_, _≤_, _<_};
-ghost use lib.ListN.{length, take};
+ghost use lib.ListN.{length, take, replicate};
 ghost use Rattle.tree.specs.Tree.{wordCount};
 ghost use Rattle.schedule.specs.Format.{settingsIn, clientsIn, countIn, placeOf, callIn, callsIn};
 ghost use Rattle.schedule.specs.Log.{room, headerLine, lines, logOfCalls, Logged};
 ghost use Rattle.schedule.specs.Appended.{Appended};
 ghost use Rattle.schedule.specs.WellFormed.{WellFormed};
 ghost use Rattle.schedule.specs.Running.{stateOf, Made};
+use crate::Run;
 use crate::format;
 use crate::front;
 use crate::text;
-use crate::Run;
 use lock::Settings;
 
 // Makes call k of the file, and writes its line.
@@ -53,13 +53,7 @@ fn one_call(
 }
 
 // "After it each call has a line": the header line, and a line for each call.
-fn put_lines(
-    bytes: &[u8],
-    run: Run,
-    words: &mut [u64],
-    settings: Settings,
-    out: &mut [u8],
-) -> usize
+fn put_lines(bytes: &[u8], run: Run, words: &mut [u64], settings: Settings, out: &mut [u8]) -> usize
     requires { ⌜ WellFormed (now bytes) × ((run .clients ≤ 64) × (room ≤ length (now out))) ⌝ }
     ensures { λ r. ⌜ (take r (now (out .exit)) ≡ headerLine settings (run .clients) ++ lines settings (stateOf run (now (words .entry))) 0 (callsIn (now (bytes .entry)))) × (r ≤ length (now (out .entry))) ⌝ }
 {
@@ -86,6 +80,13 @@ fn word_count(levels: u64) -> usize
     tree::last_node(levels) as usize
 }
 
+// The words of the highest tree that a schedule may have, all 0.
+fn zero_words() -> [u64; 1365]
+    ensures { λ r. ⌜ r ≡ replicate 1365 0 ⌝ }
+{
+    [0; 1365]
+}
+
 // Opens the table and makes the calls, or writes by which number the opening is refused.
 fn run_file(bytes: &[u8], out: &mut [u8]) -> usize
     requires { ⌜ WellFormed (now bytes) × (room ≤ length (now out)) ⌝ }
@@ -94,7 +95,7 @@ fn run_file(bytes: &[u8], out: &mut [u8]) -> usize
     let settings = format::settings_in(bytes);
     let clients = format::clients_in(bytes);
     let count = word_count(settings.levels);
-    let mut words = [0u64; 1365];
+    let mut words = zero_words();
     let tree: &mut [u64] = &mut words[..count];
     let opened = front::open_front(front::empty_shelf(), clients, tree, settings);
     if opened.number != 0 {

@@ -1,25 +1,10 @@
 -- `schedule::front::record_of` meets its contract. Assumes nothing.
-use denote.Ref.{now}
-use mathlib.Core.Path.{_≡_, refl, sym, ap, _∙_}
-use Prim.Native.Nat.{ℕ, suc, _+_, _-_, _*_, _≤_, _<_}
+use mathlib.Core.Path.{_∙_}
 use native.Mathlib.Omega.{arith}
-use lib.ListN.{length, take, getD}
-use Rattle.tree.specs.Tree.{last, first, wordCount}
-use Rattle.tree.specs.Climb.{first-mono, first-closed}
-use Rattle.tree.specs.Level.{word-count}
-use Rattle.lock.specs.Types.{idleWith}
-use Rattle.lock.specs.Table.{clientOf}
-use Rattle.table.specs.Promises.{lent, callOf}
-use Rattle.schedule.specs.Format.{callIn, countIn, callsIn}
-use Rattle.schedule.specs.FormatLaws.{call-read}
-use Rattle.schedule.specs.Lines.{client-named}
-use Rattle.schedule.specs.Running.{stateOf, Made, front-record, no-record, made-one, Written, written-more, written-all}
+use Rattle.schedule.specs.Running.{front-record, no-record}
 use borrow.Author.Needs.{needs}
 use Rattle.schedule.proofs.front.record_of.Statement.{statement}
 use Rattle.schedule.proofs.front.record_of.Tie as tie
-use Rattle.schedule.proofs.front.record_of.Reads as reads
-use Rattle.schedule.proofs.front.record_of.Lts as lts
-use Rattle.lock.proofs.Record.idle_with.Reads as idle-with-reads
 
 idle-with-requires : tie.Need-idle-with-requires
 idle-with-requires c κs = search needs

@@ -1,28 +1,19 @@
 -- `schedule::logging::one_call` meets its contract. Assumes nothing.
 use denote.Ref.{now}
-use mathlib.Core.Path.{_≡_, refl, sym, ap, _∙_}
-use Prim.Native.Nat.{ℕ, suc, _+_, _-_, _*_, _≤_, _<_}
+use mathlib.Core.Path.{refl, sym, ap, _∙_}
+use Prim.Native.Nat.{ℕ}
 use native.Mathlib.Omega.{arith}
-use lib.ListN.{length, take, getD}
-use Rattle.tree.specs.Tree.{last, first, wordCount}
-use Rattle.tree.specs.Climb.{first-mono, first-closed}
-use Rattle.tree.specs.Level.{word-count}
+use lib.ListN.{take, getD}
+use Rattle.tree.specs.Tree.{last}
 use Rattle.lock.specs.Types.{idleWith}
 use Rattle.lock.specs.Table.{clientOf}
 use Rattle.table.specs.Promises.{lent, callOf}
-use Rattle.schedule.specs.Format.{callIn, countIn, callsIn}
 use Rattle.schedule.specs.FormatLaws.{call-read}
 use Rattle.schedule.specs.Lines.{client-named}
-use Rattle.schedule.specs.Running.{stateOf, Made, front-record, no-record, made-one, Written, written-more, written-all}
+use Rattle.schedule.specs.Running.{made-one}
 use borrow.Author.Needs.{needs}
 use Rattle.schedule.proofs.logging.one_call.Statement.{statement}
 use Rattle.schedule.proofs.logging.one_call.Tie as tie
-use Rattle.schedule.proofs.logging.one_call.Reads as reads
-use Rattle.schedule.proofs.logging.one_call.Lts as lts
-use Rattle.schedule.proofs.format.call_in.Reads as call-in-reads
-use Rattle.schedule.proofs.front.act_front.Reads as act-front-reads
-use Rattle.schedule.proofs.front.record_of.Reads as record-of-reads
-use Rattle.schedule.proofs.text.put_line.Reads as put-line-reads
 
 call-in-requires : tie.Need-call-in-requires
 call-in-requires c κs = search needs
@@ -48,9 +39,11 @@ returns c =
     let read = c .before .before .before .before .before .before .before .before .before .before .before .before .call-in .ensures in
     let x = c .before .before .before .before .before .before .before .before .before .before .before .before .call-in .result in
     let named = call-read _ _ _ x read in
-    let whose = sym (client-named (x .kind) (x .client) (x .a) (x .b)) ∙ ap clientOf named in
-    (made-one _ _ _ _ _ _ _ _ (callOf (x .kind) (x .client) (x .a) (x .b)) (lent (take (c .before .before .before .before .before .before .before .before .before .before .before .before .before .before .before .before .args .run .clients) (c .before .before .before .before .before .before .before .before .before .before .before .before .before .before .before .before .args .run .shelf .records)) (now (c .before .before .before .before .before .before .before .before .before .before .before .before .before .before .before .before .args .words)) (x .last)) (c .before .before .before .before .before .before .before .before .before .act-front .result .answer) (take (c .before .before .before .before .before .before .before .before .before .before .before .before .before .before .before .before .args .run .clients) (c .before .before .before .before .before .before .before .before .before .act-front .result .shelf .records)) (c .before .before .before .before .before .before .before .before .before .act-front .last .1 .1 .0) (c .before .before .before .before .record-of .result) named (ap (λ (l : ℕ). lent (take (c .before .before .before .before .before .before .before .before .before .before .before .before .before .before .before .before .args .run .clients) (c .before .before .before .before .before .before .before .before .before .before .before .before .before .before .before .before .args .run .shelf .records)) (now (c .before .before .before .before .before .before .before .before .before .before .before .before .before .before .before .before .args .words)) l) (read .clock)) (c .before .before .before .before .before .before .before .before .before .act-front .ensures .0) (c .before .before .before .before .before .before .before .before .before .act-front .ensures .1 .0) (c .before .before .before .before .before .before .before .before .before .act-front .ensures .1 .1 .1 .1)
-    (c .before .before .before .before .record-of .ensures ∙ ap (λ (i : ℕ). getD (take (c .before .before .before .before .before .before .before .before .before .before .before .before .before .before .before .before .args .run .clients) (c .before .before .before .before .before .before .before .before .before .act-front .result .shelf .records)) i (idleWith 0)) whose) (c .before .before .put-line .ensures .0), (refl, c .before .before .put-line .ensures .1))
+    let whose = sym (client-named (x .kind) (x .client) (x .a) (x .b)) ∙ ap clientOf named in (
+      made-one _ _ _ _ _ _ _ _ (callOf (x .kind) (x .client) (x .a) (x .b)) (lent (take (c .before .before .before .before .before .before .before .before .before .before .before .before .before .before .before .before .args .run .clients) (c .before .before .before .before .before .before .before .before .before .before .before .before .before .before .before .before .args .run .shelf .records)) (now (c .before .before .before .before .before .before .before .before .before .before .before .before .before .before .before .before .args .words)) (x .last)) (c .before .before .before .before .before .before .before .before .before .act-front .result .answer) (take (c .before .before .before .before .before .before .before .before .before .before .before .before .before .before .before .before .args .run .clients) (c .before .before .before .before .before .before .before .before .before .act-front .result .shelf .records)) (c .before .before .before .before .before .before .before .before .before .act-front .last .1 .1 .0) (c .before .before .before .before .record-of .result) named (ap (λ (l : ℕ). lent (take (c .before .before .before .before .before .before .before .before .before .before .before .before .before .before .before .before .args .run .clients) (c .before .before .before .before .before .before .before .before .before .before .before .before .before .before .before .before .args .run .shelf .records)) (now (c .before .before .before .before .before .before .before .before .before .before .before .before .before .before .before .before .args .words)) l) (read .clock)) (c .before .before .before .before .before .before .before .before .before .act-front .ensures .0) (c .before .before .before .before .before .before .before .before .before .act-front .ensures .1 .0) (c .before .before .before .before .before .before .before .before .before .act-front .ensures .1 .1 .1 .1)
+          (c .before .before .before .before .record-of .ensures ∙ ap (λ (i : ℕ). getD (take (c .before .before .before .before .before .before .before .before .before .before .before .before .before .before .before .before .args .run .clients) (c .before .before .before .before .before .before .before .before .before .act-front .result .shelf .records)) i (idleWith 0)) whose) (c .before .before .put-line .ensures .0),
+      (refl, c .before .before .put-line .ensures .1),
+    )
 
 pub one-call-spec : {M : Type 1} → statement M
 one-call-spec =

@@ -1,30 +1,16 @@
 -- `schedule::logging::put_lines` meets its contract. Assumes nothing.
-use denote.Ref.{now}
-use mathlib.Core.Path.{_≡_, refl, sym, ap, _∙_}
-use Prim.Native.Nat.{ℕ, suc, _+_, _-_, _*_, _≤_, _<_}
+use mathlib.Core.Path.{_≡_, refl, _∙_}
+use Prim.Native.Nat.{_-_}
 use native.Mathlib.Omega.{arith}
-use lib.ListN.{length, take, getD}
-use Rattle.tree.specs.Tree.{last, first, wordCount}
-use Rattle.tree.specs.Climb.{first-mono, first-closed}
-use Rattle.tree.specs.Level.{word-count}
-use Rattle.lock.specs.Types.{idleWith}
-use Rattle.lock.specs.Table.{clientOf}
-use Rattle.table.specs.Promises.{lent, callOf}
-use Rattle.schedule.specs.Format.{callIn, countIn, callsIn}
-use Rattle.schedule.specs.FormatLaws.{call-read}
-use Rattle.schedule.specs.Lines.{client-named}
-use Rattle.schedule.specs.Running.{stateOf, Made, front-record, no-record, made-one, Written, written-more, written-all, written-first, few-calls}
+use lib.ListN.{length}
+use Rattle.schedule.specs.Format.{callsIn}
+use Rattle.schedule.specs.Running.{stateOf, Written, written-more, written-all, written-first, few-calls}
 use Rattle.schedule.specs.Log.{headerLine, lines}
 use Rattle.schedule.specs.WellFormed.{call-inside}
 use mathlib.Core.List.{_++_}
 use borrow.Author.Needs.{needs}
 use Rattle.schedule.proofs.logging.put_lines.Statement.{statement}
 use Rattle.schedule.proofs.logging.put_lines.Tie as tie
-use Rattle.schedule.proofs.logging.put_lines.Reads as reads
-use Rattle.schedule.proofs.logging.put_lines.Lts as lts
-use Rattle.schedule.proofs.format.count_in.Reads as count-in-reads
-use Rattle.schedule.proofs.logging.one_call.Reads as one-call-reads
-use Rattle.schedule.proofs.text.put_header.Reads as put-header-reads
 
 abbrev Inv-loop : tie.InvT-loop
 Inv-loop bytes words₀ settings out₀ count run₀ clients k₀ words out run k =
@@ -63,9 +49,10 @@ loop-less c =
 
 loop-again : tie.Need-loop-again Inv-loop μ-loop
 loop-again c =
-    let v = c .before .before .before .before .before .before .before .before .loop .inv in
-    (written-more _ _ _ _ _ _ _ (v .0) (omega (arith, c .before .before .before .before .before .before .before .before .before .before .before .before .before .count-in .ensures, c .before .before .before .before .before .before .before .loop-test .taken)) _ _ _ (c .before .before .before .before .one-call .ensures .0) (c .before .before .before .before .one-call .ensures .1 .1),
-    (c .before .before .before .before .one-call .ensures .1 .0 ∙ v .1 .0, (c .before .before .before .before .one-call .ensures .0 .text .same ∙ v .1 .1 .0, search needs)))
+    let v = c .before .before .before .before .before .before .before .before .loop .inv in (
+      written-more _ _ _ _ _ _ _ (v .0) (omega (arith, c .before .before .before .before .before .before .before .before .before .before .before .before .before .count-in .ensures, c .before .before .before .before .before .before .before .loop-test .taken)) _ _ _ (c .before .before .before .before .one-call .ensures .0) (c .before .before .before .before .one-call .ensures .1 .1),
+      (c .before .before .before .before .one-call .ensures .1 .0 ∙ v .1 .0, (c .before .before .before .before .one-call .ensures .0 .text .same ∙ v .1 .1 .0, search needs)),
+    )
 
 same-length : tie.Need-same-length Inv-loop μ-loop
 same-length c =

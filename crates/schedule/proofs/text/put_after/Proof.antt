@@ -27,12 +27,13 @@ same-length c = search needs
 
 returns : tie.Need-returns
 returns c = (
-    joined (c .before .before .before .before .before .before .before .before .before .before .before .before .before .before .before .before .before .before .before .put-spaced .ensures .0)
-    (joined (c .before .before .before .before .before .before .before .before .before .before .before .before .before .before .before .put-spaced2 .ensures .0)
-    (joined (c .before .before .before .before .before .before .before .before .before .before .before .put-spaced3 .ensures .0)
-    (joined (c .before .before .before .before .before .before .before .put-spaced4 .ensures .0)
-    (c .before .before .put-bytes .ensures)))),
-    search needs)
+  joined (c .before .before .before .before .before .before .before .before .before .before .before .before .before .before .before .before .before .before .before .put-spaced .ensures .0)
+      (joined (c .before .before .before .before .before .before .before .before .before .before .before .before .before .before .before .put-spaced2 .ensures .0)
+      (joined (c .before .before .before .before .before .before .before .before .before .before .before .put-spaced3 .ensures .0)
+      (joined (c .before .before .before .before .before .before .before .put-spaced4 .ensures .0)
+      (c .before .before .put-bytes .ensures)))),
+  search needs,
+)
 
 pub put-after-spec : {M : Type 1} → statement M
 put-after-spec = tie.close (tie.spec put-spaced-requires put-spaced-requires-2 put-spaced-requires-3 put-spaced-requires-4 slice-aggregate-put-bytes put-bytes-requires same-length returns)

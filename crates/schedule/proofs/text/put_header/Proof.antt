@@ -41,12 +41,13 @@ same-length c = search needs
 returns : tie.Need-returns
 unfolding headerLine
 returns c = (
-    joined (c .before .before .before .before .before .before .before .before .before .before .before .before .before .before .before .before .before .before .before .before .before .before .put-named .ensures .0)
-    (joined (c .before .before .before .before .before .before .before .before .before .before .before .before .before .before .before .before .before .put-named2 .ensures .0)
-    (joined (c .before .before .before .before .before .before .before .before .before .before .before .before .put-named3 .ensures .0)
-    (joined (c .before .before .before .before .before .before .before .put-named4 .ensures .0)
-    (c .before .before .put-bytes .ensures)))),
-    search needs)
+  joined (c .before .before .before .before .before .before .before .before .before .before .before .before .before .before .before .before .before .before .before .before .before .before .put-named .ensures .0)
+      (joined (c .before .before .before .before .before .before .before .before .before .before .before .before .before .before .before .before .before .put-named2 .ensures .0)
+      (joined (c .before .before .before .before .before .before .before .before .before .before .before .before .put-named3 .ensures .0)
+      (joined (c .before .before .before .before .before .before .before .put-named4 .ensures .0)
+      (c .before .before .put-bytes .ensures)))),
+  search needs,
+)
 
 pub put-header-spec : {M : Type 1} → statement M
 put-header-spec = tie.close (tie.spec slice-aggregate-put-named put-named-requires slice-aggregate-put-named-2 put-named-requires-2 slice-aggregate-put-named-3 put-named-requires-3 slice-aggregate-put-named-4 put-named-requires-4 slice-aggregate-put-bytes put-bytes-requires same-length returns)

@@ -29,15 +29,16 @@ same-length c = search needs
 
 returns : tie.Need-returns
 returns c =
-    let s = c .before .before .before .before .before .before .before .before .before .before .before .before .before .before .before .before .before .before .before .before .before .before in
-    ((λ after p q t.
-    restated (line-of _ _ _ _ _ _ _ after (client-named (s .args .call .kind) (s .args .call .client) (s .args .call .a) (s .args .call .b)) p q t)
-    (joined (c .before .before .before .before .before .before .before .before .before .before .before .before .before .before .before .before .before .before .before .put-decimal .ensures .0)
-    (joined (c .before .before .before .before .before .before .before .before .before .before .before .before .before .before .put-bytes .ensures)
-    (joined (c .before .before .before .before .before .before .before .before .before .before .put-kind .ensures .0)
-    (joined (c .before .before .before .before .before .before .put-spaced .ensures .0)
-    (c .before .before .put-after .ensures .0)))))),
-    omega (arith, c .before .before .before .before .before .before .before .before .before .before .before .before .before .before .before .before .before .before .before .put-decimal .ensures .1, c .before .before .before .before .before .before .before .before .before .before .before .before .before .before .put-bytes .ensures .ends, c .before .before .before .before .before .before .before .before .before .before .put-kind .ensures .1, c .before .before .before .before .before .before .put-spaced .ensures .1, c .before .before .put-after .ensures .1))
+    let s = c .before .before .before .before .before .before .before .before .before .before .before .before .before .before .before .before .before .before .before .before .before .before in (
+      (λ after p q t.
+          restated (line-of _ _ _ _ _ _ _ after (client-named (s .args .call .kind) (s .args .call .client) (s .args .call .a) (s .args .call .b)) p q t)
+          (joined (c .before .before .before .before .before .before .before .before .before .before .before .before .before .before .before .before .before .before .before .put-decimal .ensures .0)
+          (joined (c .before .before .before .before .before .before .before .before .before .before .before .before .before .before .put-bytes .ensures)
+          (joined (c .before .before .before .before .before .before .before .before .before .before .put-kind .ensures .0)
+          (joined (c .before .before .before .before .before .before .put-spaced .ensures .0)
+          (c .before .before .put-after .ensures .0)))))),
+      omega (arith, c .before .before .before .before .before .before .before .before .before .before .before .before .before .before .before .before .before .before .before .put-decimal .ensures .1, c .before .before .before .before .before .before .before .before .before .before .before .before .before .before .put-bytes .ensures .ends, c .before .before .before .before .before .before .before .before .before .before .put-kind .ensures .1, c .before .before .before .before .before .before .put-spaced .ensures .1, c .before .before .put-after .ensures .1),
+    )
 
 pub put-line-spec : {M : Type 1} → statement M
 put-line-spec = tie.close (tie.spec put-decimal-requires slice-aggregate-put-bytes put-bytes-requires put-kind-requires put-spaced-requires put-after-requires same-length returns)
