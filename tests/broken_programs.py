@@ -47,6 +47,14 @@ def calls_wrapped(bits):
     return lambda data, header: (header.offset + CALL.size * header.count) % 2 ** bits > len(data)
 
 
+def at_the_end_or_past(data, header):
+    return header.offset + CALL.size * header.count >= len(data)
+
+
+def past_the_end_if_any(data, header):
+    return header.count > 0 and header.offset + CALL.size * header.count > len(data)
+
+
 def as_far_as_there_are(data, header):
     """As many calls as the file has, at most the count, so that a wrapped sum is not a fault of the reading."""
     there = max(len(data) - header.offset, 0) // CALL.size
@@ -64,7 +72,7 @@ def to_the_end(data, header):
 
 
 def zero_field_untested(place):
-    """One of the zero fields is not tested: 0 and 1 of every kind, then b of a step, a and b of the others."""
+    """One of the zero fields is not tested: 0 and 1 are those of every kind, 2 and 3 those of the kind."""
     def tested(entry):
         return tuple(value for at, value in enumerate(zero_fields(entry)) if at != place)
     return tested
@@ -116,8 +124,8 @@ PROGRAMS = {
     "65,537 bytes at most": in_place("LONGEST", 65537),
     "an offset of 15 taken": in_place("offset_below_16", lambda header: header.offset < 15),
     "an offset of 16 refused": in_place("offset_below_16", lambda header: header.offset <= 16),
-    "an end at the file's length refused": in_place("calls_past_the_end", lambda d, h: h.offset + CALL.size * h.count >= len(d)),
-    "an offset past the end taken without calls": in_place("calls_past_the_end", lambda d, h: h.count and h.offset + CALL.size * h.count > len(d)),
+    "an end at the file's length refused": in_place("calls_past_the_end", at_the_end_or_past),
+    "an offset past the end taken without calls": in_place("calls_past_the_end", past_the_end_if_any),
     "the end in 16 bits": lambda: wrapped_sum(16),
     "the end in 32 bits": lambda: wrapped_sum(32),
     "calls read from byte 16": in_place("entries_of", from_16),

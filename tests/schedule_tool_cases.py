@@ -1,5 +1,6 @@
 """Cases for `tools/schedule`: text and file say the same calls, and each error names its line or its byte."""
 
+import re
 import subprocess
 from concurrent.futures import ThreadPoolExecutor
 from importlib.machinery import SourceFileLoader
@@ -14,11 +15,16 @@ from random_schedules import drawn
 from schedule_files import WHOLE_CASE, at_call, by_group, changed, with_header
 
 TOOL = ROOT / "tools" / "schedule"
+GUIDE = ROOT / "docs" / "SCHEDULES.md"
 NAMES["text of a schedule"] = ("seed",), ("packed as the model does", "unpacked and packed again", "lines")
+NAMES["line of the guide"] = ("line",), ("as in the whole case",)
 NAMES["unpacking"] = ("place in the list of files", "bytes"), ("refused",)
 
 HEAD = "tree 2 m 1 wait 5 clients 2\n"
 SETTINGS = "line 1: the first line wants the settings, as in `tree 2 m 1 wait 5 clients 2`; got "
+CALL = "a call is one of request, step, release, cancel; got "
+STEP = "step wants a client and a clock, as in `step 0 12`; got "
+U64 = " must be a number from 0 to 18446744073709551615; got "
 REQUEST = "request wants a client, a left edge and a right edge, as in `request 0 10 20`; got "
 
 # A text, and what is said of it.
@@ -30,22 +36,24 @@ TEXT_ERRORS = {
     "settings in another order": ("m 1 tree 2 wait 5 clients 2", SETTINGS + "`m 1 tree 2 wait 5 clients 2`"),
     "a tree of 65536": ("tree 65536 m 1 wait 5 clients 2", "line 1: tree must be a number from 0 to 65535; got `65536`"),
     "an m of x": ("tree 2 m x wait 5 clients 2", "line 1: m must be a number from 0 to 65535; got `x`"),
-    "a wait of 2^32": ("\ntree 2 m 1 wait 4294967296 clients 2", "line 2: wait must be a number from 0 to 4294967295; got `4294967296`"),
+    "a wait of 2^32": ("\ntree 2 m 1 wait 4294967296 clients 2",
+                       "line 2: wait must be a number from 0 to 4294967295; got `4294967296`"),
     "clients of -1": ("tree 2 m 1 wait 5 clients -1", "line 1: clients must be a number from 0 to 65535; got `-1`"),
-    "a step without a clock": (HEAD + "\n" * 5 + "step 0\n", "line 7: step wants a client and a clock, as in `step 0 12`; got `step 0`"),
-    "a step with two clocks": (HEAD + "step 0 1 2", "line 2: step wants a client and a clock, as in `step 0 12`; got `step 0 1 2`"),
+    "a step without a clock": (HEAD + "\n" * 5 + "step 0\n", "line 7: " + STEP + "`step 0`"),
+    "a step with two clocks": (HEAD + "step 0 1 2", "line 2: " + STEP + "`step 0 1 2`"),
     "a request with one edge": (HEAD + "request 0 10 # 20", "line 2: " + REQUEST + "`request 0 10`"),
     "a release of nobody": (HEAD + "release", "line 2: release wants a client, as in `release 0`; got `release`"),
     "a cancel of two": (HEAD + "# who\ncancel 0 1", "line 3: cancel wants a client, as in `cancel 0`; got `cancel 0 1`"),
-    "an unknown kind": (HEAD + "stop 0", "line 2: a call is one of request, step, release, cancel; got `stop 0`"),
-    "a capital letter": (HEAD + "Step 0 1", "line 2: a call is one of request, step, release, cancel; got `Step 0 1`"),
-    "settings a second time": (HEAD + HEAD, "line 2: a call is one of request, step, release, cancel; got `" + HEAD[:-1] + "`"),
+    "an unknown kind": (HEAD + "stop 0", "line 2: " + CALL + "`stop 0`"),
+    "a capital letter": (HEAD + "Step 0 1", "line 2: " + CALL + "`Step 0 1`"),
+    "settings a second time": (HEAD + HEAD, "line 2: " + CALL + "`" + HEAD[:-1] + "`"),
     "client 65536": (HEAD + "release 65536", "line 2: client must be a number from 0 to 65535; got `65536`"),
-    "clock 2^64": (HEAD + f"step 0 {2 ** 64}", f"line 2: clock must be a number from 0 to {2 ** 64 - 1}; got `{2 ** 64}`"),
-    "a left edge of 1,000": (HEAD + "request 0 1,000 2", f"line 2: left edge must be a number from 0 to {2 ** 64 - 1}; got `1,000`"),
-    "a right edge of 5000 digits": (HEAD + "request 0 1 " + "9" * 5000, f"line 2: right edge must be a number from 0 to {2 ** 64 - 1}; got `" + "9" * 5000 + "`"),
-    "digits of another script": (HEAD + "step 0 \u0663", f"line 2: clock must be a number from 0 to {2 ** 64 - 1}; got `\u0663`"),
-    "2731 calls": (HEAD + "# many\n" + "cancel 0\n" * 2731, "line 2733: a schedule has at most 2730 calls, since its file has at most 65536 bytes"),
+    "clock 2^64": (HEAD + f"step 0 {2 ** 64}", "line 2: clock" + U64 + f"`{2 ** 64}`"),
+    "a left edge of 1,000": (HEAD + "request 0 1,000 2", "line 2: left edge" + U64 + "`1,000`"),
+    "a right edge of 5000 digits": (HEAD + "request 0 1 " + "9" * 5000, "line 2: right edge" + U64 + "`" + "9" * 5000 + "`"),
+    "digits of another script": (HEAD + "step 0 \u0663", "line 2: clock" + U64 + "`\u0663`"),
+    "2731 calls": (HEAD + "# many\n" + "cancel 0\n" * 2731,
+                   "line 2733: a schedule has at most 2730 calls, since its file has at most 65536 bytes"),
 }
 
 # A file, and what is said of it.
@@ -54,13 +62,17 @@ FILE_ERRORS = {
     "15 bytes": (WHOLE_CASE[:15], "byte 15: the file ends within its header of 16 bytes"),
     "65537 bytes": (bytes(65537), "byte 65536: a file has at most 65536 bytes; this one goes on"),
     "offset 15": (with_header(offset=15), "byte 12: the offset of the first call must be at least 16; got 15"),
-    "a byte cut off": (WHOLE_CASE[:-1], "byte 10: 14 calls from byte 16 would end at 16 + 24 * 14 = 352; the file has 351 bytes"),
-    "kind 4": (changed(WHOLE_CASE, at_call(3), 4), "byte 88: call 3 has the unknown kind 4; known are 0 request, 1 step, 2 release, 3 cancel"),
+    "a byte cut off": (WHOLE_CASE[:-1],
+                       "byte 10: 14 calls from byte 16 would end at 16 + 24 * 14 = 352; the file has 351 bytes"),
+    "kind 4": (changed(WHOLE_CASE, at_call(3), 4),
+               "byte 88: call 3 has the unknown kind 4; known are 0 request, 1 step, 2 release, 3 cancel"),
     "byte 1 filled": (changed(WHOLE_CASE, at_call(0, 1), 9), "byte 17: call 0, a request, has 9 in a field that must be 0"),
     "byte 5 filled": (changed(WHOLE_CASE, at_call(1, 5), 1), "byte 44: call 1, a request, has 256 in a field that must be 0"),
     "b of a step": (changed(WHOLE_CASE, at_call(2, 16), 7), "byte 80: call 2, a step, has 7 in a field that must be 0"),
-    "a of a release": (changed(WHOLE_CASE, at_call(10, 8), 7), "byte 264: call 10, a release, has 7 in a field that must be 0"),
-    "b of a cancel": (changed(changed(WHOLE_CASE, at_call(10), 3), at_call(10, 16), 7), "byte 272: call 10, a cancel, has 7 in a field that must be 0"),
+    "a of a release": (changed(WHOLE_CASE, at_call(10, 8), 7),
+                       "byte 264: call 10, a release, has 7 in a field that must be 0"),
+    "b of a cancel": (changed(changed(WHOLE_CASE, at_call(10), 3), at_call(10, 16), 7),
+                      "byte 272: call 10, a cancel, has 7 in a field that must be 0"),
 }
 
 
@@ -149,6 +161,14 @@ def examples():
     yield told("a text that begins with a byte order mark", "pack", b"\xef\xbb\xbf" + HEAD.encode(), (0, with_header(), ""))
 
 
+def guide():
+    """The whole case in docs/SCHEDULES.md has the calls of the file and the lines of its log."""
+    rows = re.findall(r"^\| (?:`(.*?)` )?\| `(.*?)` \| ", GUIDE.read_text(), re.MULTILINE)
+    calls, lines = list(text_of(schedule.decode(WHOLE_CASE)))[1:], schedule.log(WHOLE_CASE).splitlines()
+    for place, (call, line) in enumerate(zip(["", *calls], lines, strict=True)):
+        yield case("line of the guide", [place], 1), int(len(rows) == len(lines) and rows[place] == (call, line))
+
+
 def logged(path, file):
     return schedule.log(file) == path.with_suffix(".log").read_text()
 
@@ -158,4 +178,5 @@ SUITES = {
     "tools/schedule, unpacks what rangelog does not refuse by 10": unpacked_files,
     "tools/schedule, each error names its line or byte": errors,
     "tools/schedule, the examples": examples,
+    "docs/SCHEDULES.md, the whole case": guide,
 }
