@@ -37,9 +37,9 @@ def program():
     return [COMPILED]
 
 
-def run(data):
-    """Runs the program with the file on standard input."""
-    ran = subprocess.run(program(), input=data, stdout=subprocess.PIPE, cwd=ROOT, timeout=SECONDS)
+def run(data=None, stdin=None):
+    """Runs the program with a file on standard input: its bytes, or an open file."""
+    ran = subprocess.run(program(), input=data, stdin=stdin, stdout=subprocess.PIPE, cwd=ROOT, timeout=SECONDS)
     return Ran(ran.stdout, max(-ran.returncode, 0))
 
 

@@ -8,13 +8,14 @@ from functools import lru_cache
 from time import sleep
 
 import rangelog
-import schedule_files
 import schedule_tool_cases
 from broken_programs import NAMES_OF_BROKEN, broken
 from compare import NAMES, Case, case
+from library import SECONDS
 from model import schedule
+from model.schedule import HEADER
 from random_schedules import DRAWN, drawn
-from schedule_files import WHOLE_CASE, at_call, changed
+from schedule_files import WHOLE_CASE, at_call, by_group, changed
 
 SEEDS = 600
 FEW_SEEDS = 40
@@ -67,27 +68,38 @@ def clock_6_in_call_7():
         yield rangelog.compared(f"clock 6 in call 7, {name}", data, before, ran._replace(log=until_7))
 
 
+def first_line(file):
+    """The line that a file's log begins with, from what the test says of it or from the numbers of its header."""
+    if file.number != 0:
+        return f"refused {file.number}\n".encode()
+    return "tree {} m {} wait {} clients {}\n".format(*HEADER.unpack_from(file.data)).encode()
+
+
 def group_of_files(files):
-    """Each file of a group. Where the test says that it is refused, the model is held to the number too."""
+    """Each file of a group: the model's log begins as it must and is one line if the file is refused, and the program's
+    log is the model's."""
     for name, file in files.items():
         expected = model_log(file.data)
-        if file.number != 0:
-            written = f"refused {file.number}\n".encode()
-            yield rangelog.compared(f"model, {name}", file.data, written, rangelog.Ran(expected))
-        elif expected.startswith(b"refused"):
-            raise SystemExit(f"the file '{name}' is said to have a log of calls, and the model refuses it")
+        begins = expected if file.number != 0 else expected.splitlines(keepends=True)[0]
+        yield rangelog.compared(f"model, {name}", file.data, first_line(file), rangelog.Ran(begins))
         yield rangelog.compared(name, file.data, expected, rangelog.run(file.data))
 
 
 def in_pieces(data, size):
     """Runs the program with a file that comes in pieces of so many bytes, with a pause after each."""
     with subprocess.Popen(rangelog.program(), stdin=subprocess.PIPE, stdout=subprocess.PIPE, cwd=rangelog.ROOT) as process:
-        for at in range(0, len(data), size):
-            process.stdin.write(data[at:at + size])
-            process.stdin.flush()
-            sleep(0.002)
-        process.stdin.close()
-        log = process.stdout.read()
+        try:
+            for at in range(0, len(data), size):
+                process.stdin.write(data[at:at + size])
+                process.stdin.flush()
+                sleep(0.002)
+        except BrokenPipeError:
+            pass
+        try:
+            log, _ = process.communicate(timeout=SECONDS)
+        except subprocess.TimeoutExpired:
+            process.kill()
+            raise
     return rangelog.Ran(log, max(-process.returncode, 0))
 
 
@@ -98,8 +110,7 @@ def files_in_pieces():
         yield rangelog.compared(f"{len(data)} bytes in pieces of {size}", data, model_log(data), in_pieces(data, size))
     for path in sorted((rangelog.ROOT / "schedules").glob("*.bin")):
         with path.open("rb") as file:
-            ran = subprocess.run(rangelog.program(), stdin=file, stdout=subprocess.PIPE, cwd=rangelog.ROOT)
-        ran = rangelog.Ran(ran.stdout, max(-ran.returncode, 0))
+            ran = rangelog.run(stdin=file)
         yield rangelog.compared(path.name, path.read_bytes(), path.with_suffix(".log").read_bytes(), ran)
 
 
@@ -148,7 +159,7 @@ def what_occurs():
 
 def all_files():
     """The files that a broken program must be found out by: the named ones, then the first random ones."""
-    for files in schedule_files.by_group().values():
+    for files in by_group().values():
         yield from (file.data for file in files.values())
     yield from (drawn("contended", seed) for seed in range(FEW_SEEDS))
 
@@ -173,7 +184,7 @@ def broken_programs():
 SUITES = {
     "rangelog, the whole case": whole_case,
     "rangelog, the whole case with clock 6 in call 7": clock_6_in_call_7,
-    **{f"rangelog, {group}": lambda files=files: group_of_files(files) for group, files in schedule_files.by_group().items()},
+    **{f"rangelog, {group}": lambda files=files: group_of_files(files) for group, files in by_group().items()},
     "rangelog, files in pieces and on the disk": files_in_pieces,
     **{f"rangelog, random schedules, {kind}": lambda kind=kind: random_schedules(kind) for kind in DRAWN},
     "rangelog, every refusal, number and phase occurs in random schedules": what_occurs,

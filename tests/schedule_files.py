@@ -63,7 +63,7 @@ def lengths():
     yield "a header cut off from its calls", File(WHOLE_CASE[:16], 10)
     yield "the last byte cut off", File(WHOLE_CASE[:-1], 10)
     yield "a byte after the last call", File(WHOLE_CASE + b"\xff")
-    for length, number in ((LONGEST - 1, 0), (LONGEST, 0), (LONGEST + 1, 10), (LONGEST + len(WHOLE_CASE), 10), (2 ** 20, 10)):
+    for length, number in ((LONGEST - 1, 0), (LONGEST, 0), (LONGEST + 1, 10), (2 * LONGEST, 10), (2 ** 20, 10)):
         yield f"{length} bytes, most after the last call", File(WHOLE_CASE.ljust(length, b"\xff"), number)
     steps = [Call("step", place % 2, place) for place in range(2731)]
     yield "2730 calls, 65536 bytes", File(of_calls(*steps[:2730]))
@@ -146,9 +146,9 @@ def calls():
                  (TOP, TOP), (TOP, 0), (TOP - 1, TOP), (2 ** 32, 2 ** 32 + 1), (2 ** 32, 10), (0, 2 ** 32 + n)]
         pairs = [(Call("request", 0, l, r), Call("cancel", 0)) for l, r in edges]
         yield f"edges at H {levels}", File(of_calls(*(call for pair in pairs for call in pair), levels=levels))
-    wrong = [Call("release", 0), Call("cancel", 0), Call("request", 0, 1, 2), Call("request", 0, 9, 9), Call("request", 0, 1, 2)]
-    steps = [Call("step", 0, clock) for clock in (1, 2, 3)]
-    yield "each kind at a wrong time", File(of_calls(*wrong, *steps, *wrong[1:], wrong[0], *wrong, *steps, *wrong))
+    wrong = [Call("release", 0), Call("cancel", 0), Call("request", 0, 9, 9), Call("request", 0, 1, 2), Call("request", 0, 1, 2)]
+    steps = [Call("step", 0, clock) for clock in (1, 2, 3, 4, 5)]
+    yield "each kind at a wrong time", File(of_calls(*wrong, *steps[:3], *wrong[1:], wrong[0], *wrong, *steps[3:], *wrong))
     yield "requests of 64 clients", File(of_calls(*(Call("request", c, c, c + 1) for c in range(66)), levels=6, clients=64))
 
 
