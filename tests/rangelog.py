@@ -9,6 +9,7 @@ import shlex
 import subprocess
 from functools import lru_cache
 from itertools import zip_longest
+from shutil import rmtree
 from typing import NamedTuple
 
 from compare import NAMES, Case
@@ -16,6 +17,7 @@ from library import ROOT, SECONDS, command, newest_source
 
 COMPILED = ROOT / "target" / "bin" / "rangelog"
 UNLIKE = ROOT / "target" / "tests" / "unlike"
+MOST_KEPT = 60
 
 LOG = ("lines", "bytes", "first line unlike", "ended by signal")
 
@@ -29,7 +31,9 @@ class Ran(NamedTuple):
 
 @lru_cache(maxsize=None)
 def program():
-    """The command. Rattle proves and compiles the program, unless it is newer than all sources."""
+    """The command. Rattle proves and compiles the program, unless it is newer than all sources. What an earlier test of it
+    kept is removed."""
+    rmtree(UNLIKE, ignore_errors=True)
     if "RANGELOG" in os.environ:
         return shlex.split(os.environ["RANGELOG"])
     if not COMPILED.exists() or COMPILED.stat().st_mtime < newest_source():
@@ -56,8 +60,11 @@ def numbers(expected, ran):
 
 
 def keep(name, data, expected, ran):
-    """Leaves the file of a run whose log is not the expected one, and both logs, to be looked at."""
+    """Leaves the file of a run whose log is not the expected one, and both logs, to be looked at; of many such runs the
+    first."""
     UNLIKE.mkdir(parents=True, exist_ok=True)
+    if len(list(UNLIKE.iterdir())) >= MOST_KEPT:
+        return
     plain = "".join(letter if letter.isalnum() else "-" for letter in name)
     for ending, content in {"bin": data, "expected": expected, "log": ran.log}.items():
         (UNLIKE / f"{plain}.{ending}").write_bytes(content)
