@@ -135,7 +135,8 @@ def calls():
     yield "the whole case with clock 6 in call 7", File(late)
     for client in (2, 3, 64, 255, 256, 65535):
         past = [Call("request", client, 0, 64), Call("step", client, 0), Call("release", client), Call("cancel", client)]
-        yield f"client {client} of two", File(of_calls(Call("request", 0, 3, 9), *past, Call("step", 0, 1)))
+        busy = Call("request", 0, 3, 9), Call("request", 1, 0, 256)
+        yield f"client {client} of two", File(of_calls(*busy, *past, Call("step", 0, 1)))
     clocks = [Call("step", 0, clock) for clock in (5, 5, 4, 6, 0, 2 ** 32, 2 ** 32 - 1, 2 ** 63, TOP, TOP - 1, TOP, 0)]
     yield "clocks that go back", File(of_calls(*clocks))
     yield "clocks that go back with a request", File(of_calls(Call("request", 0, 10, 20), Call("request", 1, 0, 256), *clocks))
