@@ -1,0 +1,160 @@
+"""Files for `rangelog` by name: document 01's whole case written out, and each edge of the format. Where a file is refused
+before any call is made, its number stands beside it."""
+
+from typing import NamedTuple
+
+from model.history import KINDS, Call
+from model.record import Settings
+from model.schedule import CALL, HEADER, LONGEST, Schedule, encode
+
+# Header, then a call to a line: kind, 0, client, 0, a, b.
+WHOLE_CASE = bytes.fromhex("""
+    0200 0100 05000000 0200 0e00 10000000
+    00 00 0000 00000000 0a00000000000000 1400000000000000
+    00 00 0100 00000000 0000000000000000 0001000000000000
+    01 00 0000 00000000 0100000000000000 0000000000000000
+    01 00 0100 00000000 0200000000000000 0000000000000000
+    01 00 0100 00000000 0200000000000000 0000000000000000
+    01 00 0100 00000000 0300000000000000 0000000000000000
+    01 00 0000 00000000 0400000000000000 0000000000000000
+    01 00 0000 00000000 0500000000000000 0000000000000000
+    01 00 0100 00000000 0800000000000000 0000000000000000
+    01 00 0100 00000000 0800000000000000 0000000000000000
+    02 00 0000 00000000 0000000000000000 0000000000000000
+    01 00 0000 00000000 0900000000000000 0000000000000000
+    01 00 0000 00000000 0900000000000000 0000000000000000
+    01 00 0100 00000000 0a00000000000000 0000000000000000
+""")
+CALLS = WHOLE_CASE[HEADER.size:]
+TOP = 2 ** 64 - 1
+
+
+class File(NamedTuple):
+    """The bytes of a file, and the number that refuses it before any call is made (0: it has a log of calls)."""
+
+    data: bytes
+    number: int = 0
+
+
+def changed(data, at, *values):
+    """The file with these bytes from byte `at` on."""
+    return data[:at] + bytes(values) + data[at + len(values):]
+
+
+def at_call(place, at=0):
+    """Where byte `at` of a call of the whole case is."""
+    return HEADER.size + CALL.size * place + at
+
+
+def with_header(calls=b"", levels=2, distance=1, wait=5, clients=2, count=0, offset=HEADER.size):
+    return HEADER.pack(levels, distance, wait, clients, count, offset) + calls
+
+
+def of_calls(*calls, levels=2, distance=1, wait=5, clients=2):
+    return encode(Schedule(Settings(levels, distance, wait), clients, calls))
+
+
+def lengths():
+    """At most 65,536 bytes: what is after the last call is ignored up to there, and 2,730 calls fit."""
+    yield "empty input", File(b"", 10)
+    for length in (1, 15):
+        yield f"{length} bytes", File(WHOLE_CASE[:length], 10)
+    yield "a header and no calls", File(with_header())
+    yield "a header cut off from its calls", File(WHOLE_CASE[:16], 10)
+    yield "the last byte cut off", File(WHOLE_CASE[:-1], 10)
+    yield "a byte after the last call", File(WHOLE_CASE + b"\xff")
+    for length, number in ((LONGEST - 1, 0), (LONGEST, 0), (LONGEST + 1, 10), (2 * LONGEST, 10), (2 ** 20, 10)):
+        yield f"{length} bytes, most after the last call", File(WHOLE_CASE.ljust(length, b"\xff"), number)
+    steps = [Call("step", place % 2, place) for place in range(2731)]
+    yield "2730 calls, 65536 bytes", File(of_calls(*steps[:2730]))
+    yield "2731 calls, 65560 bytes", File(of_calls(*steps), 10)
+
+
+def offsets():
+    """An offset below 16, or with the calls over the file's length, also where a sum of 16 or 32 bits would wrap."""
+    for offset in (0, 1, 15):
+        yield f"offset {offset}", File(with_header(CALLS, count=14, offset=offset), 10)
+        yield f"offset {offset} and no calls", File(with_header(CALLS, offset=offset), 10)
+    for between in (1, 8, 24, 1000):
+        data = with_header(b"\xff" * between + CALLS, count=14, offset=16 + between)
+        yield f"offset {16 + between} with filled bytes before it", File(data)
+    yield "offset at the second call", File(with_header(CALLS, count=13, offset=40))
+    length = len(WHOLE_CASE)
+    for offset, number in ((length, 0), (length + 1, 10), (65536, 10), (2 ** 32 - 1, 10)):
+        yield f"offset {offset} and no calls in {length} bytes", File(with_header(CALLS, offset=offset), number)
+    for offset in (17, length, 2 ** 32 - 24 * 14, 2 ** 32 - 24 * 14 + 16, 65536 + 16):
+        yield f"offset {offset} and 14 calls in {length} bytes", File(with_header(CALLS, count=14, offset=offset), 10)
+    for count, number in ((13, 0), (15, 10), (2731, 10), (65535, 10)):
+        yield f"{count} counted of 14 calls", File(with_header(CALLS, count=count), number)
+
+
+def kinds_and_zero_fields():
+    """An unknown kind, also where all its fields are zero, or any byte of a zero field filled, in the first or the last
+    call of its kind."""
+    places = {"request": (0, 1), "step": (2, 13), "release": (10,), "cancel": (10,)}
+    zeros = {"request": [1, 4, 5, 6, 7], "step": [1, *range(4, 8), *range(16, 24)]}
+    for kind in KINDS:
+        for place in places[kind]:
+            data = changed(WHOLE_CASE, at_call(place), KINDS.index(kind))
+            for at in zeros.get(kind, [1, *range(4, 24)]):
+                for value in (1, 128):
+                    name = f"{value} in byte {at} of call {place}, a {kind}"
+                    yield name, File(changed(data, at_call(place, at), value), 10)
+    for kind in (4, 5, 128, 255):
+        for place in (0, 7, 10, 13):
+            yield f"kind {kind} in call {place}", File(changed(WHOLE_CASE, at_call(place), kind), 10)
+    yield "kind 4 after the last counted call", File(changed(with_header(CALLS, count=13), at_call(13), 4))
+
+
+def openings():
+    """Refused openings, H over 6, clients over 64, and which of 10, 11, 1 and 3 is tested first."""
+    refused = {
+        "m 0": (1, dict(distance=0)), "m 5": (1, dict(distance=5)), "T 0": (1, dict(wait=0)), "H 0": (1, dict(levels=0)),
+        "H 1": (1, dict(levels=1)), "m 65535": (1, dict(distance=65535)), "no clients": (3, dict(clients=0)),
+        "m 0 and no clients": (1, dict(distance=0, clients=0)), "H 7": (11, dict(levels=7)), "H 12": (11, dict(levels=12)),
+        "H 13": (11, dict(levels=13)), "H 65535": (11, dict(levels=65535)), "65 clients": (11, dict(clients=65)),
+        "65535 clients": (11, dict(clients=65535)), "H 258": (11, dict(levels=258)), "256 clients": (11, dict(clients=256)),
+        "H 7 and no clients": (11, dict(levels=7, clients=0)), "H 7 and m 0": (11, dict(levels=7, distance=0)),
+        "H 1 and 65 clients": (11, dict(levels=1, clients=65)), "T 0 and 65 clients": (11, dict(wait=0, clients=65)),
+    }
+    for name, (number, settings) in refused.items():
+        yield name, File(with_header(CALLS, count=14, **settings), number)
+        yield f"{name}, no calls", File(with_header(**settings), number)
+        yield f"{name}, offset 15", File(with_header(CALLS, count=14, offset=15, **settings), 10)
+        yield f"{name}, kind 4 in the last call", File(changed(with_header(CALLS, count=14, **settings), at_call(13), 4), 10)
+        yield f"{name}, 65537 bytes", File(with_header(CALLS, count=14, **settings).ljust(LONGEST + 1, b"\0"), 10)
+    for levels, clients in ((2, 1), (2, 64), (3, 63), (4, 2), (5, 64), (6, 1), (6, 64)):
+        for distance, wait in ((1, 1), (4, 2 ** 32 - 1)):
+            name = f"H {levels}, m {distance}, T {wait} and {clients} clients"
+            yield name, File(with_header(CALLS, levels, distance, wait, clients, count=14))
+
+
+def calls():
+    """Clients past the table, clocks that go back, edges of any size, and each kind at a wrong time."""
+    late = changed(WHOLE_CASE, at_call(7, 8), 6)
+    yield "the whole case with clock 6 in call 7", File(late)
+    for client in (2, 3, 64, 255, 256, 65535):
+        past = [Call("request", client, 0, 64), Call("step", client, 0), Call("release", client), Call("cancel", client)]
+        busy = Call("request", 0, 3, 9), Call("request", 1, 0, 256)
+        yield f"client {client} of two", File(of_calls(*busy, *past, Call("step", 0, 1)))
+    clocks = [Call("step", 0, clock) for clock in (5, 5, 4, 6, 0, 2 ** 32, 2 ** 32 - 1, 2 ** 63, TOP, TOP - 1, TOP, 0)]
+    yield "clocks that go back", File(of_calls(*clocks))
+    yield "clocks that go back with a request", File(of_calls(Call("request", 0, 10, 20), Call("request", 1, 0, 256), *clocks))
+    yield "a client past the table and a clock that goes back", File(of_calls(Call("step", 0, 5), Call("step", 2, 4)))
+    for levels in range(2, 7):
+        n = 64 * 4 ** (levels - 1)
+        edges = [(0, n), (0, n + 1), (n, n), (n - 1, n), (n - 1, n + 1), (n, n + 1), (5, 5), (6, 5), (0, 0), (0, TOP),
+                 (TOP, TOP), (TOP, 0), (TOP - 1, TOP), (2 ** 32, 2 ** 32 + 1), (2 ** 32, 10), (0, 2 ** 32 + n)]
+        pairs = [(Call("request", 0, l, r), Call("cancel", 0)) for l, r in edges]
+        yield f"edges at H {levels}", File(of_calls(*(call for pair in pairs for call in pair), levels=levels))
+    wrong = [Call("release", 0), Call("cancel", 0), Call("request", 0, 9, 9), Call("request", 0, 1, 2), Call("request", 0, 1, 2)]
+    steps = [Call("step", 0, clock) for clock in (1, 2, 3, 4, 5)]
+    yield "each kind at a wrong time", File(of_calls(*wrong, *steps[:3], *wrong[1:], wrong[0], *wrong, *steps[3:], *wrong))
+    yield "requests of 64 clients", File(of_calls(*(Call("request", c, c, c + 1) for c in range(66)), levels=6, clients=64))
+
+
+def by_group():
+    """Each group of files, by name."""
+    groups = {"lengths": lengths, "offsets": offsets, "kinds and zero fields": kinds_and_zero_fields,
+              "settings and clients": openings, "calls of every kind": calls}
+    return {group: dict(files()) for group, files in groups.items()}

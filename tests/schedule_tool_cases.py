@@ -1,0 +1,182 @@
+"""Cases for `tools/schedule`: text and file say the same calls, and each error names its line or its byte."""
+
+import re
+import subprocess
+from concurrent.futures import ThreadPoolExecutor
+from importlib.machinery import SourceFileLoader
+from importlib.util import module_from_spec, spec_from_loader
+from random import Random
+
+from compare import NAMES, case
+from library import ROOT
+from model import schedule
+from model.record import Settings
+from random_schedules import drawn
+from schedule_files import WHOLE_CASE, at_call, by_group, changed, with_header
+
+TOOL = ROOT / "tools" / "schedule"
+GUIDE = ROOT / "docs" / "SCHEDULES.md"
+NAMES["text of a schedule"] = ("seed",), ("packed as the model does", "unpacked and packed again", "lines")
+NAMES["line of the guide"] = ("line",), ("as in the whole case",)
+NAMES["unpacking"] = ("place in the list of files", "bytes"), ("refused",)
+
+HEAD = "tree 2 m 1 wait 5 clients 2\n"
+SETTINGS = "line 1: the first line wants the settings, as in `tree 2 m 1 wait 5 clients 2`; got "
+CALL = "a call is one of request, step, release, cancel; got "
+STEP = "step wants a client and a clock, as in `step 0 12`; got "
+U64 = " must be a number from 0 to 18446744073709551615; got "
+REQUEST = "request wants a client, a left edge and a right edge, as in `request 0 10 20`; got "
+
+# A text, and what is said of it.
+TEXT_ERRORS = {
+    "no text": ("", SETTINGS + "nothing"),
+    "comments alone": ("# nothing\n\n", SETTINGS + "nothing"),
+    "no settings": ("step 0 1\n", SETTINGS + "`step 0 1`"),
+    "a setting left out": ("tree 2 m 1 wait 5\n", SETTINGS + "`tree 2 m 1 wait 5`"),
+    "settings in another order": ("m 1 tree 2 wait 5 clients 2", SETTINGS + "`m 1 tree 2 wait 5 clients 2`"),
+    "a tree of 65536": ("tree 65536 m 1 wait 5 clients 2", "line 1: tree must be a number from 0 to 65535; got `65536`"),
+    "an m of x": ("tree 2 m x wait 5 clients 2", "line 1: m must be a number from 0 to 65535; got `x`"),
+    "a wait of 2^32": ("\ntree 2 m 1 wait 4294967296 clients 2",
+                       "line 2: wait must be a number from 0 to 4294967295; got `4294967296`"),
+    "clients of -1": ("tree 2 m 1 wait 5 clients -1", "line 1: clients must be a number from 0 to 65535; got `-1`"),
+    "a step without a clock": (HEAD + "\n" * 5 + "step 0\n", "line 7: " + STEP + "`step 0`"),
+    "a step with two clocks": (HEAD + "step 0 1 2", "line 2: " + STEP + "`step 0 1 2`"),
+    "a request with one edge": (HEAD + "request 0 10 # 20", "line 2: " + REQUEST + "`request 0 10`"),
+    "a release of nobody": (HEAD + "release", "line 2: release wants a client, as in `release 0`; got `release`"),
+    "a cancel of two": (HEAD + "# who\ncancel 0 1", "line 3: cancel wants a client, as in `cancel 0`; got `cancel 0 1`"),
+    "an unknown kind": (HEAD + "stop 0", "line 2: " + CALL + "`stop 0`"),
+    "a capital letter": (HEAD + "Step 0 1", "line 2: " + CALL + "`Step 0 1`"),
+    "settings a second time": (HEAD + HEAD, "line 2: " + CALL + "`" + HEAD[:-1] + "`"),
+    "client 65536": (HEAD + "release 65536", "line 2: client must be a number from 0 to 65535; got `65536`"),
+    "clock 2^64": (HEAD + f"step 0 {2 ** 64}", "line 2: clock" + U64 + f"`{2 ** 64}`"),
+    "a left edge of 1,000": (HEAD + "request 0 1,000 2", "line 2: left edge" + U64 + "`1,000`"),
+    "a right edge of 5000 digits": (HEAD + "request 0 1 " + "9" * 5000, "line 2: right edge" + U64 + "`" + "9" * 5000 + "`"),
+    "digits of another script": (HEAD + "step 0 \u0663", "line 2: clock" + U64 + "`\u0663`"),
+    "2731 calls": (HEAD + "# many\n" + "cancel 0\n" * 2731,
+                   "line 2733: a schedule has at most 2730 calls, since its file has at most 65536 bytes"),
+}
+
+# A file, and what is said of it.
+FILE_ERRORS = {
+    "an empty file": (b"", "byte 0: the file ends within its header of 16 bytes"),
+    "15 bytes": (WHOLE_CASE[:15], "byte 15: the file ends within its header of 16 bytes"),
+    "65537 bytes": (bytes(65537), "byte 65536: a file has at most 65536 bytes; this one goes on"),
+    "offset 15": (with_header(offset=15), "byte 12: the offset of the first call must be at least 16; got 15"),
+    "a byte cut off": (WHOLE_CASE[:-1],
+                       "byte 10: 14 calls from byte 16 would end at 16 + 24 * 14 = 352; the file has 351 bytes"),
+    "kind 4": (changed(WHOLE_CASE, at_call(3), 4),
+               "byte 88: call 3 has the unknown kind 4; known are 0 request, 1 step, 2 release, 3 cancel"),
+    "byte 1 filled": (changed(WHOLE_CASE, at_call(0, 1), 9), "byte 17: call 0, a request, has 9 in a field that must be 0"),
+    "byte 5 filled": (changed(WHOLE_CASE, at_call(1, 5), 1), "byte 44: call 1, a request, has 256 in a field that must be 0"),
+    "b of a step": (changed(WHOLE_CASE, at_call(2, 16), 7), "byte 80: call 2, a step, has 7 in a field that must be 0"),
+    "a of a release": (changed(WHOLE_CASE, at_call(10, 8), 7),
+                       "byte 264: call 10, a release, has 7 in a field that must be 0"),
+    "b of a cancel": (changed(changed(WHOLE_CASE, at_call(10), 3), at_call(10, 16), 7),
+                      "byte 272: call 10, a cancel, has 7 in a field that must be 0"),
+}
+
+
+def load_tool():
+    """The tool as a module, so that it need not be started anew for each text."""
+    loader = SourceFileLoader("schedule_tool", str(TOOL))
+    loaded = module_from_spec(spec_from_loader(loader.name, loader))
+    loader.exec_module(loaded)
+    return loaded
+
+
+def text_of(read):
+    """The text of a schedule, with its lines written without looking at the tool."""
+    h, m, wait = read.settings
+    yield f"tree {h} m {m} wait {wait} clients {read.clients}"
+    for call in read.calls:
+        others = {"request": f" {call.a} {call.b}", "step": f" {call.a}"}.get(call.kind, "")
+        yield f"{call.kind} {call.client}{others}"
+
+
+def strewn(rng, lines):
+    """The lines with comments, blank lines, blanks and line ends of another system strewn in."""
+    for line in lines:
+        yield from rng.choice([[], [], ["# step 0 1"], ["", "   "]])
+        yield rng.choice(["", " ", "\t"]) + line.replace(" ", rng.choice([" ", "   "])) + rng.choice(["", " # why", "\r", "#"])
+
+
+def texts_and_files():
+    """Pack gives the model's file of the same calls; unpack gives the plain text, also with bytes that are ignored."""
+    tool = load_tool()
+    for seed in range(300):
+        rng, data = Random(f"text {seed}"), drawn("refused" if seed % 2 else "well-formed", seed)
+        header = schedule.header_of(data)
+        calls = schedule.decode(schedule.HEADER.pack(2, 1, 5, 2, header.count, header.offset) + data[16:]).calls
+        read = schedule.Schedule(Settings(*header[:3]), header.clients, calls)
+        plain, file = "\n".join(text_of(read)) + "\n", schedule.encode(read)
+        packed, text = tool.pack("\n".join(strewn(rng, text_of(read)))), tool.unpack(data)
+        again = "".join(line for line in text.splitlines(keepends=True) if not line.startswith("#")) == plain
+        answer = int(packed == file), int(again and tool.pack(text) == file), tool.unpack(file).count("\n")
+        yield case("text of a schedule", [seed], (1, 1, len(calls) + 1)), answer
+
+
+def unpacked_files():
+    """A file is unpacked unless `rangelog` refuses it by 10."""
+    tool = load_tool()
+    files = [file.data for group in by_group().values() for file in group.values()]
+    for place, data in enumerate(files + [drawn("damaged", seed) for seed in range(100)]):
+        try:
+            refused = not tool.unpack(data)
+        except tool.Wrong:
+            refused = True
+        yield case("unpacking", [place, len(data)], int(schedule.refused_by_10(data))), int(refused)
+
+
+def started(direction, data):
+    """Runs the tool: its exit status, what it wrote and what it said."""
+    ran = subprocess.run([TOOL, direction], input=data, capture_output=True)
+    return ran.returncode, ran.stdout, ran.stderr.decode()
+
+
+def told(name, direction, data, expected):
+    """A case that holds exit status, what was written and what was said to the expected ones."""
+    NAMES[f"tools/schedule, {name}"] = (), ("exit status", "written as expected", "said as expected")
+    status, written, said = started(direction, data)
+    answer = status, int(written == expected[1]), int(said == expected[2])
+    return case(f"tools/schedule, {name}", [], (expected[0], 1, 1)), answer
+
+
+def errors():
+    """Each error is said with its line or byte; the exit status is 1 and nothing is written."""
+    asked = [(name, "pack", text.encode(), (1, b"", f"{said}\n")) for name, (text, said) in TEXT_ERRORS.items()]
+    asked += [(f"file, {name}", "unpack", data, (1, b"", f"{said}\n")) for name, (data, said) in FILE_ERRORS.items()]
+    with ThreadPoolExecutor() as pool:
+        yield from pool.map(lambda arguments: told(*arguments), asked)
+
+
+def examples():
+    """Each text under schedules/ packs to the file beside it, the file has the same calls, and the log beside it is the
+    model's."""
+    for path in sorted((ROOT / "schedules").glob("*.txt")):
+        file = path.with_suffix(".bin").read_bytes()
+        text = "\n".join(text_of(schedule.decode(file))) + "\n"
+        yield told(f"{path.name} packed", "pack", path.read_bytes(), (0, file, ""))
+        yield told(f"{path.stem}.bin unpacked", "unpack", file, (0, text.encode(), ""))
+        yield told(f"{path.stem}.log", "pack", path.read_bytes(), (0, file if logged(path, file) else None, ""))
+    yield told("a text that begins with a byte order mark", "pack", b"\xef\xbb\xbf" + HEAD.encode(), (0, with_header(), ""))
+
+
+def guide():
+    """The whole case in docs/SCHEDULES.md has the calls of the file and the lines of its log."""
+    rows = re.findall(r"^\| (?:`(.*?)` )?\| `(.*?)` \| ", GUIDE.read_text(), re.MULTILINE)
+    calls, lines = list(text_of(schedule.decode(WHOLE_CASE)))[1:], schedule.log(WHOLE_CASE).splitlines()
+    for place, (call, line) in enumerate(zip(["", *calls], lines, strict=True)):
+        yield case("line of the guide", [place], 1), int(len(rows) == len(lines) and rows[place] == (call, line))
+
+
+def logged(path, file):
+    return schedule.log(file) == path.with_suffix(".log").read_text()
+
+
+SUITES = {
+    "tools/schedule, text and file say the same calls": texts_and_files,
+    "tools/schedule, unpacks what rangelog does not refuse by 10": unpacked_files,
+    "tools/schedule, each error names its line or byte": errors,
+    "tools/schedule, the examples": examples,
+    "docs/SCHEDULES.md, the whole case": guide,
+}
