@@ -1,0 +1,150 @@
+//! Measures a full take and give-back of a window through the library's calls over the table, beside the same in plain Rust
+//! and beside `fcntl` on a file, while others hold from none up to 10,000 windows. Every round measures all of them in turn, so
+//! that a change of the machine's speed meets all alike, and the best of the rounds counts.
+
+mod agree;
+#[allow(dead_code)]
+mod inputs;
+mod lent;
+#[allow(dead_code)]
+mod lock;
+mod phases;
+#[allow(dead_code)]
+mod plain;
+mod ranges;
+mod readable;
+mod table;
+
+use lent::{Lent, Side, Window, RATTLE, RUST};
+use lock::Settings;
+use ranges::{most_descriptions, Ranges};
+use std::path::Path;
+use std::time::Instant;
+
+const SETTINGS: Settings = Settings { levels: 12, distance: 2, wait: 1 };
+const CLIENTS: usize = 32767;
+const MEASURED: u64 = CLIENTS as u64 - 1;
+const HELD: [usize; 4] = [0, 100, 1000, 10000];
+const WINDOWS: [(&str, Window); 2] = [("leaf [10, 20)", (10, 20)), ("inner node [4096, 8192)", (4096, 8192))];
+
+const ROUNDS: usize = 200;
+const TAKES: usize = 500;
+
+/// The window that another client holds: in turn a part of a leaf and an inner node one level above the leaves.
+fn others(place: usize) -> Window {
+    let edge = 16384 + 1024 * place as u64;
+    if place % 2 == 0 {
+        (edge + 10, edge + 20)
+    } else {
+        (edge, edge + 256)
+    }
+}
+
+/// What is measured with one count of windows held by others: the two sides' tables, and the file.
+struct Setting {
+    held: usize,
+    tables: [Lent; 2],
+    file: Ranges,
+}
+
+fn opened(side: Side, windows: &[Window]) -> Lent {
+    let mut lent = Lent::opened(side, SETTINGS, readable::nodes(SETTINGS.levels), CLIENTS);
+    for (client, &window) in windows.iter().enumerate() {
+        lent.take(client as u64, window);
+    }
+    lent
+}
+
+impl Setting {
+    fn new(held: usize, directory: &Path) -> Setting {
+        let windows: Vec<Window> = (0..held).map(others).collect();
+        let tables = [RATTLE, RUST].map(|side| opened(side, &windows));
+        let share = most_descriptions() * held / HELD.iter().sum::<usize>();
+        let file = Ranges::held(&directory.join(format!("held-{held}")), &windows, share.max(1));
+        let setting = Setting { held, tables, file };
+        setting.compare();
+        setting
+    }
+
+    fn compare(&self) {
+        assert!(self.tables[0].agrees(&self.tables[1]), "with {} windows held words or records differ", self.held);
+    }
+
+    /// Nanoseconds of a take and give-back: Rattle, Rust, `fcntl`. The last has fewer takes where more ranges are held, since
+    /// it goes through all of them.
+    fn round(&mut self, window: Window) -> [f64; 3] {
+        let [rattle, rust] = self.tables.each_mut().map(|lent| {
+            time(TAKES, || {
+                lent.take(MEASURED, window);
+                lent.give_back(MEASURED);
+            })
+        });
+        let fcntl = time(TAKES / (1 + self.held / 100), || {
+            self.file.take(window);
+            self.file.give_back(window);
+        });
+        [rattle, rust, fcntl]
+    }
+}
+
+fn time(takes: usize, mut take: impl FnMut()) -> f64 {
+    let start = Instant::now();
+    for _ in 0..takes {
+        take();
+    }
+    start.elapsed().as_nanos() as f64 / takes as f64
+}
+
+/// The best times of each window with each count of windows held.
+type Best = [[[f64; 3]; HELD.len()]; WINDOWS.len()];
+
+fn measured(settings: &mut [Setting]) -> Best {
+    let mut best: Best = [[[f64::INFINITY; 3]; HELD.len()]; WINDOWS.len()];
+    for _ in 0..ROUNDS {
+        for ((_, window), best) in WINDOWS.iter().zip(&mut best) {
+            for (setting, best) in settings.iter_mut().zip(best) {
+                let times = setting.round(*window);
+                *best = std::array::from_fn(|side| best[side].min(times[side]));
+            }
+        }
+    }
+    best
+}
+
+fn print_row(name: &str, held: usize, [rattle, rust, fcntl]: [f64; 3]) {
+    let (to_rust, of_fcntl) = (rattle / rust, fcntl / rattle);
+    println!("| {name} | {held} | {rattle:.0} | {rust:.0} | {to_rust:.2} | {fcntl:.0} | {of_fcntl:.2} |");
+}
+
+/// The highest of Rattle's times over the lowest, for one window with every count of windows held.
+fn spread(times: &[[f64; 3]]) -> f64 {
+    let rattle = times.iter().map(|times| times[0]);
+    rattle.clone().fold(0.0, f64::max) / rattle.fold(f64::INFINITY, f64::min)
+}
+
+fn print_table(best: &Best) {
+    println!("| window | held by others | Rattle ns | Rust ns | Rattle / Rust | fcntl ns | fcntl / Rattle |");
+    println!("|---|---|---|---|---|---|---|");
+    for ((name, _), times) in WINDOWS.iter().zip(best) {
+        for (held, times) in HELD.iter().zip(times) {
+            print_row(name, *held, *times);
+        }
+    }
+    for ((name, _), times) in WINDOWS.iter().zip(best) {
+        println!("{name}: Rattle's highest time is {:.2} times its lowest", spread(times));
+    }
+}
+
+fn main() {
+    let directory = std::env::args().nth(1).expect("a directory for the files to lock");
+    agree::compare_sides();
+    let mut settings = HELD.map(|held| Setting::new(held, Path::new(&directory)));
+    let descriptions = settings.each_ref().map(|setting| setting.file.descriptions());
+    println!("ranges of the file are held through {descriptions:?} open file descriptions");
+    let best = measured(&mut settings);
+    for setting in &settings {
+        setting.compare();
+    }
+    println!("after every take and give-back both sides have equal words and records");
+    print_table(&best);
+}
