@@ -1,8 +1,8 @@
-//! Sees that the library and the plain Rust are the same protocol: random histories, after each call of which answer, words
-//! and records of both are equal. A time of wrong code would be worth nothing.
+//! Sees that all sides are the same protocol: random histories, after each call of which their answers, words and records are
+//! equal. A time of wrong code would be worth nothing.
 
 use crate::inputs::Random;
-use crate::lent::{Lent, RATTLE, REQUEST, RUST, STEP};
+use crate::lent::{agree, Lent, REQUEST, SIDES, STEP};
 use crate::lock::{Record, Settings};
 use crate::readable::nodes;
 
@@ -41,9 +41,9 @@ fn with_field(record: Record, field: usize, value: u64) -> Record {
     unsafe { std::mem::transmute(fields) }
 }
 
-/// In both tables a field of a record becomes a small number, a record idle, or a word 0, so that the refusals occur that no
+/// In every table a field of a record becomes a small number, a record idle, or a word 0, so that the refusals occur that no
 /// history from an opened table has.
-fn damage(random: &mut Random, tables: &mut [Lent; 2]) {
+fn damage(random: &mut Random, tables: &mut [Lent]) {
     let (client, field, value) = (random.below(CLIENTS) as usize, random.below(14) as usize, random.below(12));
     let (what, node) = (random.below(3), random.below(tables[0].words.len() as u64) as usize);
     for Lent { records, words, .. } in tables {
@@ -59,16 +59,16 @@ fn damage(random: &mut Random, tables: &mut [Lent; 2]) {
 fn history(seed: u64, settings: Settings, damaging: bool) -> [usize; 10] {
     let mut random = Random(seed);
     let mut answered = [0; 10];
-    let mut tables = [RATTLE, RUST].map(|side| Lent::opened(side, settings, nodes(settings.levels), CLIENTS as usize));
+    let mut tables = SIDES.map(|side| Lent::opened(side, settings, nodes(settings.levels), CLIENTS as usize));
     for _ in 0..CALLS {
         if damaging && seldom(&mut random, 20) {
             damage(&mut random, &mut tables);
         }
         let [kind, client, a, b] = any_call(&mut random, settings.levels, tables[0].clock);
-        let [rattle, rust] = tables.each_mut().map(|lent| lent.make(kind, client, a, b));
-        assert_eq!(rattle, rust, "kind {kind}, client {client}, {a}, {b}: Rattle on the left, Rust on the right");
-        assert!(tables[0].agrees(&tables[1]), "kind {kind}, client {client}, {a}, {b}: words or records differ");
-        answered[rattle.number as usize] += 1;
+        let answers = tables.each_mut().map(|lent| lent.make(kind, client, a, b));
+        assert!(answers.iter().all(|answer| *answer == answers[0]), "kind {kind}, client {client}, {a}, {b}: {answers:?}");
+        assert!(agree(&tables), "kind {kind}, client {client}, {a}, {b}: words or records differ");
+        answered[answers[0].number as usize] += 1;
     }
     answered
 }

@@ -1,5 +1,5 @@
-//! A lent table and the calls of one side over it, the library's or those in plain Rust; and what is measured, a full take
-//! and give-back of a window.
+//! A lent table and the calls of one side over it, the library's or those in plain Rust; and what is measured, a full take and
+//! give-back of a window.
 
 use crate::lock::{Call, Record, Settings};
 use crate::table::{self, Answer};
@@ -26,8 +26,18 @@ pub const REQUEST: u64 = 0;
 pub const STEP: u64 = 1;
 pub const RELEASE: u64 = 2;
 
-pub const RATTLE: Side = Side { open: table_open, by_kind: [table_request, table_step, table_release, table_cancel] };
-pub const RUST: Side = Side { open: table::open, by_kind: [table::request, table::step, table::release, table::cancel] };
+const RATTLE: Side = Side { open: table_open, by_kind: [table_request, table_step, table_release, table_cancel] };
+
+/// Plain Rust that changes the record in the table.
+const IN_PLACE: Side = Side { open: table::open, by_kind: [table::request, table::step, table::release, table::cancel] };
+
+/// Plain Rust in the form that document 01 asks of the Rattle code: the record goes into the call and comes back by value.
+const BY_VALUE: Side = Side {
+    open: table::open,
+    by_kind: [table::request_by_value, table::step_by_value, table::release_by_value, table::cancel_by_value],
+};
+
+pub const SIDES: [Side; 3] = [RATTLE, IN_PLACE, BY_VALUE];
 
 /// Left and right edge.
 pub type Window = (u64, u64);
@@ -93,8 +103,12 @@ impl Lent {
         }
     }
 
-    /// Words, records and clock are equal.
-    pub fn agrees(&self, other: &Lent) -> bool {
+    fn agrees(&self, other: &Lent) -> bool {
         self.words == other.words && self.records == other.records && self.clock == other.clock
     }
+}
+
+/// Whether words, records and clock of all tables are equal.
+pub fn agree(tables: &[Lent]) -> bool {
+    tables.iter().all(|lent| lent.agrees(&tables[0]))
 }

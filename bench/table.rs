@@ -1,5 +1,5 @@
 //! The calls over the lent table of records in plain Rust. The entry points are not inlined and have the signatures of the
-//! library `table`, so that one caller can make the calls of either side.
+//! library `table`, so that one caller can make the calls of any side.
 
 use crate::lock::{Call, Record, Settings, Stepped};
 use std::slice::from_raw_parts_mut;
@@ -29,20 +29,22 @@ fn of_client(
     words: &mut [u64],
     settings: &Settings,
     call: &Call,
-    on_record: impl Fn(&Record, &mut [u64]) -> Stepped,
+    on_record: impl Fn(&mut Record, &mut [u64]) -> Answer,
 ) -> Answer {
-    let refused = |number| Answer { number, clock: call.last };
     let cause = opening_cause(settings, words.len(), records.len());
     if cause != 0 {
-        return refused(cause);
+        return Answer { number: cause, clock: call.last };
     }
-    let Some(record) = records.get_mut(call.client as usize) else {
-        return refused(4);
-    };
-    let stepped = on_record(record, words);
-    if stepped.number == 0 {
-        *record = stepped.record;
+    match records.get_mut(call.client as usize) {
+        Some(record) => on_record(record, words),
+        None => Answer { number: 4, clock: call.last },
     }
+}
+
+/// The table's record becomes the answered one.
+#[inline(always)]
+fn stored(record: &mut Record, stepped: Stepped) -> Answer {
+    *record = stepped.record;
     Answer { number: stepped.number, clock: stepped.clock }
 }
 
@@ -56,10 +58,15 @@ macro_rules! call {
     };
 }
 
-call!(request, |record, _words, settings, call| record.requested(&settings, &call));
-call!(step, |record, words, settings, call| record.stepped(words, &settings, &call));
-call!(release, |record, _words, settings, call| record.released(&settings, &call));
-call!(cancel, |record, _words, settings, call| record.cancelled(&settings, &call));
+call!(request, |record, _words, settings, call| record.request_in_place(&settings, &call));
+call!(step, |record, words, settings, call| record.step_in_place(words, &settings, &call));
+call!(release, |record, _words, settings, call| record.release_in_place(&settings, &call));
+call!(cancel, |record, _words, settings, call| record.cancel_in_place(&settings, &call));
+
+call!(request_by_value, |record, _words, settings, call| stored(record, record.requested(&settings, &call)));
+call!(step_by_value, |record, words, settings, call| stored(record, record.stepped(words, &settings, &call)));
+call!(release_by_value, |record, _words, settings, call| stored(record, record.released(&settings, &call)));
+call!(cancel_by_value, |record, _words, settings, call| stored(record, record.cancelled(&settings, &call)));
 
 /// Opening tests 1 to 3, then zeroes words and records.
 #[inline(never)]

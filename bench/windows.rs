@@ -1,13 +1,15 @@
-//! Measures a full take and give-back of a window through the library's calls over the table, beside the same in plain Rust
-//! and beside `fcntl` on a file, while others hold from none up to 10,000 windows. Every round measures all of them in turn, so
+//! Measures a full take and give-back of a window through the library's calls over the table, beside the same in plain Rust and
+//! beside `fcntl` on a file, while others hold from none up to 10,000 windows. Every round measures all of them in turn, so
 //! that a change of the machine's speed meets all alike, and the best of the rounds counts.
 
 mod agree;
+mod in_place;
 #[allow(dead_code)]
 mod inputs;
 mod lent;
 #[allow(dead_code)]
 mod lock;
+#[allow(dead_code)]
 mod phases;
 #[allow(dead_code)]
 mod plain;
@@ -15,7 +17,7 @@ mod ranges;
 mod readable;
 mod table;
 
-use lent::{Lent, Side, Window, RATTLE, RUST};
+use lent::{agree, Lent, Side, Window, SIDES};
 use lock::Settings;
 use ranges::{most_descriptions, Ranges};
 use std::path::Path;
@@ -40,10 +42,13 @@ fn others(place: usize) -> Window {
     }
 }
 
-/// What is measured with one count of windows held by others: the two sides' tables, and the file.
-struct Setting {
+/// A time for each side, and the last for `fcntl`.
+type Times = [f64; SIDES.len() + 1];
+
+/// What is measured with one count of windows held by others: the sides' tables, and the file.
+struct Trial {
     held: usize,
-    tables: [Lent; 2],
+    tables: [Lent; SIDES.len()],
     file: Ranges,
 }
 
@@ -55,25 +60,24 @@ fn opened(side: Side, windows: &[Window]) -> Lent {
     lent
 }
 
-impl Setting {
-    fn new(held: usize, directory: &Path) -> Setting {
+impl Trial {
+    fn new(held: usize, directory: &Path) -> Trial {
         let windows: Vec<Window> = (0..held).map(others).collect();
-        let tables = [RATTLE, RUST].map(|side| opened(side, &windows));
+        let tables = SIDES.map(|side| opened(side, &windows));
         let share = most_descriptions() * held / HELD.iter().sum::<usize>();
         let file = Ranges::held(&directory.join(format!("held-{held}")), &windows, share.max(1));
-        let setting = Setting { held, tables, file };
-        setting.compare();
-        setting
+        let trial = Trial { held, tables, file };
+        trial.compare();
+        trial
     }
 
     fn compare(&self) {
-        assert!(self.tables[0].agrees(&self.tables[1]), "with {} windows held words or records differ", self.held);
+        assert!(agree(&self.tables), "with {} windows held words or records differ", self.held);
     }
 
-    /// Nanoseconds of a take and give-back: Rattle, Rust, `fcntl`. The last has fewer takes where more ranges are held, since
-    /// it goes through all of them.
-    fn round(&mut self, window: Window) -> [f64; 3] {
-        let [rattle, rust] = self.tables.each_mut().map(|lent| {
+    /// Nanoseconds of a take and give-back. `fcntl` has fewer takes where more ranges are held, since it goes through all of them.
+    fn round(&mut self, window: Window) -> Times {
+        let [rattle, in_place, by_value] = self.tables.each_mut().map(|lent| {
             time(TAKES, || {
                 lent.take(MEASURED, window);
                 lent.give_back(MEASURED);
@@ -83,7 +87,7 @@ impl Setting {
             self.file.take(window);
             self.file.give_back(window);
         });
-        [rattle, rust, fcntl]
+        [rattle, in_place, by_value, fcntl]
     }
 }
 
@@ -96,14 +100,14 @@ fn time(takes: usize, mut take: impl FnMut()) -> f64 {
 }
 
 /// The best times of each window with each count of windows held.
-type Best = [[[f64; 3]; HELD.len()]; WINDOWS.len()];
+type Best = [[Times; HELD.len()]; WINDOWS.len()];
 
-fn measured(settings: &mut [Setting]) -> Best {
-    let mut best: Best = [[[f64::INFINITY; 3]; HELD.len()]; WINDOWS.len()];
+fn measured(trials: &mut [Trial]) -> Best {
+    let mut best: Best = [[[f64::INFINITY; SIDES.len() + 1]; HELD.len()]; WINDOWS.len()];
     for _ in 0..ROUNDS {
         for ((_, window), best) in WINDOWS.iter().zip(&mut best) {
-            for (setting, best) in settings.iter_mut().zip(best) {
-                let times = setting.round(*window);
+            for (trial, best) in trials.iter_mut().zip(best) {
+                let times = trial.round(*window);
                 *best = std::array::from_fn(|side| best[side].min(times[side]));
             }
         }
@@ -111,20 +115,22 @@ fn measured(settings: &mut [Setting]) -> Best {
     best
 }
 
-fn print_row(name: &str, held: usize, [rattle, rust, fcntl]: [f64; 3]) {
-    let (to_rust, of_fcntl) = (rattle / rust, fcntl / rattle);
-    println!("| {name} | {held} | {rattle:.0} | {rust:.0} | {to_rust:.2} | {fcntl:.0} | {of_fcntl:.2} |");
+fn print_row(name: &str, held: usize, [rattle, in_place, by_value, fcntl]: Times) {
+    let (to_in_place, to_by_value, of_fcntl) = (rattle / in_place, rattle / by_value, fcntl / rattle);
+    print!("| {name} | {held} | {rattle:.0} | {in_place:.0} | {to_in_place:.2} ");
+    println!("| {by_value:.0} | {to_by_value:.2} | {fcntl:.0} | {of_fcntl:.2} |");
 }
 
 /// The highest of Rattle's times over the lowest, for one window with every count of windows held.
-fn spread(times: &[[f64; 3]]) -> f64 {
+fn spread(times: &[Times]) -> f64 {
     let rattle = times.iter().map(|times| times[0]);
     rattle.clone().fold(0.0, f64::max) / rattle.fold(f64::INFINITY, f64::min)
 }
 
 fn print_table(best: &Best) {
-    println!("| window | held by others | Rattle ns | Rust ns | Rattle / Rust | fcntl ns | fcntl / Rattle |");
-    println!("|---|---|---|---|---|---|---|");
+    print!("| window | held by others | Rattle ns | Rust ns | Rattle / Rust ");
+    println!("| Rust by value ns | Rattle / Rust by value | fcntl ns | fcntl / Rattle |");
+    println!("|---|---|---|---|---|---|---|---|---|");
     for ((name, _), times) in WINDOWS.iter().zip(best) {
         for (held, times) in HELD.iter().zip(times) {
             print_row(name, *held, *times);
@@ -138,13 +144,13 @@ fn print_table(best: &Best) {
 fn main() {
     let directory = std::env::args().nth(1).expect("a directory for the files to lock");
     agree::compare_sides();
-    let mut settings = HELD.map(|held| Setting::new(held, Path::new(&directory)));
-    let descriptions = settings.each_ref().map(|setting| setting.file.descriptions());
+    let mut trials = HELD.map(|held| Trial::new(held, Path::new(&directory)));
+    let descriptions = trials.each_ref().map(|trial| trial.file.descriptions());
     println!("ranges of the file are held through {descriptions:?} open file descriptions");
-    let best = measured(&mut settings);
-    for setting in &settings {
-        setting.compare();
+    let best = measured(&mut trials);
+    for trial in &trials {
+        trial.compare();
     }
-    println!("after every take and give-back both sides have equal words and records");
+    println!("after every take and give-back all sides have equal words and records");
     print_table(&best);
 }
