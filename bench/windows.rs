@@ -151,6 +151,6 @@ fn main() {
     for trial in &trials {
         trial.compare();
     }
-    println!("after every take and give-back all sides have equal words and records");
+    println!("after all takes and give-backs the sides have equal words and records");
     print_table(&best);
 }
