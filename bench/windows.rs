@@ -75,7 +75,7 @@ impl Trial {
         assert!(agree(&self.tables), "with {} windows held words or records differ", self.held);
     }
 
-    /// Nanoseconds of a take and give-back. `fcntl` has fewer takes where more ranges are held, since it goes through all of them.
+    /// Nanoseconds of a take and give-back. `fcntl` has fewer takes where more ranges are held, since its time grows with them.
     fn round(&mut self, window: Window) -> Times {
         let [rattle, in_place, by_value] = self.tables.each_mut().map(|lent| {
             time(TAKES, || {
