@@ -66,7 +66,7 @@ impl Settings {
     }
 
     /// Causes 1 and 2, or 0.
-    fn tree_cause(&self, count: usize) -> u64 {
+    pub fn tree_cause(&self, count: usize) -> u64 {
         let waits = 1..=u32::MAX as u64;
         if !LEVELS.contains(&self.levels) || !DISTANCES.contains(&self.distance) || !waits.contains(&self.wait) {
             return 1;
@@ -78,78 +78,101 @@ impl Settings {
     }
 }
 
-/// The tests that request, release and cancel begin with: the number of the refusal, or 0.
-#[inline(always)]
-fn cause(record: &Record, count: usize, settings: &Settings, last: u64) -> u64 {
-    let cause = settings.tree_cause(count);
-    if cause == 0 && record.unreadable(settings, last) {
-        return 6;
+/// The calls after causes 1 to 4. Each is inlined into its two entry points, one on a record by value here and one over the
+/// table in `table.rs`.
+impl Record {
+    fn answer(&self, number: u64, call: &Call) -> Stepped {
+        Stepped { number, clock: call.last, record: *self }
     }
-    cause
+
+    /// Tests 5, 6, 9.
+    #[inline(always)]
+    pub fn stepped(&self, words: &mut [u64], settings: &Settings, call: &Call) -> Stepped {
+        if call.a < call.last {
+            return self.answer(5, call);
+        }
+        if self.unreadable(settings, call.last) {
+            return self.answer(6, call);
+        }
+        self.step(words, settings, call.a, call.last)
+    }
+
+    /// Tests 6, 7, 8.
+    #[inline(always)]
+    pub fn requested(&self, settings: &Settings, call: &Call) -> Stepped {
+        if self.unreadable(settings, call.last) {
+            return self.answer(6, call);
+        }
+        let cover = least_cover(settings.levels, call.a, call.b);
+        if cover.number != 0 {
+            return self.answer(7, call);
+        }
+        if self.phase != 0 {
+            return self.answer(8, call);
+        }
+        let phase = settings.first_phase(cover.first);
+        let (left, right, first, second) = (call.a, call.b, cover.first, cover.second);
+        Record { phase, left, right, first, second, ..Record::default() }.answer(0, call)
+    }
+
+    /// Tests 6, 8.
+    #[inline(always)]
+    pub fn released(&self, settings: &Settings, call: &Call) -> Stepped {
+        if self.unreadable(settings, call.last) {
+            return self.answer(6, call);
+        }
+        if self.phase != 9 {
+            return self.answer(8, call);
+        }
+        Record { phase: 10, outcome: 1, ..*self }.answer(0, call)
+    }
+
+    /// Tests 6, 8.
+    #[inline(always)]
+    pub fn cancelled(&self, settings: &Settings, call: &Call) -> Stepped {
+        if self.unreadable(settings, call.last) {
+            return self.answer(6, call);
+        }
+        if matches!(self.phase, 0 | 9 | 10) {
+            return self.answer(8, call);
+        }
+        if self.current == 0 && self.grip == 0 {
+            return Record { outcome: 3, ..Record::default() }.answer(0, call);
+        }
+        Record { phase: 10, outcome: 3, place: 0, ..*self }.answer(0, call)
+    }
 }
 
 #[inline(never)]
 pub unsafe extern "C" fn step(record: Record, words: *mut u64, count: usize, settings: Settings, call: Call) -> Stepped {
-    let refused = |number| Stepped { number, clock: call.last, record };
-    let cause = settings.tree_cause(count);
-    if cause != 0 {
-        return refused(cause);
+    match settings.tree_cause(count) {
+        0 => record.stepped(from_raw_parts_mut(words, count), &settings, &call),
+        cause => record.answer(cause, &call),
     }
-    if call.a < call.last {
-        return refused(5);
-    }
-    if record.unreadable(&settings, call.last) {
-        return refused(6);
-    }
-    record.step(from_raw_parts_mut(words, count), &settings, call.a, call.last)
 }
 
 #[inline(never)]
 pub unsafe extern "C" fn request(record: Record, _words: *mut u64, count: usize, settings: Settings, call: Call) -> Stepped {
-    let answer = |number, record| Stepped { number, clock: call.last, record };
-    let cause = cause(&record, count, &settings, call.last);
-    if cause != 0 {
-        return answer(cause, record);
+    match settings.tree_cause(count) {
+        0 => record.requested(&settings, &call),
+        cause => record.answer(cause, &call),
     }
-    let cover = least_cover(settings.levels, call.a, call.b);
-    if cover.number != 0 {
-        return answer(7, record);
-    }
-    if record.phase != 0 {
-        return answer(8, record);
-    }
-    let phase = settings.first_phase(cover.first);
-    let (left, right, first, second) = (call.a, call.b, cover.first, cover.second);
-    answer(0, Record { phase, left, right, first, second, ..Record::default() })
 }
 
 #[inline(never)]
 pub unsafe extern "C" fn release(record: Record, _words: *mut u64, count: usize, settings: Settings, call: Call) -> Stepped {
-    let answer = |number, record| Stepped { number, clock: call.last, record };
-    let cause = cause(&record, count, &settings, call.last);
-    if cause != 0 {
-        return answer(cause, record);
+    match settings.tree_cause(count) {
+        0 => record.released(&settings, &call),
+        cause => record.answer(cause, &call),
     }
-    if record.phase != 9 {
-        return answer(8, record);
-    }
-    answer(0, Record { phase: 10, outcome: 1, ..record })
 }
 
 #[inline(never)]
 pub unsafe extern "C" fn cancel(record: Record, _words: *mut u64, count: usize, settings: Settings, call: Call) -> Stepped {
-    let answer = |number, record| Stepped { number, clock: call.last, record };
-    let cause = cause(&record, count, &settings, call.last);
-    if cause != 0 {
-        return answer(cause, record);
+    match settings.tree_cause(count) {
+        0 => record.cancelled(&settings, &call),
+        cause => record.answer(cause, &call),
     }
-    if matches!(record.phase, 0 | 9 | 10) {
-        return answer(8, record);
-    }
-    if record.current == 0 && record.grip == 0 {
-        return answer(0, Record { outcome: 3, ..Record::default() });
-    }
-    answer(0, Record { phase: 10, outcome: 3, place: 0, ..record })
 }
 
 #[inline(never)]

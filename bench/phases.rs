@@ -4,22 +4,22 @@
 use crate::lock::{Record, Settings, Stepped};
 use crate::readable::{check_count, check_node, climb, level, nodes, notify_count, notify_node};
 
-const OCC: u64 = 1 << 62;
-const TCNT: u64 = 0x7fff << 47;
-const TMAX: u64 = 0x7fff << 32;
-const DCNT: u64 = 0xffff << 16;
-const DMAX: u64 = 0xffff;
+pub const OCC: u64 = 1 << 62;
+pub const TCNT: u64 = 0x7fff << 47;
+pub const TMAX: u64 = 0x7fff << 32;
+pub const DCNT: u64 = 0xffff << 16;
+pub const DMAX: u64 = 0xffff;
 
-fn field(word: u64, mask: u64) -> u64 {
+pub fn field(word: u64, mask: u64) -> u64 {
     (word & mask) >> mask.trailing_zeros()
 }
 
 /// Adds 1 within a field, which wraps by itself.
-fn add_one(word: &mut u64, mask: u64) {
+pub fn add_one(word: &mut u64, mask: u64) {
     *word = *word & !mask | word.wrapping_add(1 << mask.trailing_zeros()) & mask;
 }
 
-fn word_at(words: &mut [u64], n: u64) -> &mut u64 {
+pub fn word_at(words: &mut [u64], n: u64) -> &mut u64 {
     &mut words[n as usize - 1]
 }
 
@@ -29,7 +29,7 @@ fn accepted(clock: u64, record: Record) -> Stepped {
 }
 
 impl Record {
-    fn wanted(&self, settings: &Settings, leaf: u64) -> u64 {
+    pub fn wanted(&self, settings: &Settings, leaf: u64) -> u64 {
         let edge = 64 * (leaf - 1 - nodes(settings.levels - 1));
         let low = self.left.saturating_sub(edge);
         let high = (self.right - edge).min(64);

@@ -89,5 +89,4 @@ room = 400000
 -- of bytes lent with room enough the first `count` are the log afterwards; with less room nothing is done
 pub record Logged (bytes lent after : List ℕ) (count : ℕ) : Type 0 where
   pub text : room ≤ length lent → take count after ≡ logOf bytes
-  pub inside : count ≤ length lent
   pub short : length lent < room → (count ≡ 0) × (after ≡ lent)

@@ -1,13 +1,14 @@
 -- Laws: one call of a schedule after another, and the lines that they add to the log. Assumes nothing.
 use mathlib.Core.Path.{_≡_, refl, sym, ap, subst, _∙_}
-use mathlib.Core.List.{List, [], _∷_, _++_, append-assoc, append-nil}
+use mathlib.Core.List.{List, _++_, append-assoc, append-nil}
 use Prim.Native.Nat.{ℕ, zero, suc, _+_, _-_, _*_, _≤_, _<_}
 use native.Mathlib.Omega.{arith}
 use lib.Dec.{eqb}
-use lib.ListN.{length, take, getD, replicate}
+use lib.ListN.{length, take, getD, replicate, length-take}
 use lib.Seq.{getD-take}
 use Rattle.base.specs.Choice.{on-choose, choose-eq, choose-ne}
 use Rattle.base.specs.Sum.{getD-past}
+use Rattle.io.specs.Counts.{Counts}
 use Rattle.tree.specs.Tree.{wordCount}
 use Rattle.lock.specs.declared.Record.{Record}
 use Rattle.lock.specs.declared.Settings.{Settings}
@@ -35,11 +36,6 @@ pub record Made (s : Settings) (st : State) (k : ℕ) (c : Call) (old new : List
 
 pub front-record : (l : List Record) (clients client : ℕ) → client < clients → getD l client (idleWith 0) ≡ getD (take clients l) client (idleWith 0)
 front-record l clients client b = sym (getD-take clients l client (idleWith 0) b)
-
-length-take : (n : ℕ) (l : List Record) → length (take n l) ≤ n
-length-take zero l = omega arith
-length-take (suc n) [] = omega arith
-length-take (suc n) (x ∷ l) = omega (arith, length-take n l)
 
 pub no-record : (l : List Record) (clients client : ℕ) → clients ≤ client → idleWith 0 ≡ getD (take clients l) client (idleWith 0)
 no-record l clients client b = sym (getD-past (take clients l) client (idleWith 0) (omega (arith, length-take clients l)))
@@ -163,21 +159,23 @@ opened-state s asked records words z e f =
 
 module _ (bytes old : List ℕ) where
   pub no-room : length old < room → Logged bytes old old 0
-  no-room b = record { text = λ c. absurd (omega arith); inside = omega arith; short = λ _. (refl, refl) }
+  no-room b = record { text = λ c. absurd (omega arith); short = λ _. (refl, refl) }
 
   pub file-refused : (n : ℕ) → n ≡ fileCause bytes → (n ≡ 0 → ⊥) → room ≤ length old → (out : List ℕ) (end : ℕ) → Appended old 0 out end (refusedLine n) → Logged bytes old out end
   unfolding logOf
   file-refused n e d b out end a = record {
     text = λ _. a .text ∙ ap refusedLine e ∙ sym (choose-ne (fileCause bytes) 0 _ _ (λ z. d (e ∙ z)));
-    inside = a .room;
     short = λ c. absurd (omega arith);
   }
 
-  pub file-run : fileCause bytes ≡ 0 → room ≤ length old → (out : List ℕ) (end : ℕ) → take end out ≡ logOfCalls (settingsIn bytes) (clientsIn bytes) (callsIn bytes) → end ≤ length old
+  pub file-run : fileCause bytes ≡ 0 → room ≤ length old → (out : List ℕ) (end : ℕ) → take end out ≡ logOfCalls (settingsIn bytes) (clientsIn bytes) (callsIn bytes)
       → Logged bytes old out end
   unfolding logOf
-  file-run z b out end t i = record {
+  file-run z b out end t = record {
     text = λ _. t ∙ sym (choose-eq (fileCause bytes) 0 _ _ z);
-    inside = i;
     short = λ c. absurd (omega arith);
   }
+
+-- what counts the bytes of a list, for whoever lends them on
+pub counted : (n : ℕ) (l : List ℕ) → n ≤ length l → Counts n l
+counted n l b = (b, omega (arith, length-take n l))

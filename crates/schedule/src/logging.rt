@@ -3,6 +3,7 @@ ghost use mathlib.Core.Path.{_≡_};
 ghost use mathlib.Core.List.{_++_};
 ghost use Prim.Native.Nat.{suc, _+_, _≤_, _<_};
 ghost use lib.ListN.{length, take, replicate};
+ghost use Rattle.io.specs.Counts.{Counts};
 ghost use Rattle.tree.specs.Tree.{wordCount};
 ghost use Rattle.schedule.specs.Format.{settingsIn, clientsIn, countIn, placeOf, callIn, callsIn};
 ghost use Rattle.schedule.specs.Log.{room, headerLine, lines, logOfCalls, Logged};
@@ -55,7 +56,7 @@ fn one_call(
 // "After it each call has a line": the header line, and a line for each call.
 fn put_lines(bytes: &[u8], run: Run, words: &mut [u64], settings: Settings, out: &mut [u8]) -> usize
     requires { ⌜ WellFormed (now bytes) × ((run .clients ≤ 64) × (room ≤ length (now out))) ⌝ }
-    ensures { λ r. ⌜ (take r (now (out .exit)) ≡ headerLine settings (run .clients) ++ lines settings (stateOf run (now (words .entry))) 0 (callsIn (now (bytes .entry)))) × (r ≤ length (now (out .entry))) ⌝ }
+    ensures { λ r. ⌜ (take r (now (out .exit)) ≡ headerLine settings (run .clients) ++ lines settings (stateOf run (now (words .entry))) 0 (callsIn (now (bytes .entry)))) × (r ≤ length (now (out .exit))) ⌝ }
 {
     let count = format::count_in(bytes);
     let mut run = run;
@@ -90,7 +91,7 @@ fn zero_words() -> [u64; 1365]
 // Opens the table and makes the calls, or writes by which number the opening is refused.
 fn run_file(bytes: &[u8], out: &mut [u8]) -> usize
     requires { ⌜ WellFormed (now bytes) × (room ≤ length (now out)) ⌝ }
-    ensures { λ r. ⌜ (take r (now (out .exit)) ≡ logOfCalls (settingsIn (now (bytes .entry))) (clientsIn (now (bytes .entry))) (callsIn (now (bytes .entry)))) × (r ≤ length (now (out .entry))) ⌝ }
+    ensures { λ r. ⌜ (take r (now (out .exit)) ≡ logOfCalls (settingsIn (now (bytes .entry))) (clientsIn (now (bytes .entry))) (callsIn (now (bytes .entry)))) × (r ≤ length (now (out .exit))) ⌝ }
 {
     let settings = format::settings_in(bytes);
     let clients = format::clients_in(bytes);
@@ -113,7 +114,8 @@ fn run_file(bytes: &[u8], out: &mut [u8]) -> usize
 
 // The whole file is examined first. The log is in the first bytes of `out`; the answer is how many they are.
 pub fn log(bytes: &[u8], out: &mut [u8]) -> usize
-    ensures { λ r. ⌜ Logged (now (bytes .entry)) (now (out .entry)) (now (out .exit)) r ⌝ }
+    ensures log { λ r. ⌜ Logged (now (bytes .entry)) (now (out .entry)) (now (out .exit)) r ⌝ }
+    ensures inside { λ r. ⌜ Counts r (now (out .exit)) ⌝ }
 {
     if out.len() < 400000 {
         return 0;

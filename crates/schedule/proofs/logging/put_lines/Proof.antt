@@ -65,7 +65,7 @@ same-length-2 c =
 returns : tie.Need-returns Inv-loop μ-loop
 returns c =
     let v = c .before .loop .inv in
-    (written-all _ _ _ _ _ _ _ (v .0) (omega (arith, c .before .before .before .before .before .before .count-in .ensures, c .loop-test .left)), omega (arith, v .0 .inside, v .1 .1 .0, c .before .before .before .before .put-header .ensures .0 .same))
+    (written-all _ _ _ _ _ _ _ (v .0) (omega (arith, c .before .before .before .before .before .before .count-in .ensures, c .loop-test .left)), v .0 .inside)
 
 pub put-lines-spec : {M : Type 1} → statement M
 put-lines-spec =

@@ -53,7 +53,7 @@ returns c =
     (tree-words _ _ (c .before .before .before .before .before .before .before .before .before .before .before .before .before .zero-words .ensures) (c .before .before .before .before .before .before .before .before .before .before .before .before .before .before .word-count .ensures .1) ∙ ap (λ (n : ℕ). replicate n 0) (c .before .before .before .before .before .before .before .before .before .before .before .before .before .before .word-count .ensures .0)) in (
       log-refused _ _ _ _ asked (c .before .before .before .before .before .before .before .before .before .open-front .result .number) (c .before .before .before .before .before .before .before .before .before .open-front .ensures .0) (c .before .before .before .before .before .if1 .taken) _ _ _ (c .before .before .put-refused .ensures)
           ∙ ap₂ (λ (x : Settings) (y : ℕ). logOfCalls x y (callsIn (now (c .before .before .before .before .before .before .before .before .before .before .before .before .before .before .before .before .before .before .before .args .bytes)))) sets who,
-      omega (arith, c .before .before .put-refused .ensures .room),
+      omega (arith, c .before .before .put-refused .ensures .room, c .before .before .put-refused .ensures .same),
     )
 
 put-lines-requires : tie.Need-put-lines-requires
