@@ -11,12 +11,13 @@ import rangelog
 import schedule_tool_cases
 from broken_programs import NAMES_OF_BROKEN, broken
 from compare import NAMES, Case, case
-from library import SECONDS
+from library import ROOT, SECONDS
 from model import schedule
 from model.schedule import HEADER
 from random_schedules import DRAWN, drawn
 from schedule_files import WHOLE_CASE, at_call, by_group, changed
 
+CORPUS = ROOT / "tests" / "schedules"
 SEEDS = 600
 FEW_SEEDS = 40
 
@@ -66,6 +67,14 @@ def clock_6_in_call_7():
     for name, ran in (("model", rangelog.Ran(model_log(data))), ("program", rangelog.run(data))):
         until_7 = b"".join(ran.log.splitlines(keepends=True)[:9])
         yield rangelog.compared(f"clock 6 in call 7, {name}", data, before, ran._replace(log=until_7))
+
+
+def corpus():
+    """The files in tests/schedules, each beside its log: the model and the program write that log."""
+    for path in sorted(CORPUS.glob("*.bin")):
+        data, log = path.read_bytes(), path.with_suffix(".log").read_bytes()
+        yield rangelog.compared(f"model, {path.name}", data, log, rangelog.Ran(model_log(data)))
+        yield rangelog.compared(path.name, data, log, rangelog.run(data))
 
 
 def first_line(file):
@@ -185,6 +194,7 @@ SUITES = {
     "rangelog, the whole case": whole_case,
     "rangelog, the whole case with clock 6 in call 7": clock_6_in_call_7,
     **{f"rangelog, {group}": lambda files=files: group_of_files(files) for group, files in by_group().items()},
+    "rangelog, the files in tests/schedules": corpus,
     "rangelog, files in pieces and on the disk": files_in_pieces,
     **{f"rangelog, random schedules, {kind}": lambda kind=kind: random_schedules(kind) for kind in DRAWN},
     "rangelog, every refusal, number and phase occurs in random schedules": what_occurs,
