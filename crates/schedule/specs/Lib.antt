@@ -7,4 +7,5 @@ pub mod Little
 pub mod Log
 pub mod Running
 pub mod ShelfLaws
+pub mod SingleHolding
 pub mod WellFormed
