@@ -2,10 +2,10 @@
 use lock::Record;
 use table::Answer;
 
-pub mod format;
-pub mod front;
+mod format;
+mod front;
 mod logging;
-pub mod text;
+mod text;
 
 pub use logging::log;
 
