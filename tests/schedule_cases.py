@@ -11,6 +11,7 @@ import rangelog
 import schedule_tool_cases
 from broken_programs import NAMES_OF_BROKEN, broken
 from compare import NAMES, Case, case
+from history_cases import WHOLE_CASE as WHOLE_CASE_LINES
 from library import ROOT, SECONDS
 from model import schedule
 from model.schedule import HEADER
@@ -21,23 +22,8 @@ CORPUS = ROOT / "tests" / "schedules"
 SEEDS = 600
 FEW_SEEDS = 40
 
-WHOLE_LOG = b"""\
-tree 2 m 1 wait 5 clients 2
-0 request 0 0 3 10 20
-1 request 1 0 1 0 256
-2 step 0 0 5 10 20
-3 step 1 0 2 0 256
-4 step 1 0 5 0 256
-5 step 1 0 7 0 256
-6 step 0 0 6 10 20
-7 step 0 0 9 10 20
-8 step 1 0 8 0 256
-9 step 1 0 8 0 256
-10 release 0 0 10 10 20
-11 step 0 0 10 10 20
-12 step 0 0 0 0 0
-13 step 1 0 9 0 256
-"""
+# The header line, and a line for each call, as the document writes them.
+WHOLE_LOG = "\n".join(["tree 2 m 1 wait 5 clients 2", *WHOLE_CASE_LINES, ""]).encode()
 
 # What must be seen in the logs of the random schedules: refusals of a file, and numbers and phases of calls.
 MUST_OCCUR = [

@@ -7,9 +7,10 @@ use mathlib.Core.List.{List, [], _∷_, _++_}
 use Prim.Native.Nat.{ℕ, zero, suc, _+_, _*_, _<_}
 use native.Mathlib.Omega.{arith}
 use lib.Dec.{T, eqb, eqb-refl, T-not}
-use lib.ListN.{getD, take, drop, replicate}
+use lib.ListN.{take, drop, replicate}
 use Rattle.base.specs.Every.{both, both-l, both-r}
 use Rattle.base.specs.Choice.{choose}
+use Rattle.base.specs.Sum.{getD-fresh}
 use Rattle.word.specs.Word.{field, putField, addField, matches, replaced, maskedSwap, leafBits, wantedBits, takeBits, giveBits, returnOcc}
 use Rattle.tree.specs.Tree.{climb, leftmost, first, level, levelWithin, size, left, units, holder, wordCount}
 use Rattle.tree.specs.Lists.{upward, ancestors, ancestor, notifies, notifiedFrom, notifyLevels, notifyList, row, descendants, nearest, checkList}
@@ -193,18 +194,13 @@ idle-1 = inr (record {
   returned = later (GaveBackIn 0 (CallOf 1)) 19 (drop 2 events-returned) (inl ((refl, refl), refl));
 })
 
-zeros : (n i : ℕ) → getD {A = ℕ} (replicate n 0) i 0 ≡ 0
-zeros zero i = refl
-zeros (suc n) zero = refl
-zeros (suc n) (suc i) = zeros n i
-
 leaf-clean : (n : ℕ) → level n ≡ 3 → wordAt words-returned n ≡ 0
 unfolding wordAt level levelWithin choose
 leaf-clean zero e = refl
 leaf-clean (suc zero) e = absurd (omega arith)
 leaf-clean (suc (suc zero)) e = absurd (omega arith)
 leaf-clean (suc (suc (suc zero))) e = absurd (omega arith)
-leaf-clean (suc (suc (suc (suc i)))) e = zeros 18 i
+leaf-clean (suc (suc (suc (suc i)))) e = getD-fresh 18 i 0
 
 inner-clean : (n : ℕ) → level n < 3 → CleanInner (wordAt words-returned n)
 unfolding wordAt field
@@ -212,7 +208,7 @@ inner-clean zero b = record { exp-clear = refl; occ-clear = refl; tickets = refl
 inner-clean (suc zero) b = record { exp-clear = refl; occ-clear = refl; tickets = refl; notices = refl }
 inner-clean (suc (suc zero)) b = record { exp-clear = refl; occ-clear = refl; tickets = refl; notices = refl }
 inner-clean (suc (suc (suc zero))) b = record { exp-clear = refl; occ-clear = refl; tickets = refl; notices = refl }
-inner-clean (suc (suc (suc (suc i)))) b = subst CleanInner (sym (zeros 18 i)) (record { exp-clear = refl; occ-clear = refl; tickets = refl; notices = refl })
+inner-clean (suc (suc (suc (suc i)))) b = subst CleanInner (sym (getD-fresh 18 i 0)) (record { exp-clear = refl; occ-clear = refl; tickets = refl; notices = refl })
 
 returned-clean : Clean settings words-returned
 returned-clean = record { leaf = λ n v e. leaf-clean n e; inner = λ n v b. inner-clean n b }

@@ -3,7 +3,7 @@ use mathlib.Core.Path.{_≡_, refl, sym, ap, subst, _∙_}
 use mathlib.Core.Logic.{inl}
 use Prim.Native.Nat.{ℕ, zero, suc, _+_, _%_}
 use native.Mathlib.Omega.{arith}
-use lib.ListN.{length, getD, replicate}
+use lib.ListN.{length, getD, replicate, length-replicate}
 use Rattle.base.specs.Sum.{sumBy, sum-zero, getD-fresh}
 use Rattle.base.specs.Tickets.{none-yet}
 use Rattle.word.specs.Word.{field, bit}
@@ -25,10 +25,6 @@ zero-words : (count n : ℕ) → wordAt (replicate count 0) n ≡ 0
 unfolding wordAt
 zero-words count zero = refl
 zero-words count (suc i) = getD-fresh count i 0
-
-length-replicate : {A : Type 0} (n : ℕ) (a : A) → length (replicate n a) ≡ n
-length-replicate zero a = refl
-length-replicate (suc n) a = ap suc (length-replicate n a)
 
 module _ (s : Settings) where
   nobody-empty : Empty s nobody

@@ -1,5 +1,5 @@
 -- To be believed: document 01, section "Phases": the client record's pieces, grips and lists, and the changes of its fields. Settings and Record
--- are the structs of src/types.rt. Assumes nothing.
+-- are the structs of src/lib.rt. Assumes nothing.
 use mathlib.Core.Bool.{Bool}
 use mathlib.Core.List.{List, [], _∷_}
 use Prim.Native.Nat.{ℕ, zero, suc, _-_}

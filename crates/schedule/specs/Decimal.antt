@@ -6,9 +6,7 @@ use native.Mathlib.Nat.{pow-suc, one-le-pow, pow-le-pow-right, mod-eq-of-lt}
 use native.Mathlib.Numerals.{sub-one}
 use native.Mathlib.Omega.{arith}
 use borrow.Author.Tests.{lt-ltb}
-use lib.Dec.{ltb}
-use lib.ListN.{length, length-append}
-use Rattle.base.specs.Choice.{choose-lt, choose-ge, on-choose, by-lt}
+use Rattle.base.specs.Choice.{choose-lt, choose-ge, by-lt}
 use Rattle.io.specs.Digits.{glyph, digits, Fewest}
 use Rattle.schedule.specs.Log.{decimalWithin, decimal}
 
@@ -36,22 +34,7 @@ unfolding decimal
 digits-decimal n zero f = absurd (omega (arith, f .0))
 digits-decimal n (suc j) f = digits-within j (suc n) n (omega arith) (f .1) (λ p. rw (sub-one (suc j)) at (f .2 (omega arith)))
 
-within-short : (j steps n : ℕ) → n < 10 ^ suc j → length (decimalWithin steps n) ≤ suc j
-unfolding decimalWithin
-within-short j zero n h = omega arith
-within-short zero (suc steps) n h = rw (choose-lt n 10 ((48 + n) ∷ []) (decimalWithin steps (n / 10) ++ ((48 + n % 10) ∷ [])) h) (omega arith)
-within-short (suc i) (suc steps) n h =
-    let high : n < 10 ^ suc i * 10 = rw (pow-suc 10 (suc i)) at h in
-    let rest : length (decimalWithin steps (n / 10)) ≤ suc i = within-short i steps (n / 10) (omega arith) in
-    on-choose (λ (l : List ℕ). length l ≤ suc (suc i)) (ltb n 10) ((48 + n) ∷ []) (decimalWithin steps (n / 10) ++ ((48 + n % 10) ∷ []))
-    (λ _. omega arith)
-    (λ _. omega (arith, length-append (decimalWithin steps (n / 10)) ((48 + n % 10) ∷ [])))
-
 -- at most 20 digits for a number of 64 bits
-pub decimal-short : (n : ℕ) → n < 2 ^ 64 → length (decimal n) ≤ 20
-unfolding decimal
-decimal-short n h = within-short 19 (suc n) n (omega arith)
-
 pub fewest-short : (n k : ℕ) → n < 2 ^ 64 → Fewest 10 1 n k → k ≤ 20
 fewest-short n k h f =
     by-lt k 21

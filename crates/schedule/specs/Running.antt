@@ -1,10 +1,10 @@
 -- Laws: one call of a schedule after another, and the lines that they add to the log. Assumes nothing.
 use mathlib.Core.Path.{_≡_, refl, sym, ap, subst, _∙_}
 use mathlib.Core.List.{List, _++_, append-assoc, append-nil}
-use Prim.Native.Nat.{ℕ, zero, suc, _+_, _-_, _*_, _≤_, _<_}
+use Prim.Native.Nat.{ℕ, suc, _+_, _-_, _*_, _≤_, _<_}
 use native.Mathlib.Omega.{arith}
 use lib.Dec.{eqb}
-use lib.ListN.{length, take, getD, replicate, length-take}
+use lib.ListN.{length, take, getD, replicate, length-take, length-replicate}
 use lib.Seq.{getD-take}
 use Rattle.base.specs.Choice.{on-choose, choose-eq, choose-ne}
 use Rattle.base.specs.Sum.{getD-past}
@@ -140,12 +140,8 @@ lent-for s clients records words e b f =
 pub tree-words : (l : List ℕ) (n : ℕ) → l ≡ replicate 1365 0 → n ≤ 1365 → take n l ≡ replicate n 0
 tree-words l n e b = ap (take n) e ∙ take-replicate n 1365 0 b
 
-length-replicate : (n : ℕ) → length {A = ℕ} (replicate n 0) ≡ n
-length-replicate zero = refl
-length-replicate (suc n) = ap suc (length-replicate n)
-
 pub tree-length : (l : List ℕ) (n : ℕ) → l ≡ replicate 1365 0 → n ≤ 1365 → n ≡ length (take n l)
-tree-length l n e b = sym (ap length (tree-words l n e b) ∙ length-replicate n)
+tree-length l n e b = sym (ap length (tree-words l n e b) ∙ length-replicate n 0)
 
 -- the table that an opening leaves, whose clock is 0
 pub opened-state : (s : Settings) (asked : State) (records : List Record) (words : List ℕ) → asked .clock ≡ 0 → records ≡ opening s asked .state .records

@@ -9,6 +9,7 @@ use lib.Dec.{ltb}
 use lib.ListN.{length}
 use Rattle.base.specs.Choice.{choose}
 use Rattle.lock.specs.Calls.{firstCause}
+use Rattle.lock.specs.ActiveLaws.{both-false}
 use Rattle.lock.specs.ReadableLaws.{true-first, next-test}
 use Rattle.schedule.specs.Format.{little, settingsIn, clientsIn, countIn, offsetIn, placeOf, anyWrong, malformed, tooLarge, fileCause}
 use Rattle.schedule.specs.FormatLaws.{earlier-inside}
@@ -21,16 +22,6 @@ pub record WellFormed (bytes : List ℕ) : Type 0 where
   pub right : anyWrong bytes (countIn bytes) ≡ false
   pub levels : settingsIn bytes .levels ≤ 6
   pub clients : clientsIn bytes ≤ 64
-
--- ---- tests joined by `||` of which none is true
-
-pub first-false : (a b : Bool) → (a || b) ≡ false → a ≡ false
-first-false true b e = e
-first-false false b e = refl
-
-pub second-false : (a b : Bool) → (a || b) ≡ false → b ≡ false
-second-false true b e = let z : true ≡ false = e in cc
-second-false false b e = e
 
 -- ---- the tests of a file one after another
 
@@ -89,7 +80,7 @@ module _ (bytes : List ℕ) where
 
   pub long-enough : malformed bytes ≡ false → 16 ≤ length bytes
   unfolding malformed
-  long-enough e = ltb-false _ _ (first-false (ltb (length bytes) 16) _ (second-false (ltb 65536 (length bytes)) _ e))
+  long-enough e = ltb-false _ _ (both-false (ltb (length bytes) 16) _ (both-false (ltb 65536 (length bytes)) _ e .1) .0)
 
 none-true : (m l : Bool) → firstCause ((m, 10) ∷ (l, 11) ∷ []) ≡ 0 → (m ≡ false) × (l ≡ false)
 unfolding firstCause choose
@@ -110,17 +101,17 @@ module _ (bytes : List ℕ) (e : fileCause bytes ≡ 0) where
   pub well-formed : WellFormed bytes
   unfolding malformed tooLarge
   well-formed =
-      let f2 = second-false (ltb 65536 (length bytes)) _ right-form in
-      let f3 = second-false (ltb (length bytes) 16) _ f2 in
-      let f4 = second-false (ltb (offsetIn bytes) 16) _ f3 in
+      let f2 = both-false (ltb 65536 (length bytes)) _ right-form .1 in
+      let f3 = both-false (ltb (length bytes) 16) _ f2 .1 in
+      let f4 = both-false (ltb (offsetIn bytes) 16) _ f3 .1 in
       record {
-        short = ltb-false _ _ (first-false (ltb 65536 (length bytes)) _ right-form);
-        header = ltb-false _ _ (first-false (ltb (length bytes) 16) _ f2);
-        offset = ltb-false _ _ (first-false (ltb (offsetIn bytes) 16) _ f3);
-        inside = ltb-false _ _ (first-false (ltb (length bytes) (placeOf bytes (countIn bytes))) _ f4);
-        right = second-false (ltb (length bytes) (placeOf bytes (countIn bytes))) _ f4;
-        levels = ltb-false _ _ (first-false (ltb 6 (settingsIn bytes .levels)) _ right-size);
-        clients = ltb-false _ _ (second-false (ltb 6 (settingsIn bytes .levels)) _ right-size);
+        short = ltb-false _ _ (both-false (ltb 65536 (length bytes)) _ right-form .0);
+        header = ltb-false _ _ (both-false (ltb (length bytes) 16) _ f2 .0);
+        offset = ltb-false _ _ (both-false (ltb (offsetIn bytes) 16) _ f3 .0);
+        inside = ltb-false _ _ (both-false (ltb (length bytes) (placeOf bytes (countIn bytes))) _ f4 .0);
+        right = both-false (ltb (length bytes) (placeOf bytes (countIn bytes))) _ f4 .1;
+        levels = ltb-false _ _ (both-false (ltb 6 (settingsIn bytes .levels)) _ right-size .0);
+        clients = ltb-false _ _ (both-false (ltb 6 (settingsIn bytes .levels)) _ right-size .1);
       }
 
 -- the bytes of each call are inside

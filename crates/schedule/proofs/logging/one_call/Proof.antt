@@ -9,7 +9,7 @@ use Rattle.lock.specs.Types.{idleWith}
 use Rattle.lock.specs.Table.{clientOf}
 use Rattle.table.specs.Promises.{lent, callOf}
 use Rattle.schedule.specs.FormatLaws.{call-read}
-use Rattle.schedule.specs.Lines.{client-named}
+use Rattle.table.specs.ByValueLaws.{client-of-kind}
 use Rattle.schedule.specs.Running.{made-one}
 use borrow.Author.Needs.{needs}
 use Rattle.schedule.proofs.logging.one_call.Statement.{statement}
@@ -39,7 +39,7 @@ returns c =
     let read = c .before .before .before .before .before .before .before .before .before .before .before .before .call-in .ensures in
     let x = c .before .before .before .before .before .before .before .before .before .before .before .before .call-in .result in
     let named = call-read _ _ _ x read in
-    let whose = sym (client-named (x .kind) (x .client) (x .a) (x .b)) ∙ ap clientOf named in (
+    let whose = sym (client-of-kind (x .kind) (x .client) (x .a) (x .b)) ∙ ap clientOf named in (
       made-one _ _ _ _ _ _ _ _ (callOf (x .kind) (x .client) (x .a) (x .b)) (lent (take (c .before .before .before .before .before .before .before .before .before .before .before .before .before .before .before .before .args .run .clients) (c .before .before .before .before .before .before .before .before .before .before .before .before .before .before .before .before .args .run .shelf .records)) (now (c .before .before .before .before .before .before .before .before .before .before .before .before .before .before .before .before .args .words)) (x .last)) (c .before .before .before .before .before .before .before .before .before .act-front .result .answer) (take (c .before .before .before .before .before .before .before .before .before .before .before .before .before .before .before .before .args .run .clients) (c .before .before .before .before .before .before .before .before .before .act-front .result .shelf .records)) (c .before .before .before .before .before .before .before .before .before .act-front .last .1 .1 .0) (c .before .before .before .before .record-of .result) named (ap (λ (l : ℕ). lent (take (c .before .before .before .before .before .before .before .before .before .before .before .before .before .before .before .before .args .run .clients) (c .before .before .before .before .before .before .before .before .before .before .before .before .before .before .before .before .args .run .shelf .records)) (now (c .before .before .before .before .before .before .before .before .before .before .before .before .before .before .before .before .args .words)) l) (read .clock)) (c .before .before .before .before .before .before .before .before .before .act-front .ensures .0) (c .before .before .before .before .before .before .before .before .before .act-front .ensures .1 .0) (c .before .before .before .before .before .before .before .before .before .act-front .ensures .1 .1 .1 .1)
           (c .before .before .before .before .record-of .ensures ∙ ap (λ (i : ℕ). getD (take (c .before .before .before .before .before .before .before .before .before .before .before .before .before .before .before .before .args .run .clients) (c .before .before .before .before .before .before .before .before .before .act-front .result .shelf .records)) i (idleWith 0)) whose) (c .before .before .put-line .ensures .0),
       (refl, c .before .before .put-line .ensures .1),

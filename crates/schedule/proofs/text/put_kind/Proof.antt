@@ -1,7 +1,7 @@
 -- `schedule::text::put_kind` meets its contract. Assumes nothing.
 use mathlib.Core.Path.{sym, ap}
 use Rattle.schedule.specs.Appended.{restated}
-use Rattle.schedule.specs.Lines.{request-named, step-named, release-named, cancel-named}
+use Rattle.table.specs.ByValueLaws.{kind-request, kind-step, kind-release, kind-cancel}
 use Rattle.schedule.specs.Log.{kindText}
 use borrow.Author.Needs.{needs}
 use Rattle.schedule.proofs.text.put_kind.Statement.{statement}
@@ -20,7 +20,7 @@ returns : tie.Need-returns
 unfolding kindText
 returns c =
     let s = c .before .before .before .before .before .before .before .before in (
-      restated (sym (ap kindText (request-named (s .args .call .kind) (s .args .call .client) (s .args .call .a) (s .args .call .b)
+      restated (sym (ap kindText (kind-request (s .args .call .kind) (s .args .call .client) (s .args .call .a) (s .args .call .b)
           (c .before .before .before .before .before .if1 .taken))))
           (c .before .before .put-bytes .ensures),
       search needs,
@@ -39,8 +39,8 @@ returns-2 : tie.Need-returns-2
 unfolding kindText
 returns-2 c =
     let s = c .before .before .before .before .before .before .before .before .before .before in (
-      restated (sym (ap kindText (step-named (s .args .call .kind) (s .args .call .client) (s .args .call .a) (s .args .call .b)
-          (c .before .before .before .before .before .before .before .if1 .left) (c .before .before .before .before .before .if2 .taken))))
+      restated (sym (ap kindText (kind-step (s .args .call .kind) (s .args .call .client) (s .args .call .a) (s .args .call .b)
+          (c .before .before .before .before .before .if2 .taken))))
           (c .before .before .put-bytes2 .ensures),
       search needs,
     )
@@ -58,8 +58,8 @@ returns-3 : tie.Need-returns-3
 unfolding kindText
 returns-3 c =
     let s = c .before .before .before .before .before .before .before .before .before .before .before .before in (
-      restated (sym (ap kindText (release-named (s .args .call .kind) (s .args .call .client) (s .args .call .a) (s .args .call .b)
-          (c .before .before .before .before .before .before .before .before .before .if1 .left) (c .before .before .before .before .before .before .before .if2 .left) (c .before .before .before .before .before .if3 .taken))))
+      restated (sym (ap kindText (kind-release (s .args .call .kind) (s .args .call .client) (s .args .call .a) (s .args .call .b)
+          (c .before .before .before .before .before .if3 .taken))))
           (c .before .before .put-bytes3 .ensures),
       search needs,
     )
@@ -77,7 +77,7 @@ returns-4 : tie.Need-returns-4
 unfolding kindText
 returns-4 c =
     let s = c .before .before .before .before .before .before .before .before .before .before .before .before in (
-      restated (sym (ap kindText (cancel-named (s .args .call .kind) (s .args .call .client) (s .args .call .a) (s .args .call .b)
+      restated (sym (ap kindText (kind-cancel (s .args .call .kind) (s .args .call .client) (s .args .call .a) (s .args .call .b)
           (c .before .before .before .before .before .before .before .before .before .if1 .left) (c .before .before .before .before .before .before .before .if2 .left) (c .before .before .before .before .before .if3 .left))))
           (c .before .before .put-bytes4 .ensures),
       search needs,

@@ -1,6 +1,7 @@
 -- `schedule::text::put_line` meets its contract. Assumes nothing.
 use Rattle.schedule.specs.Appended.{joined, restated}
-use Rattle.schedule.specs.Lines.{client-named, line-of}
+use Rattle.schedule.specs.Lines.{line-of}
+use Rattle.table.specs.ByValueLaws.{client-of-kind}
 use native.Mathlib.Omega.{arith}
 use borrow.Author.Needs.{needs}
 use Rattle.schedule.proofs.text.put_line.Statement.{statement}
@@ -31,7 +32,7 @@ returns : tie.Need-returns
 returns c =
     let s = c .before .before .before .before .before .before .before .before .before .before .before .before .before .before .before .before .before .before .before .before .before .before in (
       (λ after p q t.
-          restated (line-of _ _ _ _ _ _ _ after (client-named (s .args .call .kind) (s .args .call .client) (s .args .call .a) (s .args .call .b)) p q t)
+          restated (line-of _ _ _ _ _ _ _ after (client-of-kind (s .args .call .kind) (s .args .call .client) (s .args .call .a) (s .args .call .b)) p q t)
           (joined (c .before .before .before .before .before .before .before .before .before .before .before .before .before .before .before .before .before .before .before .put-decimal .ensures .0)
           (joined (c .before .before .before .before .before .before .before .before .before .before .before .before .before .before .put-bytes .ensures)
           (joined (c .before .before .before .before .before .before .before .before .before .before .put-kind .ensures .0)
