@@ -5,44 +5,7 @@ use crate::plain::least_cover;
 use crate::readable::{nodes, DISTANCES, LEVELS};
 use std::slice::from_raw_parts_mut;
 
-/// H, m and wait T.
-#[repr(C)]
-#[derive(Clone, Copy)]
-pub struct Settings {
-    pub levels: u64,
-    pub distance: u64,
-    pub wait: u64,
-}
-
-#[repr(C)]
-#[derive(Clone, Copy, Debug, Default, PartialEq)]
-pub struct Record {
-    pub phase: u64,
-    pub outcome: u64,
-    pub left: u64,
-    pub right: u64,
-    pub first: u64,
-    pub second: u64,
-    pub current: u64,
-    pub giving: u64,
-    pub grip: u64,
-    pub ticket: u64,
-    pub place: u64,
-    pub notices: u64,
-    pub t1: u64,
-    pub t0: u64,
-}
-
-/// Request: a = l, b = r. Step: a = clock. `last` is the last clock.
-#[repr(C)]
-#[derive(Clone, Copy, Default)]
-pub struct Call {
-    pub kind: u64,
-    pub client: u64,
-    pub a: u64,
-    pub b: u64,
-    pub last: u64,
-}
+pub use crate::nolthewyr::{Call, Record, Settings};
 
 #[repr(C)]
 #[derive(Clone, Copy, Debug, PartialEq)]

@@ -7,6 +7,8 @@ mod cases;
 mod inputs;
 mod kinds;
 mod lock;
+#[path = "../include/nolthewyr.rs"]
+mod nolthewyr;
 mod phases;
 mod plain;
 mod readable;

@@ -6,13 +6,7 @@ use std::slice::from_raw_parts_mut;
 
 const MOST_CLIENTS: usize = 32767;
 
-/// The number (0 accepted) and the clock after the call.
-#[repr(C)]
-#[derive(Clone, Copy, Debug, PartialEq)]
-pub struct Answer {
-    pub number: u64,
-    pub clock: u64,
-}
+pub use crate::nolthewyr::Answer;
 
 /// Causes 1 to 3, or 0.
 fn opening_cause(settings: &Settings, count: usize, clients: usize) -> u64 {

@@ -9,6 +9,8 @@ mod inputs;
 mod lent;
 #[allow(dead_code)]
 mod lock;
+#[path = "../include/nolthewyr.rs"]
+mod nolthewyr;
 #[allow(dead_code)]
 mod phases;
 #[allow(dead_code)]
