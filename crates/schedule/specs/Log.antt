@@ -86,7 +86,7 @@ logOf bytes = choose (eqb (fileCause bytes) 0) (logOfCalls (settingsIn bytes) (c
 abbrev pub room : ℕ
 room = 400000
 
--- of bytes lent with room enough the first `count` are the log afterwards; with less room nothing is done
+-- of bytes lent with room enough the first `count` are the log afterwards, and what stands behind them is free; with less room nothing is done
 pub record Logged (bytes lent after : List ℕ) (count : ℕ) : Type 0 where
   pub text : room ≤ length lent → take count after ≡ logOf bytes
   pub short : length lent < room → (count ≡ 0) × (after ≡ lent)
