@@ -10,11 +10,16 @@ use Rattle.base.specs.Sum.{sumBy, sum-at, sum-le, getD-past}
 use Rattle.word.specs.Word.{occ, dcnt, dmax}
 use Rattle.word.specs.Fields.{field-lt}
 use Rattle.tree.specs.Tree.{level, Node}
+use Rattle.tree.specs.Lists.{notifyList}
+use Rattle.tree.specs.Notify.{notifyCount, notify-count, notify-place, notify-node, notify-higher}
+use Rattle.tree.specs.Code.{bounded}
 use Rattle.lock.specs.declared.Record.{Record}
 use Rattle.lock.specs.declared.Settings.{Settings}
 use Rattle.lock.specs.Types.{wordAt, written, idleWith}
 use Rattle.lock.specs.Pieces.{few-pieces}
 use Rattle.lock.specs.Table.{State, recordAt}
+use Rattle.lock.specs.Active.{Settled}
+use Rattle.lock.specs.Placed.{widen}
 use Rattle.lock.specs.Owned.{owns, ownsNotice}
 use Rattle.lock.specs.Fit.{Live, Fit, notice-le, live-apart, live-noticed, fit-later}
 use Rattle.lock.specs.Effect.{Same, Effect, quiet}
@@ -89,3 +94,18 @@ module _ (s : Settings) (st : State) (inv : Invariant s st) (x : ℕ) (v : Node 
       let all : sumBy (ownsNotice s x) (st .records) ≡ 0
       = omega (arith, inv .inner x v inner .notices, field-lt 16 16 w, sum-le (ownsNotice s x) 2 nobody (st .records) notice-few, inv .few) in
       past (ownsNotice s x) (empty-notice s nobody (idle-empty 0) x) (λ d b. omega (arith, all, sum-at (ownsNotice s x) (st .records) d nobody b))
+
+-- ---- the nodes that a piece notifies
+
+-- each is an inner node of the tree
+pub notified-inner : (s : Settings) → Settled s → (n : ℕ) → Node (s .levels) n → (i : ℕ) → i < length (notifyList (s .distance) n)
+    → Node (s .levels) (getD (notifyList (s .distance) n) i 0) × (level (getD (notifyList (s .distance) n) i 0) ≢ s .levels)
+notified-inner s g n v i b =
+    let m = s .distance in
+    let y = bounded m n (g .distance-some) (g .distance-most) (widen (s .levels) n (g .levels-most) v) in
+    let l : i < notifyCount m (level n) = omega (arith, notify-count m n y) in
+    let at = notify-place m n y i l in
+    let is = notify-node m n y i l (v .some) in
+    let higher = notify-higher m (level n) i y l in
+    let lx = ap level at in
+    (record { some = omega (arith, at, is .0); inside = omega (arith, is .1, v .inside) }, λ f. omega (arith, is .1, v .inside))

@@ -10,15 +10,12 @@ use Rattle.base.specs.Choice.{on-choose}
 use Rattle.word.specs.Word.{addDmax}
 use Rattle.tree.specs.Tree.{level, Node}
 use Rattle.tree.specs.Lists.{notifyList}
-use Rattle.tree.specs.Notify.{notifyCount, notify-count, notify-place, notify-node, notify-higher}
 use Rattle.tree.specs.Level.{level-pos}
-use Rattle.tree.specs.Code.{bounded}
 use Rattle.lock.specs.declared.Record.{Record}
 use Rattle.lock.specs.declared.Settings.{Settings}
 use Rattle.lock.specs.Types.{pieces, pieceAt, currentPiece, isLeaf, toPhase, withOutcome, withPlace, withNotices}
 use Rattle.lock.specs.Steps.{taken, allNotified, noticeGiven}
 use Rattle.lock.specs.Active.{Settled}
-use Rattle.lock.specs.Placed.{widen}
 use Rattle.lock.specs.Ready.{Ready}
 use Rattle.lock.specs.Fit.{Live, live-apart}
 use Rattle.lock.specs.Effect.{Same, Effect, notified, notices-then}
@@ -26,7 +23,7 @@ use Rattle.lock.specs.Kept.{nobody}
 use Rattle.lock.specs.Stage.{passing, stage-current, passing-notify, passing-none, checked-none}
 use Rattle.lock.specs.Forward.{Kin, kin, onward-unreturned, entering-unreturned, forward-same, forward-notices, forward-notified}
 use Rattle.lock.specs.Onward.{live-kin, onward, timely-returning}
-use Rattle.lock.specs.Fine.{Fine}
+use Rattle.lock.specs.Fine.{Fine, notified-inner}
 use Rattle.lock.specs.Taking.{taken-fine}
 
 module _ (s : Settings) (rs : List Record) (last now : ℕ) (later : last ≤ now) (r : Record) (g : Settled s) (rd : Ready s last r) (lv : Live s last r) (w : ℕ) (e : r .phase ≡ 6) where
@@ -42,17 +39,8 @@ module _ (s : Settings) (rs : List Record) (last now : ℕ) (later : last ≤ no
   listed : r .place < length (notifyList m n)
   listed = rd .active .notifying e
 
-  -- the notified node is an inner node of the tree
-  pub notified-node : Node (s .levels) x × (level x ≢ s .levels)
-  notified-node =
-      let node = live-apart s last r lv .node (r .current) (lv .exists) in
-      let y = bounded m n (g .distance-some) (g .distance-most) (widen (s .levels) n (g .levels-most) node) in
-      let l : r .place < notifyCount m (level n) = omega (arith, listed, notify-count m n y) in
-      let at = notify-place m n y (r .place) l in
-      let is = notify-node m n y (r .place) l (node .some) in
-      let higher = notify-higher m (level n) (r .place) y l in
-      let lx = ap level at in
-      (record { some = omega (arith, at, is .0); inside = omega (arith, is .1, node .inside) }, λ f. omega (arith, is .1, node .inside))
+  notified-node : Node (s .levels) x × (level x ≢ s .levels)
+  notified-node = notified-inner s g n (live-apart s last r lv .node (r .current) (lv .exists)) (r .place) listed
 
   ahead : r .phase ≢ 10
   ahead f = omega arith

@@ -12,15 +12,13 @@ use Rattle.base.specs.Choice.{on-choose, by-lt, by-eq}
 use Rattle.word.specs.Word.{tcnt, addTcnt, addDcnt, giveBits, returnOcc}
 use Rattle.tree.specs.Tree.{left, level, Node}
 use Rattle.tree.specs.Lists.{notifyList}
-use Rattle.tree.specs.Notify.{notifyCount, notify-count, notify-place, notify-node, notify-higher}
-use Rattle.tree.specs.Code.{bounded}
 use Rattle.lock.specs.declared.Moved.{Moved}
 use Rattle.lock.specs.declared.Record.{Record}
 use Rattle.lock.specs.declared.Settings.{Settings}
 use Rattle.lock.specs.Types.{returning, pieces, pieceAt, givenPiece, isLeaf, gripOf, noticesOf, change, withGiving, withGrip, withPlace, idleWith}
 use Rattle.lock.specs.Steps.{touchedIn, wordReturned, pieceReturned, turnReturned, wanted, leaves, returnBits, returnInner, giveBack}
 use Rattle.lock.specs.Active.{Settled}
-use Rattle.lock.specs.Placed.{clipped, widen, placed, given-notices}
+use Rattle.lock.specs.Placed.{clipped, placed, given-notices}
 use Rattle.lock.specs.Pieces.{grip-before, grip-current}
 use Rattle.lock.specs.MoveLaws.{touched-own, touched-notice}
 use Rattle.lock.specs.ReturnLaws.{own-leaf, own-inner, own-notice, inner-occ, inner-turn, inner-ticket}
@@ -33,7 +31,7 @@ use Rattle.lock.specs.Forward.{kin}
 use Rattle.lock.specs.Backward.{own-returned, notice-returned, notice-back, word-returned-same, turn-returned}
 use Rattle.lock.specs.Onward.{live-kin, timely-returning, timely-first}
 use Rattle.lock.specs.Claiming.{test-true}
-use Rattle.lock.specs.Fine.{Fine, fine-stay}
+use Rattle.lock.specs.Fine.{Fine, fine-stay, notified-inner}
 
 module _ (s : Settings) (rs : List Record) (last now : ℕ) (later : last ≤ now) (r : Record) (g : Settled s) (rd : Ready s last r) (lv : Live s last r) (w : ℕ) (e : r .phase ≡ 10) where
   abbrev n : ℕ
@@ -133,15 +131,7 @@ module _ (s : Settings) (rs : List Record) (last now : ℕ) (later : last ≤ no
     x = getD (notifyList m n) (r .place - 1) 0
 
     notice-node : Node (s .levels) x × (level x ≢ s .levels)
-    notice-node =
-        let y = bounded m n (g .distance-some) (g .distance-most) (widen (s .levels) n (g .levels-most) node) in
-        let b = given-notices s r (placed s last r (rd .active)) in
-        let l : r .place - 1 < notifyCount m (level n) = omega (arith, notify-count m n y, rd .active .returning e) in
-        let at = notify-place m n y (r .place - 1) l in
-        let is = notify-node m n y (r .place - 1) l (node .some) in
-        let higher = notify-higher m (level n) (r .place - 1) y l in
-        let lx = ap level at in
-        (record { some = omega (arith, at, is .0); inside = omega (arith, is .1, node .inside) }, λ f. omega (arith, is .1, node .inside))
+    notice-node = notified-inner s g n node (r .place - 1) (omega (arith, given-notices s r (placed s last r (rd .active)), rd .active .returning e))
 
     pub notice-fine : Fine s rs now r x w (addDcnt 1 w) (wordReturned s r)
     notice-fine =
