@@ -110,8 +110,8 @@ module _ (s : Settings) (st : State) (c : ℕ) where
       → (unreadable s (st .clock) (recordAt st c) ≡ false) × (recordAt st c .phase ≡ 0 → ⊥) × (recordAt st c .phase ≡ 9 → ⊥) × (recordAt st c .phase ≡ 10 → ⊥)
   unfolding ownTests cancelTests
   cancel-tested e =
-      let u = readable ((eqb (r .phase) 0 || (eqb (r .phase) 9 || eqb (r .phase) 10), 8) ∷ []) e in
-      let p = test-passed (eqb (r .phase) 0 || (eqb (r .phase) 9 || eqb (r .phase) 10)) 8 [] (omega arith) (u .1) .0 in
-      let x = both-false (eqb (r .phase) 0) (eqb (r .phase) 9 || eqb (r .phase) 10) p in
-      let y = both-false (eqb (r .phase) 9) (eqb (r .phase) 10) (x .1) in
-      (u .0, eqb-false (r .phase) 0 (x .0), eqb-false (r .phase) 9 (y .0), eqb-false (r .phase) 10 (y .1))
+      let u = readable ((eqb (r .phase) 0 || eqb (r .phase) 9 || eqb (r .phase) 10, 8) ∷ []) e in
+      let p = test-passed (eqb (r .phase) 0 || eqb (r .phase) 9 || eqb (r .phase) 10) 8 [] (omega arith) (u .1) .0 in
+      let x = both-false _ (eqb (r .phase) 10) p in
+      let y = both-false (eqb (r .phase) 0) (eqb (r .phase) 9) (x .0) in
+      (u .0, eqb-false (r .phase) 0 (y .0), eqb-false (r .phase) 9 (y .1), eqb-false (r .phase) 10 (x .1))

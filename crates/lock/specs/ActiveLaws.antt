@@ -1,7 +1,7 @@
 -- Laws: what is known of settings within their ranges, and of a readable record. Assumes nothing.
 use mathlib.Core.Path.{_≡_, refl, sym, ap, ap₂, _∙_, subst}
 use mathlib.Core.Logic.{inl, inr, ⊎-elim}
-use mathlib.Core.Bool.{Bool, true, false, not, _||_}
+use mathlib.Core.Bool.{Bool, true, false, not, _&&_, _||_}
 use mathlib.Core.List.{List, [], _∷_}
 use Prim.Native.Nat.{ℕ, zero, suc, _-_, _≤_, _<_, min}
 use native.Mathlib.Omega.{arith}
@@ -26,7 +26,7 @@ use Rattle.lock.specs.declared.Record.{Record}
 use Rattle.lock.specs.declared.Settings.{Settings}
 use Rattle.lock.specs.Types.{phaseOf, pieces, pieceAt, currentPiece, isLeaf, isRoot, idleWith}
 use Rattle.lock.specs.Pieces.{few-pieces}
-use Rattle.lock.specs.Readable.{numberTooLarge, idleFilled, notCovered, noCurrent, ticketTooLarge, listLength, placePast, noticesWrong, timeAhead, phaseElsewhere, heldEarly, outcomeWrong, gripLacking, givingWrong, unreadable}
+use Rattle.lock.specs.Readable.{numberTooLarge, idleFilled, notCovered, noCurrent, ticketTooLarge, listLength, placePast, noticesWrong, timeAhead, phaseElsewhere, heldEarly, outcomeWrong, gripLacking, givingWrong, unreadable, fieldsWrong, differ}
 use Rattle.lock.specs.Active.{Settled, Active}
 use Rattle.lock.specs.ReadableLaws.{Begun, pastList, place-is, list-climbing, list-notifying, list-checking, list-returning, elsewhere-leaf, elsewhere-root}
 use Rattle.lock.specs.Calls.{settingsOutside}
@@ -41,17 +41,17 @@ both-false false b e = (refl, e)
 pub settled : (s : Settings) → settingsOutside s ≡ false → Settled s
 unfolding settingsOutside levelsOutside
 settled s e =
-    let a = both-false (levelsOutside (s .levels)) _ e in
+    let d = both-false _ (ltb 4294967295 (s .wait)) e in
+    let c = both-false _ (ltb (s .wait) 1) (d .0) in
+    let b = both-false _ (ltb 4 (s .distance)) (c .0) in
+    let a = both-false (levelsOutside (s .levels)) (ltb (s .distance) 1) (b .0) in
     let l = both-false (ltb (s .levels) 2) (ltb 12 (s .levels)) (a .0) in
-    let b = both-false (ltb (s .distance) 1) _ (a .1) in
-    let c = both-false (ltb 4 (s .distance)) _ (b .1) in
-    let d = both-false (ltb (s .wait) 1) (ltb 4294967295 (s .wait)) (c .1) in
     record {
       levels-some = ltb-false (s .levels) 2 (l .0);
       levels-most = ltb-false 12 (s .levels) (l .1);
-      distance-some = ltb-false (s .distance) 1 (b .0);
-      distance-most = ltb-false 4 (s .distance) (c .0);
-      wait-some = ltb-false (s .wait) 1 (d .0);
+      distance-some = ltb-false (s .distance) 1 (a .1);
+      distance-most = ltb-false 4 (s .distance) (b .1);
+      wait-some = ltb-false (s .wait) 1 (c .1);
       wait-most = ltb-false 4294967295 (s .wait) (d .1);
     }
 
@@ -82,15 +82,15 @@ module _ (s : Settings) (r : Record) where
   covered v e =
       let h = s .levels in
       let c = leastCover 2 h (r .left) (r .right) in
-      let a = both-false (windowOutside h (r .left) (r .right)) _ e in
+      let b = both-false _ (not (eqb (r .second) (getD c 1 0))) e in
+      let a = both-false (windowOutside h (r .left) (r .right)) (not (eqb (r .first) (getD c 0 0))) (b .0) in
       let w = both-false (leb (r .right) (r .left)) (ltb (units h) (r .right)) (a .0) in
-      let b = both-false (not (eqb (r .first) (getD c 0 0))) (not (eqb (r .second) (getD c 1 0))) (a .1) in
       let some = leb-false (r .right) (r .left) (w .0) in
       let fits = ltb-false (units h) (r .right) (w .1) in
       let least = least-cover h (r .left) (r .right) (omega arith) some fits 2 (omega arith) in
       let held = least .covers .holds (r .left) (omega arith) some in
       let is : pieces r ≡ c = pieces-are r c (held .node) (held .among) (least .few) (λ m i. least .covers .meets m i .node .some)
-      (eqb-true (r .first) (getD c 0 0) (not-false _ (b .0))) (eqb-true (r .second) (getD c 1 0) (not-false _ (b .1))) in
+      (eqb-true (r .first) (getD c 0 0) (not-false _ (a .1))) (eqb-true (r .second) (getD c 1 0) (not-false _ (b .1))) in
       record {
         window = record { levels = omega arith; most = v .levels-most; some = some; fits = fits };
         cover = is;
@@ -121,32 +121,32 @@ pub record Passed (s : Settings) (last : ℕ) (r : Record) : Type 0 where
   pub giving : givingWrong r ≡ false
 
 pub passed : (s : Settings) (last : ℕ) (r : Record) → unreadable s last r ≡ false → (r .phase ≡ 0 → ⊥) → Passed s last r
-unfolding unreadable
+unfolding unreadable fieldsWrong
 passed s last r e d =
     let a = both-false (numberTooLarge r) _ e in
-    let b = both-false (notCovered s r) _ (sym (choose-ne (r .phase) 0 (idleFilled r) _ d) ∙ a .1) in
-    let c = both-false (noCurrent r) _ (b .1) in
-    let t = both-false (ticketTooLarge r) _ (c .1) in
-    let p = both-false (placePast s r) _ (t .1) in
-    let n = both-false (noticesWrong s r) _ (p .1) in
-    let m = both-false (timeAhead last r) _ (n .1) in
-    let f = both-false (phaseElsewhere s r (phaseOf (r .phase))) _ (m .1) in
-    let h = both-false (heldEarly r) _ (f .1) in
-    let o = both-false (outcomeWrong r) _ (h .1) in
-    let g = both-false (gripLacking s r (phaseOf (r .phase))) (givingWrong r) (o .1) in
+    let b = both-false _ (fieldsWrong s last r) (sym (choose-ne (r .phase) 0 (idleFilled r) _ d) ∙ a .1) in
+    let c = both-false (notCovered s r) (noCurrent r) (b .0) in
+    let v = both-false _ (givingWrong r) (b .1) in
+    let g = both-false _ (gripLacking s r (phaseOf (r .phase))) (v .0) in
+    let o = both-false _ (outcomeWrong r) (g .0) in
+    let h = both-false _ (heldEarly r) (o .0) in
+    let f = both-false _ (phaseElsewhere s r (phaseOf (r .phase))) (h .0) in
+    let m = both-false _ (timeAhead last r) (f .0) in
+    let n = both-false _ (noticesWrong s r) (m .0) in
+    let p = both-false (ticketTooLarge r) (placePast s r) (n .0) in
     record {
       numbers = a .0;
-      window = b .0;
-      current = c .0;
-      own-ticket = t .0;
-      place = p .0;
-      notices = n .0;
-      times = m .0;
-      phase = f .0;
-      held = h .0;
-      outcome = o .0;
-      grip = g .0;
-      giving = g .1;
+      window = c .0;
+      current = c .1;
+      own-ticket = p .0;
+      place = p .1;
+      notices = n .1;
+      times = m .1;
+      phase = f .1;
+      held = h .1;
+      outcome = o .1;
+      grip = g .1;
+      giving = v .1;
     }
 
 -- ---- the places of its lists
@@ -178,7 +178,7 @@ active s last r v u d =
     let n = currentPiece r in
     let node = c .meets (r .current) x .node in
     let inner : Node 12 n = record { some = node .some; inside = omega arith } in
-    let counts = both-false (ltb (length (notifyList (s .distance) n)) (r .notices)) _ (k .notices) in
+    let counts = both-false (ltb (length (notifyList (s .distance) n)) (r .notices)) _ (both-false _ (eqb (r .phase) 6 && differ (r .notices) (r .place)) (k .notices) .0) in
     let times = both-false (ltb last (r .t1)) (ltb last (r .t0)) (k .times) in
     let giving = both-false (ltb (r .current) (r .giving)) _ (k .giving) in
     let numbers = both-false (ltb 10 (r .phase)) (ltb 3 (r .outcome)) (k .numbers) in
@@ -216,30 +216,30 @@ pub idle-readable : (s : Settings) (last : ℕ) (r : Record) → unreadable s la
 unfolding unreadable idleFilled
 idle-readable s last r u z =
     let a = both-false (numberTooLarge r) _ u in
-    let l = both-false (ltb 0 (r .left)) _ (sym (choose-eq (r .phase) 0 (idleFilled r) _ z) ∙ a .1) in
-    let m = both-false (ltb 0 (r .right)) _ (l .1) in
-    let f = both-false (ltb 0 (r .first)) _ (m .1) in
-    let g = both-false (ltb 0 (r .second)) _ (f .1) in
-    let c = both-false (ltb 0 (r .current)) _ (g .1) in
-    let v = both-false (ltb 0 (r .giving)) _ (c .1) in
-    let h = both-false (ltb 0 (r .grip)) _ (v .1) in
-    let t = both-false (ltb 0 (r .ticket)) _ (h .1) in
-    let p = both-false (ltb 0 (r .place)) _ (t .1) in
-    let n = both-false (ltb 0 (r .notices)) _ (p .1) in
-    let k = both-false (ltb 0 (r .t1)) (ltb 0 (r .t0)) (n .1) in
+    let is-t0 = both-false _ (ltb 0 (r .t0)) (sym (choose-eq (r .phase) 0 (idleFilled r) _ z) ∙ a .1) in
+    let is-t1 = both-false _ (ltb 0 (r .t1)) (is-t0 .0) in
+    let is-notices = both-false _ (ltb 0 (r .notices)) (is-t1 .0) in
+    let is-place = both-false _ (ltb 0 (r .place)) (is-notices .0) in
+    let is-ticket = both-false _ (ltb 0 (r .ticket)) (is-place .0) in
+    let is-grip = both-false _ (ltb 0 (r .grip)) (is-ticket .0) in
+    let is-giving = both-false _ (ltb 0 (r .giving)) (is-grip .0) in
+    let is-current = both-false _ (ltb 0 (r .current)) (is-giving .0) in
+    let is-second = both-false _ (ltb 0 (r .second)) (is-current .0) in
+    let is-first = both-false _ (ltb 0 (r .first)) (is-second .0) in
+    let is-right = both-false (ltb 0 (r .left)) (ltb 0 (r .right)) (is-first .0) in
     λ i. record {
       phase = z i;
       outcome = r .outcome;
-      left = none (r .left) (l .0) i;
-      right = none (r .right) (m .0) i;
-      first = none (r .first) (f .0) i;
-      second = none (r .second) (g .0) i;
-      current = none (r .current) (c .0) i;
-      giving = none (r .giving) (v .0) i;
-      grip = none (r .grip) (h .0) i;
-      ticket = none (r .ticket) (t .0) i;
-      place = none (r .place) (p .0) i;
-      notices = none (r .notices) (n .0) i;
-      t1 = none (r .t1) (k .0) i;
-      t0 = none (r .t0) (k .1) i;
+      left = none (r .left) (is-right .0) i;
+      right = none (r .right) (is-right .1) i;
+      first = none (r .first) (is-first .1) i;
+      second = none (r .second) (is-second .1) i;
+      current = none (r .current) (is-current .1) i;
+      giving = none (r .giving) (is-giving .1) i;
+      grip = none (r .grip) (is-grip .1) i;
+      ticket = none (r .ticket) (is-ticket .1) i;
+      place = none (r .place) (is-place .1) i;
+      notices = none (r .notices) (is-notices .1) i;
+      t1 = none (r .t1) (is-t1 .1) i;
+      t0 = none (r .t0) (is-t0 .1) i;
     }

@@ -27,7 +27,7 @@ firstCause (test ∷ tests) = choose (test .0) (test .1) (firstCause tests)
 
 -- "H, m or T outside its range": "m (1..4)", "T (1..2^32 - 1)"
 unfoldable pub settingsOutside : Settings → Bool
-settingsOutside s = levelsOutside (s .levels) || (ltb (s .distance) 1 || (ltb 4 (s .distance) || (ltb (s .wait) 1 || ltb 4294967295 (s .wait))))
+settingsOutside s = levelsOutside (s .levels) || ltb (s .distance) 1 || ltb 4 (s .distance) || ltb (s .wait) 1 || ltb 4294967295 (s .wait)
 
 -- 1 and 2, "word count not the tree's"
 unfoldable pub treeTests : Settings → ℕ → Tests
@@ -55,7 +55,7 @@ releaseTests s last r = (unreadable s last r, 6) ∷ (differ (r .phase) 9, 8) �
 
 -- cancel: 6, 8, "cancel in 0, 9 or 10"
 unfoldable pub cancelTests : Settings → ℕ → Record → Tests
-cancelTests s last r = (unreadable s last r, 6) ∷ (eqb (r .phase) 0 || (eqb (r .phase) 9 || eqb (r .phase) 10), 8) ∷ []
+cancelTests s last r = (unreadable s last r, 6) ∷ (eqb (r .phase) 0 || eqb (r .phase) 9 || eqb (r .phase) 10, 8) ∷ []
 
 -- ---- what an accepted call makes of the record
 

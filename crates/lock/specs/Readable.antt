@@ -25,15 +25,15 @@ numberTooLarge r = ltb 10 (r .phase) || ltb 3 (r .outcome)
 -- "idle with a nonzero field beside the outcome"
 unfoldable pub idleFilled : Record → Bool
 idleFilled r =
-    nonzero (r .left) || (nonzero (r .right) || (nonzero (r .first) || (nonzero (r .second) || (nonzero (r .current) || (nonzero (r .giving)
-    || (nonzero (r .grip) || (nonzero (r .ticket) || (nonzero (r .place) || (nonzero (r .notices) || (nonzero (r .t1) || nonzero (r .t0)))))))))))
+    nonzero (r .left) || nonzero (r .right) || nonzero (r .first) || nonzero (r .second) || nonzero (r .current) || nonzero (r .giving)
+    || nonzero (r .grip) || nonzero (r .ticket) || nonzero (r .place) || nonzero (r .notices) || nonzero (r .t1) || nonzero (r .t0)
 
 -- "a window outside the tree, pieces that aren't its cover"
 unfoldable pub notCovered : Settings → Record → Bool
 notCovered s r =
     windowOutside (s .levels) (r .left) (r .right)
-    || (differ (r .first) (getD (leastCover 2 (s .levels) (r .left) (r .right)) 0 0)
-    || differ (r .second) (getD (leastCover 2 (s .levels) (r .left) (r .right)) 1 0))
+    || differ (r .first) (getD (leastCover 2 (s .levels) (r .left) (r .right)) 0 0)
+    || differ (r .second) (getD (leastCover 2 (s .levels) (r .left) (r .right)) 1 0)
 
 -- "a current piece that doesn't exist"
 unfoldable pub noCurrent : Record → Bool
@@ -66,7 +66,8 @@ placePast s r = choose (eqb (listLength s r (phaseOf (r .phase))) 0) (nonzero (r
 unfoldable pub noticesWrong : Settings → Record → Bool
 noticesWrong s r =
     ltb (length (notifyList (s .distance) (currentPiece r))) (r .notices)
-    || (nonzero (r .notices) && ltb (r .grip) 3 || eqb (r .phase) 6 && differ (r .notices) (r .place))
+    || nonzero (r .notices) && ltb (r .grip) 3
+    || eqb (r .phase) 6 && differ (r .notices) (r .place)
 
 -- "a noted time after the last clock"
 unfoldable pub timeAhead : ℕ → Record → Bool
@@ -118,9 +119,13 @@ gripLacking s r phase = lacksGrip (isLeaf s (currentPiece r)) (r .grip) phase
 unfoldable pub givingWrong : Record → Bool
 givingWrong r = ltb (r .current) (r .giving) || choose (eqb (r .phase) 10) (eqb (gripOf r (r .giving)) 0) (nonzero (r .giving))
 
+-- the clauses from the ticket on
+unfoldable pub fieldsWrong : Settings → ℕ → Record → Bool
+fieldsWrong s last r =
+    ticketTooLarge r || placePast s r || noticesWrong s r || timeAhead last r || phaseElsewhere s r (phaseOf (r .phase)) || heldEarly r || outcomeWrong r
+    || gripLacking s r (phaseOf (r .phase)) || givingWrong r
+
 unfoldable pub unreadable : Settings → ℕ → Record → Bool
 unreadable s last r =
     numberTooLarge r
-    || choose (eqb (r .phase) 0) (idleFilled r)
-    (notCovered s r || (noCurrent r || (ticketTooLarge r || (placePast s r || (noticesWrong s r || (timeAhead last r
-    || (phaseElsewhere s r (phaseOf (r .phase)) || (heldEarly r || (outcomeWrong r || (gripLacking s r (phaseOf (r .phase)) || givingWrong r))))))))))
+    || choose (eqb (r .phase) 0) (idleFilled r) (notCovered s r || noCurrent r || fieldsWrong s last r)

@@ -1,21 +1,20 @@
 -- Laws of the unreadable clauses, as the code meets them. Assumes nothing.
-use mathlib.Core.Path.{_≡_, refl, sym, ap, ap₂, _∙_, subst}
+use mathlib.Core.Path.{_≡_, refl, sym, ap, _∙_, subst}
 use mathlib.Core.Bool.{Bool, true, false, not, _&&_, _||_}
 use Prim.Native.Nat.{ℕ, suc, _≤_, _<_}
 use native.Mathlib.Omega.{arith}
-use borrow.Author.Tests.{lt-ltb, le-ltb, eq-eqb, ne-eqb}
+use borrow.Author.Tests.{eq-eqb, ne-eqb}
 use lib.Dec.{eqb, leb, ltb}
-use lib.ListN.{length, getD}
-use Rattle.base.specs.Choice.{choose, choose-eq, choose-ne, by-lt}
+use lib.ListN.{length}
+use Rattle.base.specs.Choice.{choose, choose-eq, choose-ne, by-eq}
 use Rattle.tree.specs.Tree.{Node}
 use Rattle.tree.specs.Lists.{ancestors, notifyList, checkList}
 use Rattle.cover.specs.declared.Answer.{Answer}
-use Rattle.cover.specs.Search.{leastCover}
 use Rattle.cover.specs.Answer.{windowOutside, answer}
 use Rattle.lock.specs.declared.Record.{Record}
 use Rattle.lock.specs.declared.Settings.{Settings}
-use Rattle.lock.specs.Types.{ticket, phaseOf, pieces, pieceAt, currentPiece, isLeaf, isRoot, noticesOf}
-use Rattle.lock.specs.Readable.{nonzero, differ, notCovered, ticketTooLarge, listLength, placePast, noticesWrong, timeAhead, phaseElsewhere, heldEarly, outcomeWrong, gripLacking, lacksGrip, givingWrong}
+use Rattle.lock.specs.Types.{phaseOf, pieces, pieceAt, currentPiece, isLeaf, isRoot, noticesOf}
+use Rattle.lock.specs.Readable.{nonzero, differ, notCovered, listLength, placePast, phaseElsewhere, lacksGrip}
 use Rattle.lock.specs.CoverLaws.{cover-refused, cover-inside, cover-first, cover-second}
 use Rattle.lock.specs.Phases.{on-phase}
 use Rattle.lock.specs.Active.{Settled}
@@ -32,6 +31,16 @@ true-later false b e = e
 pub next-test : (x a b : Bool) → a ≡ false → x ≡ b → x ≡ (a || b)
 next-test x a b e f = f ∙ ap (λ c. c || b) (sym e)
 
+pub one-true : (a b c : Bool) → a ≡ true → true ≡ (a || b || c)
+one-true a b c e = ap (λ d. d || b || c) (sym e)
+
+-- a choice between two tests, joined as the code does it
+pub choose-tests : (b x y : Bool) → ((b && x) || (not b && y)) ≡ choose b x y
+unfolding choose
+choose-tests true true y = refl
+choose-tests true false y = refl
+choose-tests false x y = refl
+
 -- ---- what the clauses after the cover and the current piece stand on
 
 pub record Begun (s : Settings) (r : Record) : Type 0 where
@@ -46,43 +55,23 @@ module _ (s : Settings) (r : Record) (v : Begun s r) (i n : ℕ) (b : i < length
   pub piece-node-12 : Node 12 n
   piece-node-12 = record { some = piece-node .some; inside = omega (arith, piece-node .inside, v .settled .levels-most) }
 
--- the clauses from the ticket on
-unfoldable pub fieldsWrong : Settings → ℕ → Record → Bool
-fieldsWrong s last r =
-    ticketTooLarge r || (placePast s r || (noticesWrong s r || (timeAhead last r
-    || (phaseElsewhere s r (phaseOf (r .phase)) || (heldEarly r || (outcomeWrong r || (gripLacking s r (phaseOf (r .phase)) || givingWrong r)))))))
-
 -- ---- the cover
 
 module _ (s : Settings) (r : Record) (v : Settled s) (a : Answer) (e : a ≡ answer (s .levels) (r .left) (r .right)) where
   abbrev outside : Bool
   outside = windowOutside (s .levels) (r .left) (r .right)
 
-  pub window-refused : (a .number ≡ 0 → ⊥) → true ≡ notCovered s r
+  pub cover-tested : (differ (a .number) 0 || differ (r .first) (a .first) || differ (r .second) (a .second)) ≡ notCovered s r
   unfolding notCovered
-  window-refused d = true-first outside _ (cover-refused (s .levels) (r .left) (r .right) (v .levels-some) (v .levels-most) a e d)
-
-  module _ (z : a .number ≡ 0) where
-    first-is : a .first ≡ getD (leastCover 2 (s .levels) (r .left) (r .right)) 0 0
-    first-is = cover-first (s .levels) (r .left) (r .right) (v .levels-some) (v .levels-most) a e z
-
-    second-is : a .second ≡ getD (leastCover 2 (s .levels) (r .left) (r .right)) 1 0
-    second-is = cover-second (s .levels) (r .left) (r .right) (v .levels-some) (v .levels-most) a e z
-
-    pub first-other : (r .first ≡ a .first → ⊥) → true ≡ notCovered s r
-    unfolding notCovered
-    first-other d = true-later outside _ (true-first (differ (r .first) (getD (leastCover 2 (s .levels) (r .left) (r .right)) 0 0)) _ (ap not (ne-eqb (r .first) _ (λ q. d (q ∙ sym first-is)))))
-
-    pub second-tested : r .first ≡ a .first → differ (r .second) (a .second) ≡ notCovered s r
-    unfolding notCovered
-    second-tested q =
-        next-test _ outside _ (cover-inside (s .levels) (r .left) (r .right) (v .levels-some) (v .levels-most) a e z)
-        (next-test _ (differ (r .first) (getD (leastCover 2 (s .levels) (r .left) (r .right)) 0 0)) _ (ap not (eq-eqb (r .first) _ (q ∙ first-is))) (ap (λ (n : ℕ). differ (r .second) n) second-is))
-
--- ---- the notices
-
-pub no-notices : (n grip : ℕ) → (0 < n → 3 ≤ grip) → (nonzero n && ltb grip 3) ≡ false
-no-notices n grip f = by-lt 0 n (λ b. ap₂ _&&_ (lt-ltb 0 n b) (le-ltb grip 3 (f b))) (λ b. ap (λ c. c && ltb grip 3) (le-ltb 0 n b))
+  cover-tested =
+      by-eq (a .number) 0
+      (λ z.
+      let inside = ap not (eq-eqb (a .number) 0 z) ∙ sym (cover-inside (s .levels) (r .left) (r .right) (v .levels-some) (v .levels-most) a e z) in
+      let first = cover-first (s .levels) (r .left) (r .right) (v .levels-some) (v .levels-most) a e z in
+      let second = cover-second (s .levels) (r .left) (r .right) (v .levels-some) (v .levels-most) a e z in
+      λ i. inside i || differ (r .first) (first i) || differ (r .second) (second i))
+      (λ d.
+      sym (one-true _ _ _ (ap not (ne-eqb (a .number) 0 d))) ∙ one-true outside _ _ (cover-refused (s .levels) (r .left) (r .right) (v .levels-some) (v .levels-most) a e d))
 
 -- ---- the place
 

@@ -80,8 +80,8 @@ module _ (s : Settings) (last : ℕ) (r : Record) (k : Passed s last r) where
   notice-tests : ((nonzero (r .notices) && ltb (r .grip) 3) ≡ false) × ((eqb (r .phase) 6 && differ (r .notices) (r .place)) ≡ false)
   unfolding noticesWrong
   notice-tests =
-      both-false (nonzero (r .notices) && ltb (r .grip) 3) (eqb (r .phase) 6 && differ (r .notices) (r .place))
-      (both-false (ltb (length (notifyList (s .distance) (currentPiece r))) (r .notices)) _ (k .notices) .1)
+      let both = both-false _ (eqb (r .phase) 6 && differ (r .notices) (r .place)) (k .notices) in
+      (both-false (ltb (length (notifyList (s .distance) (currentPiece r))) (r .notices)) (nonzero (r .notices) && ltb (r .grip) 3) (both .0) .1, both .1)
 
   giving-test : choose (eqb (r .phase) 10) (eqb (gripOf r (r .giving)) 0) (nonzero (r .giving)) ≡ false
   unfolding givingWrong

@@ -53,18 +53,9 @@ impl Record {
         requires { ⌜ notices ≡ length (notifyList (settings .distance) (currentPiece self)) ⌝ }
         ensures { λ b. ⌜ b ≡ noticesWrong settings self ⌝ }
     {
-        if notices < self.notices {
-            return true;
-        }
-        if 0 < self.notices {
-            if self.grip < 3 {
-                return true;
-            }
-        }
-        if self.phase == 6 {
-            return self.notices != self.place;
-        }
-        false
+        (notices < self.notices)
+            | ((0 < self.notices) & (self.grip < 3))
+            | ((self.phase == 6) & (self.notices != self.place))
     }
 
     // "phase 1, 2, 7 or 8 at a leaf, 3, 4 or 6 at the root"
@@ -85,20 +76,14 @@ impl Record {
         requires { ⌜ self .current < length (pieces self) ⌝ }
         ensures { λ b. ⌜ b ≡ heldEarly self ⌝ }
     {
-        if self.phase == 9 {
-            return self.current + 1 < self.piece_count();
-        }
-        false
+        (self.phase == 9) & (self.current + 1 < self.piece_count())
     }
 
     // "an outcome other than 0 in 1..9 or equal to 0 in 10"
     pub(crate) fn outcome_wrong(self) -> bool
         ensures { λ b. ⌜ b ≡ outcomeWrong self ⌝ }
     {
-        if self.phase == 10 {
-            return self.outcome == 0;
-        }
-        0 < self.outcome
+        ((self.phase == 10) & (self.outcome == 0)) | ((self.phase != 10) & (0 < self.outcome))
     }
 }
 
@@ -106,13 +91,7 @@ impl Record {
 fn returning_grip_lacking(grip: u64, leaf: bool) -> bool
     ensures { λ b. ⌜ b ≡ choose leaf (differ grip 0 && differ grip 3) (ltb 3 grip) ⌝ }
 {
-    if leaf {
-        if grip == 0 {
-            return false;
-        }
-        return grip != 3;
-    }
-    3 < grip
+    (leaf & ((grip != 0) & (grip != 3))) | (!leaf & (3 < grip))
 }
 
 // "a grip the phase lacks", by numbers, so that no record is copied for it

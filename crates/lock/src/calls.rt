@@ -202,15 +202,9 @@ impl Record {
 
     // "cancel in 0, 9 or 10"
     fn not_cancellable(self) -> bool
-        ensures { λ b. ⌜ b ≡ (eqb (self .phase) 0 || (eqb (self .phase) 9 || eqb (self .phase) 10)) ⌝ }
+        ensures { λ b. ⌜ b ≡ (eqb (self .phase) 0 || eqb (self .phase) 9 || eqb (self .phase) 10) ⌝ }
     {
-        if self.phase == 0 {
-            return true;
-        }
-        if self.phase == 9 {
-            return true;
-        }
-        self.phase == 10
+        (self.phase == 0) | (self.phase == 9) | (self.phase == 10)
     }
 
     // Tests 1, 2, 6, 8.

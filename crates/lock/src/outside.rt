@@ -7,21 +7,11 @@ impl Settings {
     pub fn outside(self) -> bool
         ensures { λ b. ⌜ b ≡ settingsOutside self ⌝ }
     {
-        if self.levels < 2 {
-            return true;
-        }
-        if 12 < self.levels {
-            return true;
-        }
-        if self.distance < 1 {
-            return true;
-        }
-        if 4 < self.distance {
-            return true;
-        }
-        if self.wait < 1 {
-            return true;
-        }
-        4294967295 < self.wait
+        (self.levels < 2)
+            | (12 < self.levels)
+            | (self.distance < 1)
+            | (4 < self.distance)
+            | (self.wait < 1)
+            | (4294967295 < self.wait)
     }
 }

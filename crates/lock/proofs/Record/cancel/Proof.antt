@@ -82,7 +82,7 @@ returns-3 c =
     let v = settled s o in
     let u = sym (c .before .before .before .before .unreadable .ensures) ∙ c .before .before .before .if2 .left in (
       c .refused3 .ensures ∙ refused-by _ 8 (a .call .last) (a .call .last) r _ (own-rest s (a .call .last) r (length ws) o n _ u
-          ∙ cause-hit (eqb (r .phase) 0 || (eqb (r .phase) 9 || eqb (r .phase) 10)) 8 [] (sym (c .before .before .not-cancellable .ensures) ∙ c .before .if3 .taken)) (λ e. omega arith),
+          ∙ cause-hit (eqb (r .phase) 0 || eqb (r .phase) 9 || eqb (r .phase) 10) 8 [] (sym (c .before .before .not-cancellable .ensures) ∙ c .before .if3 .taken)) (λ e. omega arith),
       refl,
     )
 
@@ -104,7 +104,7 @@ returns-4 c =
     let u = sym (c .before .before .before .before .unreadable .ensures) ∙ c .before .before .before .if2 .left in (
       ap (λ (y : Record). record { number = 0; clock = a .call .last; next = y }) (c .cancelled .ensures)
           ∙ sym (answer-accepted _ (a .call .last) (a .call .last) r _ (own-rest s (a .call .last) r (length ws) o n _ u
-          ∙ cause-skip (eqb (r .phase) 0 || (eqb (r .phase) 9 || eqb (r .phase) 10)) 8 [] (sym (c .before .before .not-cancellable .ensures) ∙ c .before .if3 .left))),
+          ∙ cause-skip (eqb (r .phase) 0 || eqb (r .phase) 9 || eqb (r .phase) 10) 8 [] (sym (c .before .before .not-cancellable .ensures) ∙ c .before .if3 .left))),
       refl,
     )
 
