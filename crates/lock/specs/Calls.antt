@@ -60,14 +60,14 @@ cancelTests s last r = (unreadable s last r, 6) ∷ (eqb (r .phase) 0 || eqb (r 
 -- ---- what an accepted call makes of the record
 
 -- "A request sets window and pieces, zeroes the rest, and sets phase 1 for an inner first piece and 3 for a leaf."
-unfoldable pub requested : Settings → ℕ → ℕ → Record
-requested s a b = record {
-  phase = startPhase s (getD (leastCover 2 (s .levels) a b) 0 0);
+abbrev pub windowed : (phase left right first second : ℕ) → Record
+windowed phase left right first second = record {
+  phase = phase;
   outcome = 0;
-  left = a;
-  right = b;
-  first = getD (leastCover 2 (s .levels) a b) 0 0;
-  second = getD (leastCover 2 (s .levels) a b) 1 0;
+  left = left;
+  right = right;
+  first = first;
+  second = second;
   current = 0;
   giving = 0;
   grip = 0;
@@ -77,6 +77,10 @@ requested s a b = record {
   t1 = 0;
   t0 = 0;
 }
+
+unfoldable pub requested : Settings → ℕ → ℕ → Record
+requested s a b =
+    windowed (startPhase s (getD (leastCover 2 (s .levels) a b) 0 0)) a b (getD (leastCover 2 (s .levels) a b) 0 0) (getD (leastCover 2 (s .levels) a b) 1 0)
 
 -- "Release (from 9) and cancel (from 1..8) touch no word and set outcome 1 or 3 and phase 10; a cancel with nothing to give back makes the record
 -- idle with outcome 3."

@@ -41,7 +41,7 @@ module _ (s : Settings) (rs : List Record) (last now : ℕ) (later : last ≤ no
   unfolding pieces pieceAt
   over e b =
       let q = toPhase 8 r in
-      let k = kin r 8 (r .outcome) (r .current) (r .giving) (r .grip) (r .ticket) 0 (r .notices) (r .t1) (r .t0) in
+      let k = kin r q refl refl refl refl in
       let ahead : r .phase ≢ 10 = λ f. omega arith in
       let aheadq : q .phase ≢ 10 = λ f. omega arith in
       let at = stage-current q (r .current) refl in
@@ -102,7 +102,7 @@ module _ (s : Settings) (rs : List Record) (last now : ℕ) (later : last ≤ no
       unfolding pieces pieceAt
       more-fine =
           let q = withPlace (suc (r .place)) r in
-          let k = kin r (r .phase) (r .outcome) (r .current) (r .giving) (r .grip) (r .ticket) (suc (r .place)) (r .notices) (r .t1) (r .t0) in
+          let k = kin r q refl refl refl refl in
           let at = checked-some s q (r .current) (stage-current q (r .current) refl ∙ e) in
           fine-quiet s rs now r q x w (λ _. checked-node .0) k refl ahead (onward-unreturned s q ahead) refl refl refl
           (live-kin s last now r q later lv k (lv .exists) (lv .some) (lv .most) (lv .claimed) (lv .all-noticed) (lv .listed) (lv .whole) t1-past)
@@ -113,7 +113,7 @@ module _ (s : Settings) (rs : List Record) (last now : ℕ) (later : last ≤ no
       unfolding pieces pieceAt
       last-fine b =
           let q = toPhase 9 r in
-          let k = kin r 9 (r .outcome) (r .current) (r .giving) (r .grip) (r .ticket) 0 (r .notices) (r .t1) (r .t0) in
+          let k = kin r q refl refl refl refl in
           let at = checked-all s q (r .current) (stage-current q (r .current) refl) in
           taken-fine s rs last now later r r lv (record { pieces-same = refl; left-same = refl; right-same = refl }) refl ahead (lv .claimed (omega arith) (omega arith)) (lv .all-noticed (omega arith) (omega arith)) t1-past
           x w w (λ _. checked-node .0) (λ p y. quiet refl y)

@@ -61,7 +61,7 @@ module _ (s : Settings) (rs : List Record) (last now : ℕ) (later : last ≤ no
     unfolding pieceAt pieces
     won done =
         let q = toPhase 6 (withGrip 3 r) in
-        let k = kin r 6 (r .outcome) (r .current) (r .giving) 3 (r .ticket) 0 (r .notices) (r .t1) (r .t0) in
+        let k = kin r q refl refl refl refl in
         let aheadq : q .phase ≢ 10 = λ f. omega arith in
         let at = stage-current q (r .current) refl in
         record {
@@ -79,7 +79,7 @@ module _ (s : Settings) (rs : List Record) (last now : ℕ) (later : last ≤ no
     unfolding pieceAt pieces
     lost failed =
         let q = toPhase 3 r in
-        let k = kin r 3 (r .outcome) (r .current) (r .giving) (r .grip) (r .ticket) 0 (r .notices) (r .t1) (r .t0) in
+        let k = kin r q refl refl refl refl in
         let aheadq : q .phase ≢ 10 = λ f. omega arith in
         let same = take-failed (wanted s r n) w (wanted-lt (left (s .levels) n) (r .left) (r .right) (meets .some) (meets .starts) (meets .ends)) failed in
         subst (λ (v : ℕ). Fine s rs now r n w v q) (sym same)
@@ -93,7 +93,7 @@ module _ (s : Settings) (rs : List Record) (last now : ℕ) (later : last ≤ no
   unfolding pieceAt pieces
   inner-to inner p o =
       let q = toPhase p (withT0 now (withGrip 3 r)) in
-      let k = kin r p (r .outcome) (r .current) (r .giving) 3 (r .ticket) 0 (r .notices) (r .t1) now in
+      let k = kin r q refl refl refl refl in
       let b : (6 ≤ p) × (p ≤ 7) = ⊎-elim (λ z. (omega arith, omega arith)) (λ z. (omega (arith, z .0), omega (arith, z .0))) o in
       let aheadq : p ≢ 10 = λ f. omega (arith, b .1) in
       let grip = rd .grip-inner (omega arith) (omega arith) inner in

@@ -51,7 +51,7 @@ module _ (s : Settings) (rs : List Record) (last now : ℕ) (later : last ≤ no
   unfolding ticketTaken
   ticket-fine e =
       let q = toPhase 2 (withGrip 1 (withTicket (tmax w) r)) in
-      let k = kin r 2 (r .outcome) (r .current) (r .giving) 1 (tmax w) 0 (r .notices) (r .t1) (r .t0) in
+      let k = kin r q refl refl refl refl in
       let ahead : r .phase ≢ 10 = λ f. omega arith in
       let un = onward-unreturned s r ahead in
       let unq = onward-unreturned s q (λ f. omega arith) in
@@ -70,7 +70,7 @@ module _ (s : Settings) (rs : List Record) (last now : ℕ) (later : last ≤ no
   unfolding pieceAt pieces
   turn-to e f p o =
       let q = toPhase p (withGrip 2 r) in
-      let k = kin r p (r .outcome) (r .current) (r .giving) 2 (r .ticket) 0 (r .notices) (r .t1) (r .t0) in
+      let k = kin r q refl refl refl refl in
       let b : (1 ≤ p) × (p ≤ 5) = ⊎-elim (λ z. (omega arith, omega arith)) (λ z. (omega (arith, z .0), omega (arith, z .0))) o in
       let ahead : r .phase ≢ 10 = λ z. omega arith in
       let aheadq : p ≢ 10 = λ z. omega (arith, b .1) in
@@ -123,7 +123,7 @@ module _ (s : Settings) (rs : List Record) (last now : ℕ) (later : last ≤ no
     unfolding unblocked
     blocked-fine e =
         on-choose (λ q. Fine s rs now r x w w q) (eqb (occ w) 0) (toPhase 3 r) r
-        (λ _. back-to (toPhase 3 r) (kin r 3 (r .outcome) (r .current) (r .giving) (r .grip) (r .ticket) 0 (r .notices) (r .t1) (r .t0)) refl (λ f. omega arith) (omega arith) (omega arith) (λ _. refl) refl refl refl refl)
+        (λ _. back-to (toPhase 3 r) (kin r (toPhase 3 r) refl refl refl refl) refl (λ f. omega arith) (omega arith) (omega arith) (λ _. refl) refl refl refl refl)
         (λ _. fine-stay s rs last now r x w later (inr lv) (λ _. ancestor-node .0))
 
     -- one ancestor more is clear: p is r, with t1 noted at the parent
@@ -150,21 +150,20 @@ module _ (s : Settings) (rs : List Record) (last now : ℕ) (later : last ≤ no
       goes-up p k c i f t l h m =
           let same : currentPiece p ≡ n = ap (pieceAt p) c ∙ ap (λ y. getD y (r .current) 0) (k .pieces-same) in
           let count : length (ancestors (currentPiece p)) ≡ level n - 1 = ap (λ (a : ℕ). length (ancestors a)) same ∙ ancestors-count n in
-          let next = kin p in
           let chain : (q : Record) → Kin p q → Kin r q = λ q z. record { pieces-same = z .pieces-same ∙ k .pieces-same; left-same = z .left-same ∙ k .left-same; right-same = z .right-same ∙ k .right-same } in
           on-choose (λ q. Fine s rs now r x w w q) (ltb (suc (p .place)) (length (ancestors (currentPiece p)))) (withPlace (suc (p .place)) p) (toPhase 5 p)
-          (λ _. up-to (withPlace (suc (p .place)) p) (chain _ (next _ _ _ _ _ _ _ _ _ _)) c i f t m (inl (h, ap suc l)))
-          (λ y. up-to (toPhase 5 p) (chain _ (next _ _ _ _ _ _ _ _ _ _)) c i f t m (inr (refl, omega (arith, nltb→le (suc (p .place)) (length (ancestors (currentPiece p))) y, count, deep))))
+          (λ _. up-to (withPlace (suc (p .place)) p) (chain _ (kin p (withPlace (suc (p .place)) p) refl refl refl refl)) c i f t m (inl (h, ap suc l)))
+          (λ y. up-to (toPhase 5 p) (chain _ (kin p (toPhase 5 p) refl refl refl refl)) c i f t m (inr (refl, omega (arith, nltb→le (suc (p .place)) (length (ancestors (currentPiece p))) y, count, deep))))
 
       climbs : Fine s rs now r x w w (goUp (choose (eqb (r .place) 0) (withT1 now r) r))
       climbs =
           on-choose (λ p. Fine s rs now r x w w (goUp p)) (eqb (r .place) 0) (withT1 now r) r
-          (λ y. goes-up (withT1 now r) (kin r _ _ _ _ _ _ _ _ _ _) refl refl refl refl refl e (inr (eqb→eq (r .place) 0 y, refl)))
+          (λ y. goes-up (withT1 now r) (kin r (withT1 now r) refl refl refl refl) refl refl refl refl refl e (inr (eqb→eq (r .place) 0 y, refl)))
           (λ _. goes-up r (record { pieces-same = refl; left-same = refl; right-same = refl }) refl refl refl refl refl e (inl refl))
 
     pub climb-fine : r .phase ≡ 3 → ((occ w ≡ 1 → ⊥) → (d : ℕ) → owns s 3 x (getD rs d nobody) ≡ 0) → Fine s rs now r x w w (climbed r w now)
     unfolding climbed
     climb-fine e none =
         on-choose (λ q. Fine s rs now r x w w q) (eqb (occ w) 1) (toBlocked r) (goUp (choose (eqb (r .place) 0) (withT1 now r) r))
-        (λ _. back-to (toBlocked r) (kin r _ _ _ _ _ _ _ _ _ _) refl (λ f. omega arith) (omega arith) (omega arith) (λ f. absurd (omega arith)) refl refl refl refl)
+        (λ _. back-to (toBlocked r) (kin r (toBlocked r) refl refl refl refl) refl (λ f. omega arith) (omega arith) (omega arith) (λ f. absurd (omega arith)) refl refl refl refl)
         (λ y. climbs e (none (neqb→ne (occ w) 1 y)))

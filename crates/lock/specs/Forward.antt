@@ -1,16 +1,17 @@
 -- Laws: what a step in one of the phases 1 .. 9 changes of what its record owns, from the fields that it changes. Assumes nothing.
 use mathlib.Core.Path.{_≡_, refl, sym, ap, _∙_}
 use mathlib.Core.Logic.{_≢_}
+use mathlib.Core.List.{[], _∷_}
 use Prim.Native.Nat.{ℕ, suc, _+_, _≤_, _<_}
 use native.Mathlib.Omega.{arith}
 use lib.Dec.{eqb, leb, ltb}
 use lib.ListN.{length, getD}
-use Rattle.base.specs.Choice.{on-choose, by-lt, by-eq}
+use Rattle.base.specs.Choice.{choose, on-choose, by-lt, by-eq}
 use Rattle.base.specs.Sum.{sumTo, to-same, to-zero}
 use Rattle.tree.specs.Lists.{notifyList}
 use Rattle.lock.specs.declared.Record.{Record}
 use Rattle.lock.specs.declared.Settings.{Settings}
-use Rattle.lock.specs.Types.{pieces, pieceAt, currentPiece, change}
+use Rattle.lock.specs.Types.{pieces, pieceAt, currentPiece}
 use Rattle.lock.specs.Pieces.{grip-before, grip-current, grip-after, notices-before, notices-current}
 use Rattle.lock.specs.Owned.{returned, gripped, noticed, owns, ownsUnit, outstanding, ownsNotice, reaches-no, returned-none, returned-here, returned-after, gripped-kept, noticed-begun, noticed-none}
 use Rattle.lock.specs.Fit.{Apart}
@@ -23,9 +24,9 @@ pub record Kin (r q : Record) : Type 0 where
   pub left-same : q .left ≡ r .left
   pub right-same : q .right ≡ r .right
 
-pub kin : (r : Record) (p o c g k t l n a b : ℕ) → Kin r (change r p o c g k t l n a b)
+pub kin : (r q : Record) → q .left ≡ r .left → q .right ≡ r .right → q .first ≡ r .first → q .second ≡ r .second → Kin r q
 unfolding pieces
-kin r p o c g k t l n a b = record { pieces-same = refl; left-same = refl; right-same = refl }
+kin r q a b c d = record { pieces-same = λ i. choose (eqb (d i) 0) (c i ∷ []) (c i ∷ d i ∷ []); left-same = a; right-same = b }
 
 -- nothing of a record is given back
 abbrev pub Unreturned : Settings → Record → Type 0

@@ -99,7 +99,7 @@ module _ (s : Settings) (rs : List Record) (now : ℕ) (r : Record) (rd : Ready 
   unfolding pieces pieceAt
   returns o =
       let q = toPhase 10 (withOutcome o r) in
-      let k = kin r 10 o (r .current) (r .giving) (r .grip) (r .ticket) 0 (r .notices) (r .t1) (r .t0) in
+      let k = kin r q refl refl refl refl in
       fine-quiet s rs now r q 0 w (λ d. absurd (d refl)) k refl ahead (entering-unreturned s q refl (rd .no-giving ahead) refl) refl refl refl
       (live-kin s now now r q (omega arith) lv k (lv .exists) (omega arith) (omega arith) (λ _ a. absurd (omega arith)) (λ _ a. absurd (omega arith)) (lv .listed) (λ f. absurd (omega arith)) (lv .t1-past))
       (timely-returning s rs nobody now r q refl)

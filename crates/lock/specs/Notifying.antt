@@ -53,7 +53,7 @@ module _ (s : Settings) (rs : List Record) (last now : ℕ) (later : last ≤ no
   p = withNotices (suc (r .place)) r
 
   kin-p : Kin r p
-  kin-p = kin r (r .phase) (r .outcome) (r .current) (r .giving) (r .grip) (r .ticket) (r .place) (suc (r .place)) (r .t1) (r .t0)
+  kin-p = kin r p refl refl refl refl
 
   given : (q : Record) → Same s p q → Effect s r q x w (addDmax 1 w)
   given q y =
@@ -71,7 +71,7 @@ module _ (s : Settings) (rs : List Record) (last now : ℕ) (later : last ≤ no
   unfolding pieces pieceAt
   more-fine b =
       let q = withPlace (suc (r .place)) p in
-      let k = kin r (r .phase) (r .outcome) (r .current) (r .giving) (r .grip) (r .ticket) (suc (r .place)) (suc (r .place)) (r .t1) (r .t0) in
+      let k = kin r q refl refl refl refl in
       let at = stage-current q (r .current) refl in
       record {
         node = λ _. notified-node .0;
@@ -93,7 +93,7 @@ module _ (s : Settings) (rs : List Record) (last now : ℕ) (later : last ≤ no
     unfolding pieces pieceAt
     late-fine =
         let q = toPhase 10 (withOutcome 2 p) in
-        let k = kin r 10 2 (r .current) (r .giving) (r .grip) (r .ticket) 0 (suc (r .place)) (r .t1) (r .t0) in
+        let k = kin r q refl refl refl refl in
         record {
           node = λ _. notified-node .0;
           effect = given q (forward-same s p q (record { pieces-same = refl; left-same = refl; right-same = refl }) refl (onward-unreturned s p ahead)
@@ -112,7 +112,7 @@ module _ (s : Settings) (rs : List Record) (last now : ℕ) (later : last ≤ no
       unfolding pieces pieceAt
       inner-fine =
           let q = toPhase 7 p in
-          let k = kin r 7 (r .outcome) (r .current) (r .giving) (r .grip) (r .ticket) 0 (suc (r .place)) (r .t1) (r .t0) in
+          let k = kin r q refl refl refl refl in
           let at = stage-current q (r .current) refl in
           record {
             node = λ _. notified-node .0;
@@ -128,7 +128,7 @@ module _ (s : Settings) (rs : List Record) (last now : ℕ) (later : last ≤ no
       unfolding pieces pieceAt
       leaf-fine leaf =
           let q = toPhase 9 p in
-          let k = kin r 9 (r .outcome) (r .current) (r .giving) (r .grip) (r .ticket) 0 (suc (r .place)) (r .t1) (r .t0) in
+          let k = kin r q refl refl refl refl in
           taken-fine s rs last now later r p lv kin-p refl ahead (lv .claimed (omega arith) (omega arith)) whole t1-past x w (addDmax 1 w) (λ _. notified-node .0) given
           (onward s rs nobody now r q k refl ahead (λ f. omega arith) (λ _ a. absurd (omega arith)) (λ _ _. inr (inr leaf)) (λ l _. inr (inr leaf))
           (inl (passing-none q (λ f. omega arith) (λ f. omega arith) (λ f. omega arith))) (λ _ _. inr (inl (all-passed, in-time))))

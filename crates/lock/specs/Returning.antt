@@ -15,7 +15,7 @@ use Rattle.tree.specs.Lists.{notifyList}
 use Rattle.lock.specs.declared.Moved.{Moved}
 use Rattle.lock.specs.declared.Record.{Record}
 use Rattle.lock.specs.declared.Settings.{Settings}
-use Rattle.lock.specs.Types.{returning, pieces, pieceAt, givenPiece, isLeaf, gripOf, noticesOf, change, withGiving, withGrip, withPlace, idleWith}
+use Rattle.lock.specs.Types.{returning, pieces, pieceAt, givenPiece, isLeaf, gripOf, noticesOf, withGiving, withGrip, withPlace, idleWith}
 use Rattle.lock.specs.Steps.{touchedIn, wordReturned, pieceReturned, turnReturned, wanted, leaves, returnBits, returnInner, giveBack}
 use Rattle.lock.specs.Active.{Settled}
 use Rattle.lock.specs.Placed.{clipped, placed, given-notices}
@@ -47,13 +47,13 @@ module _ (s : Settings) (rs : List Record) (last now : ℕ) (later : last ≤ no
   node = live-apart s last r lv .node (r .giving) begun
 
   -- a record that goes on returning
-  still : (q : Record) → (gv gp pl : ℕ) → q ≡ change r (r .phase) (r .outcome) (r .current) gv gp (r .ticket) pl (r .notices) (r .t1) (r .t0)
+  still : (q : Record) → (gv gp pl : ℕ) → q ≡ withGiving gv (withGrip gp (withPlace pl r))
       → Fit s now q × Timely s rs nobody now r q
   unfolding pieces pieceAt
   still q gv gp pl f =
-      let z = change r (r .phase) (r .outcome) (r .current) gv gp (r .ticket) pl (r .notices) (r .t1) (r .t0) in
+      let z = withGiving gv (withGrip gp (withPlace pl r)) in
       subst (λ y. Fit s now y × Timely s rs nobody now r y) (sym f) (
-        inr (live-kin s last now r z later lv (kin r (r .phase) (r .outcome) (r .current) gv gp (r .ticket) pl (r .notices) (r .t1) (r .t0)) (lv .exists) (lv .some) (lv .most)
+        inr (live-kin s last now r z later lv (kin r z refl refl refl refl) (lv .exists) (lv .some) (lv .most)
             (λ _ a. absurd (omega arith)) (λ _ a. absurd (omega arith)) (lv .listed) (λ h. absurd (omega arith)) (omega (arith, lv .t1-past))),
         timely-returning s rs nobody now r z e,
       )

@@ -1,13 +1,14 @@
 -- Laws of the next record of each phase, one for each way through its rule, as the code meets them. Assumes nothing.
-use mathlib.Core.Path.{_≡_, sym, ap, _∙_, subst}
+use mathlib.Core.Path.{_≡_, refl, sym, ap, _∙_, subst}
+use mathlib.Core.List.{List, [], _∷_}
 use mathlib.Core.Bool.{Bool, true, false}
 use Prim.Native.Nat.{ℕ, suc, _+_, _-_, _≤_, _<_, min}
 use native.Mathlib.Omega.{arith}
 use lib.Dec.{eqb}
-use lib.ListN.{length}
+use lib.ListN.{length, getD}
 use Rattle.base.specs.Choice.{choose, on-choose, choose-eq, choose-ne, choose-lt, choose-ge, choose-le, choose-gt}
 use Rattle.word.specs.Word.{occ, tcnt, dcnt, dmax}
-use Rattle.tree.specs.Tree.{level}
+use Rattle.tree.specs.Tree.{level, Node}
 use Rattle.tree.specs.Lists.{ancestors, notifyList, checkList}
 use Rattle.tree.specs.Check.{checkCount, check-count}
 use Rattle.tree.specs.Closed.{first-small}
@@ -18,9 +19,14 @@ use Rattle.lock.specs.Steps.{startPhase, begin, taken, turnAwaited, goUp
 use Rattle.lock.specs.Placed.{Pieced}
 
 -- the pieces of a record are not changed by a step
-pub pieced-change : (r : Record) → Pieced r → (p o g k q m n a b : ℕ) → Pieced (change r p o (r .current) g k q m n a b)
+pub pieced-kept : (r q : Record) → Pieced r → q .current ≡ r .current → q .first ≡ r .first → q .second ≡ r .second → Pieced q
 unfolding pieces pieceAt
-pieced-change r v p o g k q m n a b = record { exists = v .exists; nodes = v .nodes }
+pieced-kept r q v c a b =
+    let same : pieces q ≡ pieces r = λ i. choose (eqb (b i) 0) (a i ∷ []) (a i ∷ b i ∷ []) in
+    record {
+      exists = subst (λ (l : List ℕ). q .current < length l) (sym same) (omega (arith, v .exists, c));
+      nodes = λ i. subst (λ (l : List ℕ). i < length l → Node 12 (getD l i 0)) (sym same) (v .nodes i);
+    }
 
 plus-one : (n : ℕ) → n + 1 ≡ suc n
 plus-one n = omega arith
@@ -59,7 +65,7 @@ module _ (r : Record) where
   noted-fine t v x e =
       subst (λ y. Pieced y × (y .place < length (ancestors (currentPiece y)))) (sym e)
       (on-choose (λ y. Pieced y × (y .place < length (ancestors (currentPiece y)))) (eqb (r .place) 0) (withT1 t r) r
-      (λ _. (pieced-change r (v .0) _ _ _ _ _ _ _ _ _, v .1)) (λ _. v))
+      (λ _. (pieced-kept r (withT1 t r) (v .0) refl refl refl, v .1)) (λ _. v))
 
   pub climb-set : (w t : ℕ) → occ w ≡ 1 → climbed r w t ≡ toBlocked r
   unfolding climbed

@@ -36,7 +36,7 @@ module _ (s : Settings) (rs : List Record) (last now : ℕ) (later : last ≤ no
   unfolding begin pieces pieceAt
   next-begins b =
       let q = begin s (suc (p .current)) p in
-      let z = kin p (startPhase s (pieceAt p (suc (p .current)))) (p .outcome) (suc (p .current)) (p .giving) 0 0 0 0 0 0 in
+      let z = kin p q refl refl refl refl in
       let low = start-low s (pieceAt p (suc (p .current))) in
       let aheadq : q .phase ≢ 10 = λ f. omega (arith, low .1) in
       record {
@@ -51,7 +51,7 @@ module _ (s : Settings) (rs : List Record) (last now : ℕ) (later : last ≤ no
   unfolding pieces pieceAt
   all-taken b =
       let q = toPhase 9 p in
-      let z = kin p 9 (p .outcome) (p .current) (p .giving) (p .grip) (p .ticket) 0 (p .notices) (p .t1) (p .t0) in
+      let z = kin p q refl refl refl refl in
       record {
         node = node;
         effect = effect q (forward-same s p q z refl (onward-unreturned s p ahead) (onward-unreturned s q (λ f. omega arith)) refl refl refl);

@@ -146,25 +146,13 @@ impl Record {
     }
 
     // "set outcome 1 or 3 and phase 10"
-    fn sent_back(self, outcome: u64) -> Record
+    fn sent_back(mut self, outcome: u64) -> Record
         ensures { λ r. ⌜ r ≡ toPhase 10 (withOutcome outcome self) ⌝ }
     {
-        Record {
-            phase: 10,
-            outcome: outcome,
-            left: self.left,
-            right: self.right,
-            first: self.first,
-            second: self.second,
-            current: self.current,
-            giving: self.giving,
-            grip: self.grip,
-            ticket: self.ticket,
-            place: 0,
-            notices: self.notices,
-            t1: self.t1,
-            t0: self.t0,
-        }
+        self.phase = 10;
+        self.outcome = outcome;
+        self.place = 0;
+        self
     }
 
     // Tests 1, 2, 6, 8. "Release (from 9)": outcome 1 and phase 10.

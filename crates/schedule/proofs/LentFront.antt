@@ -23,6 +23,7 @@ use denote.Struct.Laws as LL
 use Rattle.lock.specs.declared.Record.{Record}
 use Rattle.lock.proofs.Record as Rec
 use Rattle.lock.proofs.Record.Laws as Rec′
+use Rattle.table.proofs.Thin.{bytes}
 use Rattle.table.proofs.Walk.{three-facts}
 use Rattle.schedule.specs.declared.Shelf.{Shelf}
 use Rattle.schedule.proofs.Lent.{field-of}
@@ -41,7 +42,7 @@ AR = Array R 64
 abbrev pub lowered : List Record → Val
 lowered l = only (array-vals (LL.vals Rec.the-type Rec′.the-laws) l)
 
-pub room-of : (m : ℕ) → m ≤ 64 → m * 112 < 2 ^ 63
+pub room-of : (m : ℕ) → m ≤ 64 → m * bytes < 2 ^ 63
 room-of m h = omega (arith, h)
 
 abbrev pub on-shelf : List Record → Shelf

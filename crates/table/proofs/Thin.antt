@@ -38,7 +38,7 @@ use denote.RattleType.{RattleType, owns}
 use denote.Laws.{Is, shows}
 use denote.Plain.{uint-makes, uint-lawful}
 use denote.Builtin.{u64, usize, SliceRefMutOf}
-use denote.Memory.{pointee}
+use denote.Memory.{pointee, mem}
 use denote.Ref.{RefT, now}
 use denote.Slice.{sliceVal, sliceTy, MutSlice, Room, slice-vals, mut-slice-tells, finally}
 use denote.Index.{place-is, elem-out, elem-put, opens-slice, closes-slice}
@@ -74,10 +74,14 @@ use Rattle.table.specs.CauseLaws.{client-below}
 use Rattle.table.specs.CallLaws.{Same, numbered, answeredOf, table-refuses, table-takes}
 use Rattle.table.proofs.Answer as An
 use Rattle.table.proofs.Answer.Laws as An′
-use Rattle.table.proofs.Walk.{gives-up, goes-on, shows-that, none-found, some-found}
+use Rattle.table.proofs.Walk.{gives-up, goes-on, shows-that, fits-index, none-found, some-found}
 
 abbrev R : RattleType
 R = Rec.the-row
+
+-- the bytes of a record, by its declared layout
+abbrev pub bytes : ℕ
+bytes = mem R .size
 
 abbrev RS : RattleType
 RS = S.the-row
@@ -109,14 +113,14 @@ function test key = record {
       (seq (assign (place 11 []) (op2 (lt unsigned) (int w64 0) (copy (place 5 []))))
       (seq (cond (copy (place 11 [])) (seq (assign (place 0 []) (aggregate (copy (place 5 []) ∷ copy (place 4 (field 4 ∷ [])) ∷ []))) return) skipᴹ)
       (seq (assign (place 6 []) (rvOpd (copy (place 4 (field 1 ∷ [])))))
-      (seq (assign (place 9 []) (op2 (mul unsigned) (copy (place 6 [])) (int w64 112)))
+      (seq (assign (place 9 []) (op2 (mul unsigned) (copy (place 6 [])) (int w64 bytes)))
       (seq (assign (place 12 []) (op2 offset (copy (place 1 (field 0 ∷ []))) (copy (place 9 []))))
       (seq (assign (place 13 []) (rvOpd (copy (place 12 (deref Rec′.mir ∷ [])))))
       (seq (assign (place 7 []) (rvOpd (copy (place 13 []))))
       (seq (assign (place 14 []) (addrOf (place 2 (field 0 ∷ deref word ∷ []))))
       (seq (assign (place 15 []) (aggregate (copy (place 14 []) ∷ copy (place 2 (field 1 ∷ [])) ∷ [])))
       (seq (call key (copy (place 7 []) ∷ copy (place 15 []) ∷ copy (place 3 []) ∷ copy (place 4 []) ∷ []) (place 8 []))
-      (seq (assign (place 10 []) (op2 (mul unsigned) (copy (place 6 [])) (int w64 112)))
+      (seq (assign (place 10 []) (op2 (mul unsigned) (copy (place 6 [])) (int w64 bytes)))
       (seq (assign (place 16 []) (op2 offset (copy (place 1 (field 0 ∷ []))) (copy (place 10 []))))
       (seq (assign (place 16 (deref Rec′.mir ∷ [])) (rvOpd (copy (place 8 (field 2 ∷ [])))))
       (seq (assign (place 0 []) (aggregate (copy (place 8 (field 0 ∷ [])) ∷ copy (place 8 (field 1 ∷ [])) ∷ []))) return))))))))))))))));
@@ -147,9 +151,6 @@ callee-ended = record { signature = callee; kept = (yes, (yes, (yes, (yes, tt)))
 
 abbrev stayed : Stays (ended .signature .params) (ended .kept)
 stayed = (gave-slice (0 ∷ []) tt (plain (λ _. R)), (gave-slice (1 ∷ []) tt (plain (λ _. u64)), (stay-none (λ _. RG) yes, (stay-none (λ _. RK) yes, tt))))
-
-fits-index : (i n : ℕ) → i < n → n * 112 < 2 ^ 63 → i * 112 < 2 ^ 64
-fits-index i n h k = omega (arith, h, k)
 
 -- the cause that `table_cause` finds
 abbrev refusal : Settings → Call → List Record → List ℕ → ℕ
@@ -321,11 +322,11 @@ module _ (kind : Call → Table.Call) (its-client : (c : Call) → Table.clientO
           use1 W (‵ (finally u64 (u .name) ws)) (gives-up 𝓤 H A W u64 κ′ (u .name) ws) $ move ! (4 ∷ 5 ∷ []) $ join ! $ keep ! (0 ∷ 3 ∷ 1 ∷ []) $
           by ! (exits ans ys ws made refl refl (refused ys ws st ca e ge past)))
           -- not refused
-          (λ below. let within = allowed ys ws st ca e ge below in let fits = fits-index i (length ys) within (room .1) in let i-fits = LL.owed K.the-type K′.the-laws ca _ gc .1 .0 .1 in
+          (λ below. let within = allowed ys ws st ca e ge below in let fits = fits-index bytes i (length ys) within (room .1) in let i-fits = LL.owed K.the-type K′.the-laws ca _ gc .1 .0 .1 in
           assigns ! (of-opd ! (load ! (from ! (fld ! refl (stop !))) (look-in ! 29 (sub ! 1 refl (whole !))))) (from ! (stop !)) (init ! 25 refl (tt, record { fits = i-fits })) $
           assigns ! (bin ! (load ! (from ! (stop !)) (look ! 25 refl)) (lit ! tt) (record { fits = fits })) (from ! (stop !)) (store ! 19 refl (tt, record { fits = fits })) $
           assigns ! (bin ! (load ! (from ! (fld ! refl (stop !))) (look-in ! 35 (sub ! 0 refl (whole !)))) (load ! (from ! (stop !)) (look ! 19 refl)) tt) (from ! (stop !)) (init ! 13 refl (tt, tt)) $
-          rewrite ! 13 (λ (p : ℕ). ‵ (fat fullShare tyPtr l₁₂ 0 (vptr b p))) (sym (place-is 112 o i)) refl $
+          rewrite ! 13 (λ (p : ℕ). ‵ (fat fullShare tyPtr l₁₂ 0 (vptr b p))) (sym (place-is bytes o i)) refl $
           opens-slice ! tt R ys b o $
           elem-out ! R (Is R) (shows 𝓤 H A R) (LL.vals Rec.the-type Rec′.the-laws) (LL.tells Rec.the-type Rec′.the-laws) fullShare ys i (idleWith 0) b o within (λ g.
           -- [t[i]; what it owns; the others; the open borrow; obs; auth; words' token; what words owns; _16; …]
@@ -348,7 +349,7 @@ module _ (kind : Call → Table.Call) (its-client : (c : Call) → Table.clientO
           rewrite ! 25 (λ (z : Val). ‵ (fat fullShare S′.mir l₈ 0 z)) (ap only (LL.tells S.the-type S′.the-laws r (w ∷ []) is)) refl $ drop ! $
           assigns ! (bin ! (load ! (from ! (stop !)) (look ! 28 refl)) (lit ! tt) (record { fits = fits })) (from ! (stop !)) (store ! 20 refl (tt, record { fits = fits })) $
           assigns ! (bin ! (load ! (from ! (fld ! refl (stop !))) (look-in ! 38 (sub ! 0 refl (whole !)))) (load ! (from ! (stop !)) (look ! 20 refl)) tt) (from ! (stop !)) (init ! 8 refl (tt, tt)) $
-          rewrite ! 8 (λ (p : ℕ). ‵ (fat fullShare tyPtr l₁₆ 0 (vptr b p))) (sym (place-is 112 o i)) refl $
+          rewrite ! 8 (λ (p : ℕ). ‵ (fat fullShare tyPtr l₁₆ 0 (vptr b p))) (sym (place-is bytes o i)) refl $
           assigns ! (of-opd ! (load ! (from ! (fld ! refl (stop !))) (look-in ! 24 (sub ! 2 refl (whole !))))) (from ! (hop ! (look ! 8 refl) (stop !))) (store-raw ! 2 refl (LL.lawful Rec.the-type Rec′.the-laws 𝓤 H A W .typed (r .next) _ (parts .1 .1 .0) .0)) $
           move ! (3 ∷ []) $ drop ! $ owned ! R (Is R) ((LL.makes Rec.the-type Rec′.the-plain) 𝓤 H A) (r .next) _ (parts .1 .1 .0) $ move ! (3 ∷ 0 ∷ 4 ∷ []) $
           elem-put ! R fullShare ys i (r .next) (Rec′.lowered (r .next) ∷ []) b o within $

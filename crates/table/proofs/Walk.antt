@@ -3,11 +3,13 @@
 --     gives-up         a `&mut [T]` that is given up for good at the list l: what says its last list
 --     goes-on          `if c { .. return .. }` and the rest: a premise for the arm, which returns, and one for the rest
 --     whiles           `while c { .. }` and the rest, with an invariant I and a variant in a well-founded order.        tests       the test of a turn: it holds and the turn goes on, or it fails and the rest runs
+--     fits-index       the place in bytes of an element of a slice that has room
 --     none-found, some-found      the outcome of the test `0 < cause`, as a fact on numbers
 --     shows-that       a goal P ∗ Q: Q is shown of nothing, and P is left.        three-facts      such a Q: ⌜φ⌝ ∗ ⌜χ⌝ ∗ ⌜ψ⌝
 -- Assumes `Given`.
 use mathlib.Core.Path.{_≡_}
-use Prim.Native.Nat.{ℕ}
+use Prim.Native.Nat.{ℕ, _<_, _^_, _*_}
+use native.Mathlib.Nat.{mul-le-mul-right, le-of-lt}
 use native.Mathlib.Omega.{arith}
 use mathlib.Core.Bool.{Bool, not}
 use mathlib.Core.WellFounded.{WellFounded}
@@ -107,6 +109,10 @@ pub shows-that : {M : Type 1} {𝓤 : URA M} {H : Heap 𝓤} {A : Atoms 𝓤} {K
     → Step K W Γ (prop P) Γ (prop (sep 𝓤 P Q))
 shows-that {𝓤 = 𝓤} t {P} {Q} h =
     step (λ s. record { prf = via 𝓤 P (s .prf) (via 𝓤 (sep 𝓤 (emp 𝓤) P) (emp∗ 𝓤 P) (via 𝓤 (sep 𝓤 Q P) (monoL 𝓤 P h) (comm∗ 𝓤 Q P))) })
+
+-- an element's place in bytes, in a slice that has room
+pub fits-index : (size i n : ℕ) → i < n → n * size < 2 ^ 63 → i * size < 2 ^ 64
+fits-index size i n h k = omega (arith, mul-le-mul-right size (le-of-lt h), k)
 
 pub none-found : (e : ℕ) → T (not (ltb 0 e)) → e ≡ 0
 none-found e t = let h = nltb→le 0 e t in omega (arith, h)

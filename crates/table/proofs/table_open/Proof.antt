@@ -66,7 +66,8 @@ use Rattle.table.specs.Promises.{lent}
 use Rattle.table.specs.Causes.{openingCause}
 use Rattle.table.specs.OpeningLaws.{Opened, opening-refuses, opening-takes}
 use Rattle.table.proofs.Filled.{filled, filled-length, filled-none, filled-next, filled-all}
-use Rattle.table.proofs.Walk.{gives-up, goes-on, shows-that, three-facts, tests, whiles, Turned, first-of, after, inside, env, none-found, some-found}
+use Rattle.table.proofs.Thin.{bytes}
+use Rattle.table.proofs.Walk.{fits-index, gives-up, goes-on, shows-that, three-facts, tests, whiles, Turned, first-of, after, inside, env, none-found, some-found}
 use Rattle.table.proofs.causes.opening_cause as opening-cause
 use Rattle.table.proofs.causes.opening_cause.Symbol as opening-cause-def
 use Rattle.table.proofs.causes.opening_cause.Symbol.{name as #opening-cause}
@@ -94,9 +95,6 @@ slice = sliceTy (tyRef (named 0) mut (pointee (R .written)))
 
 abbrev stayed : Stays (this.ended .signature .params) (this.ended .kept)
 stayed = (gave-slice (0 ∷ []) tt (plain (λ _. R)), (gave-slice (1 ∷ []) tt (plain (λ _. u64)), (stay-none (λ _. RG) yes, tt)))
-
-fits-index : (i n : ℕ) → i < n → n * 112 < 2 ^ 63 → i * 112 < 2 ^ 64
-fits-index i n h k = omega (arith, h, k)
 
 -- what an accepted opening leaves
 abbrev blanks : List Record → List Record
@@ -126,9 +124,9 @@ turn = inside (inside (first-of (after (after (after (after (after (after (after
 abbrev rest : Body
 rest = after (after (after (after (after (after (after (after (after (after (after (code.function .body)))))))))))
 
--- an idle record, as a machine value
-made : Is R (idleWith 0) (Rec′.lowered (idleWith 0) ∷ [])
-made = LL.owes Rec.the-type Rec′.the-laws (idleWith 0) ((refl, lit< tt), ((refl, lit< tt), ((refl, lit< tt), ((refl, lit< tt), ((refl, lit< tt), ((refl, lit< tt), ((refl, lit< tt), ((refl, lit< tt), ((refl, lit< tt), ((refl, lit< tt), ((refl, lit< tt), ((refl, lit< tt), ((refl, lit< tt), ((refl, lit< tt), tt))))))))))))))
+-- the idle record that is made, as a machine value
+made-of : (d : Record) (vs : List Val) → Is R d vs → d ≡ idleWith 0 → Is R (idleWith 0) (Rec′.lowered (idleWith 0) ∷ [])
+made-of d vs is e = subst (λ (z : Record). Is R z (LL.vals Rec.the-type Rec′.the-laws z)) e (subst (Is R d) (LL.tells Rec.the-type Rec′.the-laws d vs is) is)
 
 module _ {M : Type 1} (𝓤 : URA M) (H : Heap 𝓤) (A : Atoms 𝓤) (mem : Memory → SProp 𝓤) (run : Routine → Fun 𝓤) where
   -- the contracts that the proof cites
@@ -246,17 +244,17 @@ module _ {M : Type 1} (𝓤 : URA M) (H : Heap 𝓤) (A : Atoms 𝓤) (W : Given
       abbrev En : Env 𝓤 H
       En = env (code.function .locals) (l₀ ∷ l₁ ∷ l₂ ∷ l₃ ∷ l₄ ∷ l₅ ∷ l₆ ∷ l₇ ∷ l₈ ∷ l₉ ∷ l₁₀ ∷ l₁₁ ∷ l₁₂ ∷ l₁₃ ∷ l₁₄ ∷ l₁₅ ∷ [])
 
-      turns : (i : Upto) → Sq W (At i) (runs (𝓣 .C) (𝓣 .Λ) En turn (Turned 𝓤 H (𝓣 .C) (𝓣 .Λ) En (atRet En Post) (Below 𝓤 H A Nearer At i) rest))
+      turns : Is R (idleWith 0) (Rec′.lowered (idleWith 0) ∷ []) → (i : Upto) → Sq W (At i) (runs (𝓣 .C) (𝓣 .Λ) En turn (Turned 𝓤 H (𝓣 .C) (𝓣 .Λ) En (atRet En Post) (Below 𝓤 H A Nearer At i) rest))
       unfolding afterTurn
-      turns i =
+      turns made i =
           assigns ! (of-opd ! (load ! (from ! (fld ! refl (stop !))) (look-in ! 34 (sub ! 1 refl (whole !))))) (from ! (stop !)) (init ! 10 refl (tt, record { fits = room .0 })) $
           assigns ! (bin ! (load ! (from ! (stop !)) (look ! 24 refl)) (load ! (from ! (stop !)) (look ! 10 refl)) tt) (from ! (stop !)) (init ! 8 refl (tt, tt)) $
           tests ! (Below 𝓤 H A Nearer At i) rest (atRet En Post) (load ! (from ! (stop !)) (look ! 8 refl))
           -- a turn that sets one record
-          (λ less. let small = ltb→lt (i .0) n less in let fits = fits-index (i .0) n small (room .1) in let within = subst (λ (m : ℕ). i .0 < m) (sym (filled-length (idleWith 0) ys (i .0))) small in
+          (λ less. let small = ltb→lt (i .0) n less in let fits = fits-index bytes (i .0) n small (room .1) in let within = subst (λ (m : ℕ). i .0 < m) (sym (filled-length (idleWith 0) ys (i .0))) small in
           assigns ! (bin ! (load ! (from ! (stop !)) (look ! 24 refl)) (lit ! tt) (record { fits = fits })) (from ! (stop !)) (store ! 10 refl (tt, record { fits = fits })) $
           assigns ! (bin ! (load ! (from ! (fld ! refl (stop !))) (look-in ! 34 (sub ! 0 refl (whole !)))) (load ! (from ! (stop !)) (look ! 10 refl)) tt) (from ! (stop !)) (init ! 6 refl (tt, tt)) $
-          rewrite ! 6 (λ (p : ℕ). ‵ (fat fullShare tyPtr l₁₅ 0 (vptr b p))) (sym (place-is 112 o (i .0))) refl $
+          rewrite ! 6 (λ (p : ℕ). ‵ (fat fullShare tyPtr l₁₅ 0 (vptr b p))) (sym (place-is bytes o (i .0))) refl $
           elem-out ! R (Is R) (shows 𝓤 H A R) (LL.vals Rec.the-type Rec′.the-laws) (LL.tells Rec.the-type Rec′.the-laws) fullShare (filled (idleWith 0) ys (i .0)) (i .0) (idleWith 0) b o within (λ _.
           assigns ! (of-opd ! (load ! (from ! (stop !)) (look ! 28 refl))) (from ! (hop ! (look ! 8 refl) (stop !))) (store-raw ! 0 refl (LL.lawful Rec.the-type Rec′.the-laws 𝓤 H A W .typed (idleWith 0) _ made .0)) $
           move ! (1 ∷ []) $ drop ! $ owned ! R (Is R) ((LL.makes Rec.the-type Rec′.the-plain) 𝓤 H A) (idleWith 0) _ made $ move ! (1 ∷ 0 ∷ []) $
@@ -336,7 +334,7 @@ module _ {M : Type 1} (𝓤 : URA M) (H : Heap 𝓤) (A : Atoms 𝓤) (W : Given
           move ! (2 ∷ 3 ∷ 4 ∷ []) $ opens-slice ! tt R ys b o $ rewrite ! 0 (λ (l : List Record). ‵ (row R fullShare l b o)) (sym (filled-none (idleWith 0) ys)) refl $
           forget ! 12 refl $ forget ! 14 refl $ forget ! 16 refl $ forget ! 18 refl $ forget ! 20 refl $ forget ! 22 refl $ forget ! 30 refl $ forget ! 32 refl $
           keep ! (0 ∷ 1 ∷ 2 ∷ 3 ∷ 4 ∷ 5 ∷ 6 ∷ 7 ∷ 8 ∷ 9 ∷ 10 ∷ 11 ∷ 12 ∷ 13 ∷ 14 ∷ 15 ∷ 16 ∷ 17 ∷ 18 ∷ 19 ∷ 20 ∷ 21 ∷ 22 ∷ 23 ∷ 24 ∷ 25 ∷ 26 ∷ 27 ∷ 28 ∷ 29 ∷ 30 ∷ 31 ∷ 32 ∷ 33 ∷ 34 ∷ 35 ∷ 36 ∷ 37 ∷ []) $
-          whiles ! 𝓣 Nearer Nearer-wf (At e (ie .1) ge below (subst (λ (z : List ℕ). length z ≡ length ws) g′ l) l₀ l₁ l₂ l₃ l₄ l₅ l₆ l₇ l₈ l₉ l₁₀ l₁₁ l₁₂ l₁₃ l₁₄ l₁₅) (turns e (ie .1) ge below (subst (λ (z : List ℕ). length z ≡ length ws) g′ l) l₀ l₁ l₂ l₃ l₄ l₅ l₆ l₇ l₈ l₉ l₁₀ l₁₁ l₁₂ l₁₃ l₁₄ l₁₅) (0, zero-le))))))))))))))))))))))))))))))))
+          whiles ! 𝓣 Nearer Nearer-wf (At e (ie .1) ge below (subst (λ (z : List ℕ). length z ≡ length ws) g′ l) l₀ l₁ l₂ l₃ l₄ l₅ l₆ l₇ l₈ l₉ l₁₀ l₁₁ l₁₂ l₁₃ l₁₄ l₁₅) (turns e (ie .1) ge below (subst (λ (z : List ℕ). length z ≡ length ws) g′ l) l₀ l₁ l₂ l₃ l₄ l₅ l₆ l₇ l₈ l₉ l₁₀ l₁₁ l₁₂ l₁₃ l₁₄ l₁₅ (made-of d (v′ ∷ []) id gd)) (0, zero-le))))))))))))))))))))))))))))))))
 
 module _ {M : Type 1} (𝓤 : URA M) (H : Heap 𝓤) (A : Atoms 𝓤) (W : Given 𝓤 H A) (mem : Memory → SProp 𝓤) (run : Routine → Fun 𝓤) (𝓣 : Tables 𝓤 H)
     (sure : Triple 𝓤 (𝓣 .C #opening-cause) (Cause 𝓤 H A mem run)) (known : Triple 𝓤 (𝓣 .C #zero-words) (Zero 𝓤 H A mem run)) (idles : Triple 𝓤 (𝓣 .C #idle-with) (Idle 𝓤 H A mem run)) where

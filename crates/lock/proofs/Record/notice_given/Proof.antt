@@ -1,5 +1,5 @@
 -- `lock::Record::notice_given` meets its contract. Assumes nothing.
-use mathlib.Core.Path.{sym, ap, _∙_, subst}
+use mathlib.Core.Path.{refl, sym, ap, _∙_, subst}
 use Prim.Native.Nat.{ℕ}
 use native.Mathlib.Omega.{arith}
 use lib.ListN.{length}
@@ -8,7 +8,7 @@ use Rattle.tree.specs.Lists.{notifyList}
 use Rattle.tree.specs.Code.{count-small, bounded}
 use Rattle.lock.specs.Types.{currentPiece}
 use Rattle.lock.specs.Steps.{taken}
-use Rattle.lock.specs.StepLaws.{pieced-change, notice-more, notice-last}
+use Rattle.lock.specs.StepLaws.{pieced-kept, notice-more, notice-last}
 use borrow.Author.Needs.{needs}
 use Rattle.lock.proofs.Record.notice_given.Statement.{statement}
 use Rattle.lock.proofs.Record.notice_given.Tie as tie
@@ -46,7 +46,7 @@ all-notified-requires c κs =
     let q = c .before .before .before .before .pre in
     let v = q .1 .nodes (a .self .current) (q .1 .exists) in
     let m = a .settings .distance in
-    (pieced-change (a .self) (q .1) _ _ _ _ _ _ _ _ _, q .3)
+    (pieced-kept (a .self) _ (q .1) refl refl refl, q .3)
 
 returns-2 : tie.Need-returns-2
 returns-2 c =

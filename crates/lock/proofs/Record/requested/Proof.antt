@@ -3,7 +3,7 @@ use mathlib.Core.Path.{_≡_, ap, _∙_}
 use lib.ListN.{getD}
 use Rattle.cover.specs.Search.{leastCover}
 use Rattle.lock.specs.Steps.{startPhase}
-use Rattle.lock.specs.Calls.{requested}
+use Rattle.lock.specs.Calls.{windowed, requested}
 use Rattle.lock.specs.RequestLaws.{first-node}
 use Rattle.lock.proofs.Record.requested.Statement.{statement}
 use Rattle.lock.proofs.Record.requested.Tie as tie
@@ -18,7 +18,7 @@ returns c =
     let q = c .before .pre in
     let a = c .before .args in
     let e : c .start-phase .result ≡ startPhase (a .settings) (getD (leastCover 2 (a .settings .levels) (a .a) (a .b)) 0 0) = c .start-phase .ensures ∙ ap (startPhase (a .settings)) (q .2) in
-    λ i. record { phase = e i; outcome = 0; left = a .a; right = a .b; first = q .2 i; second = q .3 i; current = 0; giving = 0; grip = 0; ticket = 0; place = 0; notices = 0; t1 = 0; t0 = 0 }
+    λ i. windowed (e i) (a .a) (a .b) (q .2 i) (q .3 i)
 
 pub requested-spec : {M : Type 1} → statement M
 requested-spec = tie.close (tie.spec start-phase-requires returns)
