@@ -67,7 +67,7 @@ use Rattle.lock.proofs.Settings.Laws as G′
 use Rattle.lock.proofs.Call as K
 use Rattle.lock.proofs.Call.Laws as K′
 use Rattle.table.specs.declared.Answer.{Answer}
-use Rattle.table.specs.Promises.{lent}
+use Rattle.table.specs.Promises.{lent, left}
 use Rattle.table.specs.ByValue.{answered, wordsAfter}
 use Rattle.table.specs.Causes.{tableCause}
 use Rattle.table.specs.CauseLaws.{client-below}
@@ -185,7 +185,7 @@ module _ (kind : Call → Table.Call) (its-client : (c : Call) → Table.clientO
   unfolding Table.recordAt
   taken ys ws st ca e r vs ge h g g′ =
       let t = table-takes st ys ws (ca .last) (kind ca) (ca .client) (its-client ca) (sym ge ∙ none-found e h) in
-      (ap answeredOf g ∙ t .0, (ap (λ (z : Stepped). set ys (ca .client) (z .next)) g ∙ t .1 .0, g′ ∙ t .1 .1))
+      (λ i. left (g i .number) (g i .clock) (set ys (ca .client) (g i .next)) (g′ i)) ∙ t
 
   abbrev pub called : {M : Type 1} (𝓤 : URA M) → Clauses 𝓤 callee-ended
   called 𝓤 κs a = record { ghost = Unit {0}; requires = λ _. emp 𝓤; ensures = λ _ r e. sep 𝓤 (fact 𝓤 (r ≡ next (a .0) (now (a .1 .0)) (a .1 .1 .0) (a .1 .1 .1 .0))) (fact 𝓤 (now (e .1 .0) ≡ after (a .0) (now (a .1 .0)) (a .1 .1 .0) (a .1 .1 .1 .0))) }

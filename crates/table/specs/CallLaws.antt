@@ -15,7 +15,7 @@ use Rattle.lock.specs.Calls.{firstCause, treeTests, clientsOutside, clientTests
 use Rattle.lock.specs.Calls.{releaseAnswer, cancelAnswer, stepNumber, stepAnswer, stepWords}
 use Rattle.lock.specs.Table.{State, Call, request, step, release, cancel, clientOf, recordAt, Out, ownTests, numberOf, after, call}
 use Rattle.table.specs.declared.Answer.{Answer}
-use Rattle.table.specs.Promises.{lent, answer}
+use Rattle.table.specs.Promises.{lent, left}
 use Rattle.table.specs.ByValue.{answered, wordsAfter}
 use Rattle.table.specs.Causes.{tableCause}
 use Rattle.table.specs.CauseLaws.{first-hits, first-passes, both-none}
@@ -26,9 +26,9 @@ set-same [] i d = refl
 set-same (x ∷ l) zero d = refl
 set-same {A} (x ∷ l) (suc i) d = ap (λ (k : List A). x ∷ k) (set-same l i d)
 
--- the answer, the records and the words after a call
+-- an answer, records and words are what a call leaves
 abbrev pub Same : Out → Answer → List Record → List ℕ → Type 0
-Same out n records words = (n ≡ answer out) × ((records ≡ out .state .records) × (words ≡ out .state .words))
+Same out n records words = left (n .number) (n .clock) records words ≡ out
 
 abbrev pub numbered : ℕ → ℕ → Answer
 numbered n c = record { number = n; clock = c }
@@ -62,7 +62,7 @@ module _ (s : Settings) (records : List Record) (words : List ℕ) (last : ℕ) 
   table-refuses k n e d =
       let number : numberOf s st k ≡ n = cause-refuses k (λ z. d (e ∙ z)) ∙ sym e in
       let kept : choose (eqb (numberOf s st k) 0) (after s st k) st ≡ st = choose-ne (numberOf s st k) 0 _ st (λ z. d (sym number ∙ z)) in
-      ((λ i. numbered (sym number i) (sym kept i .clock)), (ap (λ (t : State). t .records) (sym kept), ap (λ (t : State). t .words) (sym kept)))
+      λ i. record { number = sym number i; state = sym kept i }
 
   -- ---- else the call by value
 
@@ -76,8 +76,8 @@ module _ (s : Settings) (records : List Record) (words : List ℕ) (last : ℕ) 
       (answeredOf (choose b (record { number = 0; clock = t; next = next }) (record { number = n; clock = last; next = recordAt st c })))
       (set records c (choose {A = Stepped} b (record { number = 0; clock = t; next = next }) (record { number = n; clock = last; next = recordAt st c }) .next)) (choose b others words)
   unfolding choose recordAt
-  put-back-by c n t next others true z = ((λ i. numbered (sym (z tt) i) t), (refl, refl))
-  put-back-by c n t next others false z = (refl, (set-same records c (idleWith 0), refl))
+  put-back-by c n t next others true z = λ i. left (sym (z tt) i) t (set records c next) others
+  put-back-by c n t next others false z = λ i. left n last (set-same records c (idleWith 0) i) words
 
   -- an answer by value with the number n, put back into the table
   put-back : (c n t : ℕ) (next : Record) (others : List ℕ)
@@ -98,7 +98,9 @@ module _ (s : Settings) (records : List Record) (words : List ℕ) (last : ℕ) 
   no-word : (c n t : ℕ) (next : Record)
       → Same (record { number = n; state = choose (eqb n 0) (record { words = words; records = set records c next; clock = t }) st })
       (answeredOf (answeredBy n last (recordAt st c) t next)) (set records c (answeredBy n last (recordAt st c) t next .next)) words
-  no-word c n t next = let p = put-back c n t next words in (p .0, (p .1 .0, sym (choose-same (eqb n 0) words) ∙ p .1 .1))
+  no-word c n t next =
+      let by-value = answeredBy n last (recordAt st c) t next in
+      (λ i. left (by-value .number) (by-value .clock) (set records c (by-value .next)) (sym (choose-same (eqb n 0) words) i)) ∙ put-back c n t next words
 
   by-value : (k : Call) → Taken k (outOf k (firstCause (treeTests s (length words) ++ ownTests s st k)))
   unfolding ownTests after clientOf answered wordsAfter requestNumber requestAnswer releaseAnswer cancelAnswer stepNumber stepAnswer stepWords

@@ -41,7 +41,7 @@ one-more s l t k = ap (first-calls s l t) (add-one k)
 pub one-made : (s : Settings) (l : List ℕ) (k : ℕ) (t : State) (c : Asked) (n : Answer) (records : List Record) (words : List ℕ)
     → c ≡ readAt l k (t .clock) → Same (made s (t .records) (t .words) c) n records words → lent records words (n .clock) ≡ call s t (callAt l k) .state
 one-made s l k t c n records words e g =
-    (λ i. lent (g .1 .0 i) (g .1 .1 i) (g .0 i .clock)) ∙ ap (λ (d : Asked). made s (t .records) (t .words) d .state) e
+    ap (λ (o : Out). o .state) g ∙ ap (λ (d : Asked). made s (t .records) (t .words) d .state) e
 
 -- ---- all of them
 
@@ -93,13 +93,14 @@ module _ (s : Settings) (records : List Record) (words : List ℕ) (ks : List Ca
   history-refused d =
       let kept = state-refused s records words 0 (λ z. d (number-is ∙ z)) in
       let same : st ≡ history s st ks .state = sym (choose-ne (openingNumber s st) 0 _ st (λ z. d (number-is ∙ z))) in
-      ((λ i. numbered (number-is i) (same i .clock)), (ap (λ (t : State). t .records) (sym kept ∙ same), ap (λ (t : State). t .words) (sym kept ∙ same)))
+      let left-as : lent (opening s st .state .records) (opening s st .state .words) 0 ≡ st = λ i. lent (sym kept i .records) (sym kept i .words) 0 in
+      λ i. record { number = number-is i; state = (left-as ∙ same) i }
 
   pub history-taken : n ≡ 0 → (t : State) → t ≡ run s (opening s st .state) ks → Same (history s st ks) (numbered n (t .clock)) (t .records) (t .words)
   unfolding history
   history-taken z t g =
       let same : t ≡ history s st ks .state = g ∙ sym (choose-eq (openingNumber s st) 0 _ st (sym number-is ∙ z)) in
-      ((λ i. numbered (number-is i) (same i .clock)), (ap (λ (u : State). u .records) same, ap (λ (u : State). u .words) same))
+      λ i. record { number = number-is i; state = same i }
 
   -- "and clock": it is 0 after an opening, accepted or not
   pub clock-opened : n ≡ 0 → 0 ≡ opening s st .state .clock

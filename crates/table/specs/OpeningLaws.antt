@@ -9,12 +9,8 @@ use Rattle.lock.specs.declared.Settings.{Settings}
 use Rattle.lock.specs.Types.{idleWith}
 use Rattle.lock.specs.Calls.{clientsOutside}
 use Rattle.lock.specs.Table.{State, Out, openingNumber, opened, opening}
-use Rattle.table.specs.Promises.{lent}
+use Rattle.table.specs.Promises.{lent, left}
 use Rattle.table.specs.Causes.{openingCause}
-
--- the number, the records and the words after an opening
-abbrev pub Opened : Out → ℕ → List Record → List ℕ → Type 0
-Opened out n records words = (n ≡ out .number) × ((records ≡ out .state .records) × (words ≡ out .state .words))
 
 module _ (s : Settings) (records : List Record) (words : List ℕ) (last : ℕ) where
   abbrev st : State
@@ -37,13 +33,13 @@ module _ (s : Settings) (records : List Record) (words : List ℕ) (last : ℕ) 
   unfolding opening
   number-is n e = e ∙ sym cause-opens
 
-  pub opening-refuses : (n : ℕ) → n ≡ openingCause s (length words) (length records) → (n ≡ 0 → ⊥) → Opened (opening s st) n records words
+  pub opening-refuses : (n : ℕ) → n ≡ openingCause s (length words) (length records) → (n ≡ 0 → ⊥) → left n last records words ≡ opening s st
   opening-refuses n e d =
       let kept = state-refused (λ z. d (e ∙ sym cause-opens ∙ z)) in
-      (number-is n e, (ap (λ (t : State). t .records) kept, ap (λ (t : State). t .words) kept))
+      λ i. record { number = number-is n e i; state = kept i }
 
   pub opening-takes : (n : ℕ) → n ≡ openingCause s (length words) (length records) → n ≡ 0
-      → Opened (opening s st) n (replicate (length records) (idleWith 0)) (replicate (length words) 0)
+      → left n 0 (replicate (length records) (idleWith 0)) (replicate (length words) 0) ≡ opening s st
   opening-takes n e z =
       let made = state-opened (cause-opens ∙ sym e ∙ z) in
-      (number-is n e, (ap (λ (t : State). t .records) made, ap (λ (t : State). t .words) made))
+      λ i. record { number = number-is n e i; state = made i }

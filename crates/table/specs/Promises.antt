@@ -18,6 +18,10 @@ lent records words last = record { words = words; records = records; clock = las
 abbrev pub answer : Out → Answer
 answer out = record { number = out .number; clock = out .state .clock }
 
+-- what a call leaves: its number, the clock after it, and the records and words that were lent
+abbrev pub left : ℕ → ℕ → List Record → List ℕ → Out
+left number clock records words = record { number = number; state = lent records words clock }
+
 -- "u8 kind (0 request, 1 step, 2 release, 3 cancel)", "Request: a = l, b = r. Step: a = clock". A kind over 3 is a cancel too
 unfoldable pub callOf : ℕ → ℕ → ℕ → ℕ → Call
 callOf kind client a b =

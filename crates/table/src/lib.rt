@@ -1,8 +1,8 @@
 // The calls over a lent table of records. Each tests the settings, the word count, the table's count and the client, and makes the call by value on that
-// client's record. Its promises are the equations of one definition, the crate lock's `Table.call`, for every table, word list, client and number.
+// client's record. Its promise is one equation, of one definition, the crate lock's `Table.call`, for every table, word list, client and number.
 ghost use mathlib.Core.Path.{_≡_};
 ghost use Rattle.lock.specs.Table as Table;
-ghost use Rattle.table.specs.Promises.{lent, answer, callOf, callsOf, history};
+ghost use Rattle.table.specs.Promises.{lent, left, callOf, callsOf, history};
 use lock::Call;
 use lock::Record;
 use lock::Settings;
@@ -27,9 +27,7 @@ pub extern "C" fn table_request(
     settings: Settings,
     call: Call,
 ) -> Answer
-    ensures answer { λ r. ⌜ r ≡ answer (Table.call settings (lent (now (records .entry)) (now (words .entry)) (call .last)) (Table.request (call .client) (call .a) (call .b))) ⌝ }
-    ensures records { λ r. ⌜ now (records .exit) ≡ Table.call settings (lent (now (records .entry)) (now (words .entry)) (call .last)) (Table.request (call .client) (call .a) (call .b)) .state .records ⌝ }
-    ensures words { λ r. ⌜ now (words .exit) ≡ Table.call settings (lent (now (records .entry)) (now (words .entry)) (call .last)) (Table.request (call .client) (call .a) (call .b)) .state .words ⌝ }
+    ensures { λ r. ⌜ left (r .number) (r .clock) (now (records .exit)) (now (words .exit)) ≡ Table.call settings (lent (now (records .entry)) (now (words .entry)) (call .last)) (Table.request (call .client) (call .a) (call .b)) ⌝ }
 {
     let cause = causes::table_cause(settings, words.len(), records.len(), call.client);
     if 0 < cause {
@@ -56,9 +54,7 @@ pub extern "C" fn table_step(
     settings: Settings,
     call: Call,
 ) -> Answer
-    ensures answer { λ r. ⌜ r ≡ answer (Table.call settings (lent (now (records .entry)) (now (words .entry)) (call .last)) (Table.step (call .client) (call .a))) ⌝ }
-    ensures records { λ r. ⌜ now (records .exit) ≡ Table.call settings (lent (now (records .entry)) (now (words .entry)) (call .last)) (Table.step (call .client) (call .a)) .state .records ⌝ }
-    ensures words { λ r. ⌜ now (words .exit) ≡ Table.call settings (lent (now (records .entry)) (now (words .entry)) (call .last)) (Table.step (call .client) (call .a)) .state .words ⌝ }
+    ensures { λ r. ⌜ left (r .number) (r .clock) (now (records .exit)) (now (words .exit)) ≡ Table.call settings (lent (now (records .entry)) (now (words .entry)) (call .last)) (Table.step (call .client) (call .a)) ⌝ }
 {
     let cause = causes::table_cause(settings, words.len(), records.len(), call.client);
     if 0 < cause {
@@ -85,9 +81,7 @@ pub extern "C" fn table_release(
     settings: Settings,
     call: Call,
 ) -> Answer
-    ensures answer { λ r. ⌜ r ≡ answer (Table.call settings (lent (now (records .entry)) (now (words .entry)) (call .last)) (Table.release (call .client))) ⌝ }
-    ensures records { λ r. ⌜ now (records .exit) ≡ Table.call settings (lent (now (records .entry)) (now (words .entry)) (call .last)) (Table.release (call .client)) .state .records ⌝ }
-    ensures words { λ r. ⌜ now (words .exit) ≡ Table.call settings (lent (now (records .entry)) (now (words .entry)) (call .last)) (Table.release (call .client)) .state .words ⌝ }
+    ensures { λ r. ⌜ left (r .number) (r .clock) (now (records .exit)) (now (words .exit)) ≡ Table.call settings (lent (now (records .entry)) (now (words .entry)) (call .last)) (Table.release (call .client)) ⌝ }
 {
     let cause = causes::table_cause(settings, words.len(), records.len(), call.client);
     if 0 < cause {
@@ -114,9 +108,7 @@ pub extern "C" fn table_cancel(
     settings: Settings,
     call: Call,
 ) -> Answer
-    ensures answer { λ r. ⌜ r ≡ answer (Table.call settings (lent (now (records .entry)) (now (words .entry)) (call .last)) (Table.cancel (call .client))) ⌝ }
-    ensures records { λ r. ⌜ now (records .exit) ≡ Table.call settings (lent (now (records .entry)) (now (words .entry)) (call .last)) (Table.cancel (call .client)) .state .records ⌝ }
-    ensures words { λ r. ⌜ now (words .exit) ≡ Table.call settings (lent (now (records .entry)) (now (words .entry)) (call .last)) (Table.cancel (call .client)) .state .words ⌝ }
+    ensures { λ r. ⌜ left (r .number) (r .clock) (now (records .exit)) (now (words .exit)) ≡ Table.call settings (lent (now (records .entry)) (now (words .entry)) (call .last)) (Table.cancel (call .client)) ⌝ }
 {
     let cause = causes::table_cause(settings, words.len(), records.len(), call.client);
     if 0 < cause {
@@ -143,9 +135,7 @@ pub extern "C" fn table_act(
     settings: Settings,
     call: Call,
 ) -> Answer
-    ensures answer { λ r. ⌜ r ≡ answer (Table.call settings (lent (now (records .entry)) (now (words .entry)) (call .last)) (callOf (call .kind) (call .client) (call .a) (call .b))) ⌝ }
-    ensures records { λ r. ⌜ now (records .exit) ≡ Table.call settings (lent (now (records .entry)) (now (words .entry)) (call .last)) (callOf (call .kind) (call .client) (call .a) (call .b)) .state .records ⌝ }
-    ensures words { λ r. ⌜ now (words .exit) ≡ Table.call settings (lent (now (records .entry)) (now (words .entry)) (call .last)) (callOf (call .kind) (call .client) (call .a) (call .b)) .state .words ⌝ }
+    ensures { λ r. ⌜ left (r .number) (r .clock) (now (records .exit)) (now (words .exit)) ≡ Table.call settings (lent (now (records .entry)) (now (words .entry)) (call .last)) (callOf (call .kind) (call .client) (call .a) (call .b)) ⌝ }
 {
     let cause = causes::table_cause(settings, words.len(), records.len(), call.client);
     if 0 < cause {
@@ -167,9 +157,7 @@ pub extern "C" fn table_act(
 // "Opening tests 1 to 3, then zeroes words, records and clock." The clock travels beside the table: it is 0 from here on.
 #[no_mangle]
 pub extern "C" fn table_open(records: &mut [Record], words: &mut [u64], settings: Settings) -> u64
-    ensures number { λ n. ⌜ n ≡ Table.opening settings (lent (now (records .entry)) (now (words .entry)) 0) .number ⌝ }
-    ensures records { λ n. ⌜ now (records .exit) ≡ Table.opening settings (lent (now (records .entry)) (now (words .entry)) 0) .state .records ⌝ }
-    ensures words { λ n. ⌜ now (words .exit) ≡ Table.opening settings (lent (now (records .entry)) (now (words .entry)) 0) .state .words ⌝ }
+    ensures { λ n. ⌜ left n 0 (now (records .exit)) (now (words .exit)) ≡ Table.opening settings (lent (now (records .entry)) (now (words .entry)) 0) ⌝ }
 {
     let cause = causes::opening_cause(settings, words.len(), records.len());
     if 0 < cause {
@@ -193,9 +181,7 @@ pub extern "C" fn table_run(
     settings: Settings,
     calls: &[u64],
 ) -> Answer
-    ensures answer { λ r. ⌜ r ≡ answer (history settings (lent (now (records .entry)) (now (words .entry)) 0) (callsOf (now (calls .entry)))) ⌝ }
-    ensures records { λ r. ⌜ now (records .exit) ≡ history settings (lent (now (records .entry)) (now (words .entry)) 0) (callsOf (now (calls .entry))) .state .records ⌝ }
-    ensures words { λ r. ⌜ now (words .exit) ≡ history settings (lent (now (records .entry)) (now (words .entry)) 0) (callsOf (now (calls .entry))) .state .words ⌝ }
+    ensures { λ r. ⌜ left (r .number) (r .clock) (now (records .exit)) (now (words .exit)) ≡ history settings (lent (now (records .entry)) (now (words .entry)) 0) (callsOf (now (calls .entry))) ⌝ }
 {
     let cause = table_open(records, words, settings);
     if 0 < cause {

@@ -1,11 +1,12 @@
 -- `table::table_act` meets its contract: it is Thin.antt's law at `kinds::act`. Assumes nothing.
 use Rattle.table.specs.Promises.{callOf}
 use Rattle.table.specs.ByValueLaws.{client-of-kind}
+use base.Logic.{emp}
+use contract.Monad.{factI}
 use contract.Running.{givenOf, tables, tablesOf}
 use denote.Triple.Spec.{tripleOf}
 use denote.Triple.Table.{entered, cited}
 use Rattle.table.proofs.Thin.{thin-meets}
-use Rattle.table.proofs.Walk.{three-facts}
 use Rattle.table.proofs.causes.table_cause as cause
 use Rattle.table.proofs.causes.table_cause.Symbol as cause-def
 use Rattle.table.proofs.causes.table_cause.Symbol.{name as #cause}
@@ -25,7 +26,7 @@ table-act-spec 𝓤 H 𝓜 𝓖 𝓡 =
     entered 𝓤 H (tripleOf 𝓤 H (𝓖 .A) this.signature (this.spec 𝓤 H (𝓖 .A) (𝓜 .mem) (𝓡 .run)))
     (tables 𝓤 H 𝓜 𝓡 code.env .C) (tables 𝓤 H 𝓜 𝓡 code.env .Λ) #this code.function (code.unfolded 𝓤 H 𝓜 𝓡)
     (thin-meets (λ c. callOf (c .kind) (c .client) (c .a) (c .b)) (λ c. client-of-kind (c .kind) (c .client) (c .a) (c .b)) 𝓤 H (𝓖 .A) (givenOf 𝓤 H 𝓜 𝓖)
-    (λ κs a r e. this.clauses 𝓤 H (𝓖 .A) (𝓜 .mem) (𝓡 .run) κs a .ensures tt r e) (λ κs a r e call. three-facts 𝓤 (call .0) (call .1 .0) (call .1 .1))
+    (λ κs a r e. this.clauses 𝓤 H (𝓖 .A) (𝓜 .mem) (𝓡 .run) κs a .ensures tt r e) (λ κs a r e call. factI 𝓤 _ (emp 𝓤) call)
     #cause #callee (tablesOf 𝓤 H 𝓜 (tables 𝓤 H 𝓜 𝓡 code.env))
     (cited 𝓤 H (tripleOf 𝓤 H (𝓖 .A) cause.signature (cause.spec 𝓤 H (𝓖 .A) (𝓜 .mem) (𝓡 .run))) 𝓜 𝓡 code.env #cause cause-def.routine code.calls-table·causes·table-cause (cause-thm.met 𝓤 H 𝓜 𝓖 𝓡))
     (cited 𝓤 H (tripleOf 𝓤 H (𝓖 .A) callee.signature (callee.spec 𝓤 H (𝓖 .A) (𝓜 .mem) (𝓡 .run))) 𝓜 𝓡 code.env #callee callee-def.routine code.calls-table·kinds·act (callee-thm.met 𝓤 H 𝓜 𝓖 𝓡)))

@@ -22,7 +22,7 @@ use prog.Memory.{Memory}
 use prog.Routine.{Routine}
 use prog.Wp.{Heap, Env, afterTurn, WpFn, Tables}
 use ghost.Atoms.{Atoms, sem}
-use contract.Monad.{Fun, fact}
+use contract.Monad.{Fun, fact, factI}
 use contract.Running.{givenOf, tables, tablesOf}
 use types.Kit.{Given, Item, ‵, raw, _⊛_, some, later, ⋆, runs, atRet, Sq, _$_, _∵_, !, qed, by, move, keep, drop, use0, use1, use2, split, join, pick, rewrite, fsplit}
 use types.Kit.{fjoin, feqL, suffices, frame, await, done}
@@ -62,12 +62,12 @@ use Rattle.lock.proofs.Record.idle_with as idle-with
 use Rattle.lock.proofs.Record.idle_with.Symbol as idle-with-def
 use Rattle.lock.proofs.Record.idle_with.Symbol.{name as #idle-with}
 use Rattle.lock.proofs.Record.idle_with.Met as idle-with-thm
-use Rattle.table.specs.Promises.{lent}
+use Rattle.table.specs.Promises.{lent, left}
 use Rattle.table.specs.Causes.{openingCause}
-use Rattle.table.specs.OpeningLaws.{Opened, opening-refuses, opening-takes}
+use Rattle.table.specs.OpeningLaws.{opening-refuses, opening-takes}
 use Rattle.table.proofs.Filled.{filled, filled-length, filled-none, filled-next, filled-all}
 use Rattle.table.proofs.Thin.{bytes}
-use Rattle.table.proofs.Walk.{fits-index, gives-up, goes-on, shows-that, three-facts, tests, whiles, Turned, first-of, after, inside, env, none-found, some-found}
+use Rattle.table.proofs.Walk.{fits-index, gives-up, goes-on, shows-that, tests, whiles, Turned, first-of, after, inside, env, none-found, some-found}
 use Rattle.table.proofs.causes.opening_cause as opening-cause
 use Rattle.table.proofs.causes.opening_cause.Symbol as opening-cause-def
 use Rattle.table.proofs.causes.opening_cause.Symbol.{name as #opening-cause}
@@ -108,7 +108,7 @@ blanks-length ys = ap length (sym (filled-all (idleWith 0) ys)) ∙ filled-lengt
 
 -- what the contract says of the result and the two last lists
 abbrev Said : List Record → List ℕ → Settings → ℕ → List Record → List ℕ → Type 0
-Said ys ws st n zs vs = Opened (Table.opening st (lent ys ws 0)) n zs vs
+Said ys ws st n zs vs = left n 0 zs vs ≡ Table.opening st (lent ys ws 0)
 
 refused : (ys : List Record) (ws : List ℕ) (st : Settings) (e : ℕ) → e ≡ openingCause st (length ws) (length ys) → T (ltb 0 e) → Said ys ws st e ys ws
 refused ys ws st e ge h = opening-refuses st ys ws 0 e ge (some-found e h)
@@ -178,7 +178,7 @@ module _ {M : Type 1} (𝓤 : URA M) (H : Heap 𝓤) (A : Atoms 𝓤) (W : Given
   exits k zs vs k-fits long long′ e =
       qed W ((‵ (flft κ q) ⊛ (‵ (flft κ′ q′) ⊛ ‵ ftrue)) ∷ ‵ (finally R (x .name) zs) ∷ ‵ (finally u64 (u .name) vs) ∷ []) ∵
       suffices ! _ (ends-at 𝓤 H A this.ended stayed (this.clauses 𝓤 H A mem run) W (((κ, (κ′, tt)), (q, (q′, tt)), tt, a, vals), tt) (vint w64 k) k (zs, (vs, (tt, tt))) (long, (long′, (tt, tt)))) $
-      shows-that ! (three-facts 𝓤 (e .0) (e .1 .0) (e .1 .1)) $ frame ! $
+      shows-that ! (factI 𝓤 _ (emp 𝓤) e) $ frame ! $
       nothing ! $ owned ! RG (Is RG) ((LL.makes G.the-type G′.the-plain) 𝓤 H A) st _ gs $ fjoin ! $ move ! (2 ∷ 0 ∷ []) $ fjoin ! $ move ! (1 ∷ 0 ∷ []) $ fjoin ! $
       frame ! $ owned ! u64 (Is u64) (uint-makes 𝓤 H A W w64) k _ (refl, k-fits) $ done !
 

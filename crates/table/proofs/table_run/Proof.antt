@@ -21,7 +21,7 @@ use prog.Memory.{Memory}
 use prog.Routine.{Routine}
 use prog.Wp.{Heap, Env, afterTurn, WpFn, Tables}
 use ghost.Atoms.{Atoms, sem}
-use contract.Monad.{Fun, fact}
+use contract.Monad.{Fun, fact, factI}
 use contract.Running.{givenOf, tables, tablesOf}
 use types.Kit.{Given, Item, ‵, raw, _⊛_, some, later, ⋆, runs, atRet, Sq, _$_, _∵_, !, qed, by, move, keep, drop, use1, use2, use3, split, join, pick, rewrite, fsplit}
 use types.Kit.{fjoin, feqL, suffices, frame, await, done}
@@ -62,12 +62,12 @@ use Rattle.lock.proofs.Settings.Laws as G′
 use Rattle.lock.proofs.Call as K
 use Rattle.lock.proofs.Call.Laws as K′
 use Rattle.table.specs.declared.Answer.{Answer}
-use Rattle.table.specs.Promises.{lent, answer, callsOf, history}
+use Rattle.table.specs.Promises.{lent, left, callsOf, history}
 use Rattle.table.specs.CallLaws.{Same, numbered}
 use Rattle.table.specs.HistoryLaws.{readAt, made, first-calls, one-more, one-made, all-calls, history-refused, history-taken, clock-opened}
 use Rattle.table.proofs.Answer as An
 use Rattle.table.proofs.Answer.Laws as An′
-use Rattle.table.proofs.Walk.{gives-up, goes-on, shows-that, three-facts, tests, whiles, Turned, first-of, after, inside, env, none-found, some-found}
+use Rattle.table.proofs.Walk.{gives-up, goes-on, shows-that, tests, whiles, Turned, first-of, after, inside, env, none-found, some-found}
 use Rattle.table.proofs.list.call_count as call-count
 use Rattle.table.proofs.list.call_count.Symbol as call-count-def
 use Rattle.table.proofs.list.call_count.Symbol.{name as #call-count}
@@ -195,7 +195,7 @@ module _ {M : Type 1} (𝓤 : URA M) (H : Heap 𝓤) (A : Atoms 𝓤) (W : Given
   exits m zs vs is long long′ e =
       qed W ((‵ (flft κ q) ⊛ (‵ (flft κ′ q′) ⊛ (‵ (flft κ″ q″) ⊛ ‵ ftrue))) ∷ ‵ (finally R (x .name) zs) ∷ ‵ (finally u64 (u .name) vs) ∷ Listed ∷ []) ∵
       suffices ! _ (ends-at 𝓤 H A this.ended stayed (this.clauses 𝓤 H A mem run) W (((κ, (κ′, (κ″, tt))), (q, (q′, (q″, tt))), tt, a, vals), tt) (An′.lowered m) m (zs, (vs, (tt, (tt, tt)))) (long, (long′, (tt, (tt, tt))))) $
-      shows-that ! (three-facts 𝓤 (e .0) (e .1 .0) (e .1 .1)) $ frame ! $
+      shows-that ! (factI 𝓤 _ (emp 𝓤) e) $ frame ! $
       nothing ! $ move ! (3 ∷ 0 ∷ []) $ fjoin ! $ owned ! RG (Is RG) ((LL.makes G.the-type G′.the-plain) 𝓤 H A) st _ gs $ fjoin ! $
       move ! (2 ∷ 0 ∷ []) $ fjoin ! $ move ! (1 ∷ 0 ∷ []) $ fjoin ! $ frame ! $ owned ! RA (Is RA) ((LL.makes An.the-type An′.the-plain) 𝓤 H A) m _ is $ done !
 
@@ -339,10 +339,9 @@ module _ {M : Type 1} (𝓤 : URA M) (H : Heap 𝓤) (A : Atoms 𝓤) (W : Given
           use1 W (later (some (λ (r : Answer). ((‵ (flft (α ∷ []) fullShare) ⊛ (‵ (flft (β ∷ []) fullShare) ⊛ ‵ ftrue)) ⊛ ‵ (RA .own r (w ∷ []))) ⊛ raw (ensured 𝓤 H A table-act.ended (table-act.clauses 𝓤 H A mem run) (α ∷ [], (β ∷ [], tt)) (passed (at k .records) (at k .words) γ γ′ c) tt r)))) (id⊢ 𝓤 _) $
           await ! tt $ pick ! (λ r.
           split ! $ move ! (1 ∷ []) $
-          use1 W (some (λ (vs : List Record × (List ℕ × (Unit {0} × (Unit {0} × Unit {0})))). ‵ (lasts table-act.ended (α ∷ [], (β ∷ [], tt)) (passed (at k .records) (at k .words) γ γ′ c) vs) ⊛ (raw (fact 𝓤 (r ≡ answer (made st (at k .records) (at k .words) c))) ⊛ (raw (fact 𝓤 (vs .0 ≡ made st (at k .records) (at k .words) c .state .records)) ⊛ raw (fact 𝓤 (vs .1 .0 ≡ made st (at k .records) (at k .words) c .state .words)))))) (id⊢ 𝓤 _) $
+          use1 W (some (λ (vs : List Record × (List ℕ × (Unit {0} × (Unit {0} × Unit {0})))). ‵ (lasts table-act.ended (α ∷ [], (β ∷ [], tt)) (passed (at k .records) (at k .words) γ γ′ c) vs) ⊛ raw (fact 𝓤 (left (r .number) (r .clock) (vs .0) (vs .1 .0) ≡ made st (at k .records) (at k .words) c)))) (id⊢ 𝓤 _) $
           pick ! (λ vs.
-          split ! $ move ! (1 ∷ []) $ split ! $ heard ! (r ≡ answer (made st (at k .records) (at k .words) c)) (λ h₀. split ! $
-          heard ! (vs .0 ≡ made st (at k .records) (at k .words) c .state .records) (λ h₁. heard ! (vs .1 .0 ≡ made st (at k .records) (at k .words) c .state .words) (λ h₂. fsplit ! $
+          split ! $ move ! (1 ∷ []) $ heard ! (left (r .number) (r .clock) (vs .0) (vs .1 .0) ≡ made st (at k .records) (at k .words) c) (λ h. fsplit ! $
           fsplit ! $ move ! (1 ∷ []) $ feqL ! (λ lt. move ! (1 ∷ []) $ fsplit ! $ fsplit ! $ move ! (1 ∷ []) $ feqL ! (λ lw. move ! (1 ∷ []) $ drop ! $ move ! (2 ∷ []) $
           split ! $ move ! (1 ∷ []) $
           peeks ! RA (Is RA) (shows 𝓤 H A RA) r (w ∷ []) (λ is. let parts = LL.owed An.the-type An′.the-laws r _ is in land ! (from ! (stop !)) (init ! 34 refl (LL.lawful An.the-type An′.the-laws 𝓤 H A W .typed r _ is .0)) $
@@ -357,13 +356,13 @@ module _ {M : Type 1} (𝓤 : URA M) (H : Heap 𝓤) (A : Atoms 𝓤) (W : Given
           await ! tt $ fsplit ! $ drop ! $ use1 W (‵ (row u64 fullShare (vs .1 .0) b′ o′)) (whole-out 𝓤 H A W u64 (vs .1 .0) b′ o′) $
           -- the clock, and the state after k + 1 calls
           assigns ! (of-opd ! (load ! (from ! (fld ! refl (stop !))) (look-in ! 30 (sub ! 1 refl (whole !))))) (from ! (stop !)) (store ! 36 refl (tt, record { fits = parts .1 .0 .1 })) $
-          let next = one-made st (cs .now) k (at k) c r (vs .0) (vs .1 .0) hc (h₀, (h₁, h₂)) ∙ sym (one-more st (cs .now) start k) in
+          let next = one-made st (cs .now) k (at k) c r (vs .0) (vs .1 .0) hc h ∙ sym (one-more st (cs .now) start k) in
           rewrite ! 0 (λ (t : State). ‵ (row u64 fullShare (t .words) b′ o′)) next refl $ rewrite ! 1 (λ (t : State). ‵ (row R fullShare (t .records) b o)) next refl $
           rewrite ! 36 (λ (t : State). ‵ (fat fullShare word l₇ 0 (vint w64 (t .clock)))) next refl $
           assigns-last ! (bin ! (load ! (from ! (stop !)) (look ! 34 refl)) (lit ! tt) (record { fits = lt-of-le-of-lt (add-one-le within) n-fits })) (from ! (stop !)) (store ! 34 refl (tt, record { fits = lt-of-le-of-lt (add-one-le within) n-fits })) $
           forget ! 10 refl $ forget ! 12 refl $ forget ! 14 refl $ forget ! 16 refl $ forget ! 18 refl $ forget ! 30 refl $ forget ! 32 refl $
           keep ! (1 ∷ 4 ∷ 5 ∷ 6 ∷ 0 ∷ 7 ∷ 8 ∷ 9 ∷ 2 ∷ 3 ∷ 10 ∷ 11 ∷ 12 ∷ 13 ∷ 14 ∷ 15 ∷ 16 ∷ 17 ∷ 18 ∷ 19 ∷ 20 ∷ 21 ∷ 22 ∷ 23 ∷ 24 ∷ 25 ∷ 26 ∷ 27 ∷ 28 ∷ 29 ∷ 30 ∷ 31 ∷ 32 ∷ 33 ∷ 34 ∷ 35 ∷ 36 ∷ 37 ∷ 38 ∷ 39 ∷ 40 ∷ 41 ∷ 42 ∷ 43 ∷ 44 ∷ 45 ∷ 46 ∷ 47 ∷ 48 ∷ 49 ∷ 50 ∷ 51 ∷ []) $
-          again ! Nearer At i (k + 1, (add-one-le within, (subst (λ (t : State). t .clock < 2 ^ 64) next (parts .1 .0 .1), (subst (λ (t : State). length (t .records) ≡ length ys) next (lt ∙ long), subst (λ (t : State). length (t .words) ≡ length ws) next (lw ∙ long′))))) (add-one-dec n k within)))))))))))))))))))
+          again ! Nearer At i (k + 1, (add-one-le within, (subst (λ (t : State). t .clock < 2 ^ 64) next (parts .1 .0 .1), (subst (λ (t : State). length (t .records) ≡ length ys) next (lt ∙ long), subst (λ (t : State). length (t .words) ≡ length ws) next (lw ∙ long′))))) (add-one-dec n k within)))))))))))))))))
           -- the loop is left: both borrows are closed
           (λ over. let ans : Answer = numbered e (at k .clock) in let is = LL.owes An.the-type An′.the-laws ans ((refl, e-fits), ((refl, c-fits), tt)) in
           move ! (0 ∷ 1 ∷ 2 ∷ 3 ∷ []) $ closes-slice ! tt R ys (at k .records) long b o $
@@ -410,10 +409,10 @@ module _ {M : Type 1} (𝓤 : URA M) (H : Heap 𝓤) (A : Atoms 𝓤) (W : Given
         use1 W (later (some (λ (r : ℕ). ((‵ (flft (α ∷ []) fullShare) ⊛ (‵ (flft (β ∷ []) fullShare) ⊛ ‵ ftrue)) ⊛ ‵ (u64 .own r (w ∷ []))) ⊛ raw (ensured 𝓤 H A table-open.ended (table-open.clauses 𝓤 H A mem run) (α ∷ [], (β ∷ [], tt)) (xk ys γ, (uk ws γ′, (st, tt))) tt r)))) (id⊢ 𝓤 _) $
         await ! tt $ pick ! (λ r.
         split ! $ move ! (1 ∷ []) $
-        use1 W (some (λ (vs : List Record × (List ℕ × (Unit {0} × Unit {0}))). ‵ (lasts table-open.ended (α ∷ [], (β ∷ [], tt)) (xk ys γ, (uk ws γ′, (st, tt))) vs) ⊛ (raw (fact 𝓤 (r ≡ begun .number)) ⊛ (raw (fact 𝓤 (vs .0 ≡ begun .state .records)) ⊛ raw (fact 𝓤 (vs .1 .0 ≡ begun .state .words)))))) (id⊢ 𝓤 _) $
+        use1 W (some (λ (vs : List Record × (List ℕ × (Unit {0} × Unit {0}))). ‵ (lasts table-open.ended (α ∷ [], (β ∷ [], tt)) (xk ys γ, (uk ws γ′, (st, tt))) vs) ⊛ raw (fact 𝓤 (left r 0 (vs .0) (vs .1 .0) ≡ begun)))) (id⊢ 𝓤 _) $
         pick ! (λ vs.
-        split ! $ move ! (1 ∷ []) $ split ! $ heard ! (r ≡ begun .number) (λ h₀. split ! $
-        heard ! (vs .0 ≡ begun .state .records) (λ h₁. heard ! (vs .1 .0 ≡ begun .state .words) (λ h₂. fsplit ! $ fsplit ! $ move ! (1 ∷ []) $
+        split ! $ move ! (1 ∷ []) $ heard ! (left r 0 (vs .0) (vs .1 .0) ≡ begun) (λ h. let h₀ = ap (λ (o : Table.Out). o .number) h in
+        let h₁ = ap (λ (o : Table.Out). o .state .records) h in let h₂ = ap (λ (o : Table.Out). o .state .words) h in fsplit ! $ fsplit ! $ move ! (1 ∷ []) $
         feqL ! (λ lt. move ! (1 ∷ []) $ fsplit ! $ fsplit ! $ move ! (1 ∷ []) $ feqL ! (λ lw. move ! (1 ∷ []) $ drop ! $ move ! (2 ∷ []) $ split ! $ move ! (1 ∷ []) $
         peeks ! u64 (Is u64) (shows 𝓤 H A u64) r (w ∷ []) (λ is. land ! (from ! (stop !)) (init ! 44 refl (uint-lawful 𝓤 H A W w64 .typed r _ is .0)) $
         rewrite ! 44 (λ (z : Val). ‵ (fat fullShare word l₅ 0 z)) (ap only (is .0)) refl $ drop ! $
@@ -460,7 +459,7 @@ module _ {M : Type 1} (𝓤 : URA M) (H : Heap 𝓤) (A : Atoms 𝓤) (W : Given
         assigns ! (of-opd ! (lit ! tt)) (from ! (stop !)) (init ! 34 refl (tt, record { fits = lit< tt })) $
         forget ! 20 refl $ forget ! 22 refl $ forget ! 24 refl $ forget ! 26 refl $ forget ! 28 refl $
         keep ! (3 ∷ 7 ∷ 8 ∷ 9 ∷ 2 ∷ 4 ∷ 5 ∷ 6 ∷ 0 ∷ 1 ∷ 10 ∷ 11 ∷ 12 ∷ 13 ∷ 14 ∷ 15 ∷ 16 ∷ 17 ∷ 18 ∷ 19 ∷ 20 ∷ 21 ∷ 22 ∷ 23 ∷ 24 ∷ 25 ∷ 26 ∷ 27 ∷ 28 ∷ 29 ∷ 30 ∷ 31 ∷ 32 ∷ 33 ∷ 34 ∷ 35 ∷ 36 ∷ 37 ∷ 38 ∷ 39 ∷ 40 ∷ 41 ∷ 42 ∷ 43 ∷ 44 ∷ 45 ∷ 46 ∷ 47 ∷ 48 ∷ 49 ∷ 50 ∷ 51 ∷ []) $
-        whiles ! 𝓣 Nearer Nearer-wf (At r (is .1) h₀ none (subst (λ (j : ℕ). j < 2 ^ 64) gm (im .1)) l₀ l₁ l₂ l₃ l₄ l₅ l₆ l₇ l₈ l₉ l₁₀ l₁₁ l₁₂ l₁₃ l₁₄ l₁₅ l₁₆ l₁₇ l₁₈ l₁₉ l₂₀) (turns r (is .1) h₀ none (subst (λ (j : ℕ). j < 2 ^ 64) gm (im .1)) l₀ l₁ l₂ l₃ l₄ l₅ l₆ l₇ l₈ l₉ l₁₀ l₁₁ l₁₂ l₁₃ l₁₄ l₁₅ l₁₆ l₁₇ l₁₈ l₁₉ l₂₀) (0, (zero-le, (subst (λ (j : ℕ). j < 2 ^ 64) from-0 (lit< tt), (long, long′)))))))))))))))))))))))))))))))))))))))))))
+        whiles ! 𝓣 Nearer Nearer-wf (At r (is .1) h₀ none (subst (λ (j : ℕ). j < 2 ^ 64) gm (im .1)) l₀ l₁ l₂ l₃ l₄ l₅ l₆ l₇ l₈ l₉ l₁₀ l₁₁ l₁₂ l₁₃ l₁₄ l₁₅ l₁₆ l₁₇ l₁₈ l₁₉ l₂₀) (turns r (is .1) h₀ none (subst (λ (j : ℕ). j < 2 ^ 64) gm (im .1)) l₀ l₁ l₂ l₃ l₄ l₅ l₆ l₇ l₈ l₉ l₁₀ l₁₁ l₁₂ l₁₃ l₁₄ l₁₅ l₁₆ l₁₇ l₁₈ l₁₉ l₂₀) (0, (zero-le, (subst (λ (j : ℕ). j < 2 ^ 64) from-0 (lit< tt), (long, long′)))))))))))))))))))))))))))))))))))))))))
 
 module _ {M : Type 1} (𝓤 : URA M) (H : Heap 𝓤) (A : Atoms 𝓤) (W : Given 𝓤 H A) (mem : Memory → SProp 𝓤) (run : Routine → Fun 𝓤) (𝓣 : Tables 𝓤 H) (known-count : Triple 𝓤 (𝓣 .C #call-count) (Count 𝓤 H A mem run)) (known-read : Triple 𝓤 (𝓣 .C #call-at) (Read 𝓤 H A mem run)) (known-open : Triple 𝓤 (𝓣 .C #table-open) (Open 𝓤 H A mem run)) (known-act : Triple 𝓤 (𝓣 .C #table-act) (Act 𝓤 H A mem run)) where
   run-walks : Walks 𝓤 H A this.ended stayed (WpFn 𝓤 H (𝓣 .C) (𝓣 .Λ) code.function) (this.clauses 𝓤 H A mem run)

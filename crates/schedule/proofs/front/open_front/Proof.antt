@@ -51,7 +51,7 @@ use Rattle.lock.proofs.Record as Rec
 use Rattle.lock.proofs.Record.Laws as Rec′
 use Rattle.lock.proofs.Settings as G
 use Rattle.lock.proofs.Settings.Laws as G′
-use Rattle.table.specs.Promises.{lent}
+use Rattle.table.specs.Promises.{lent, left}
 use Rattle.table.proofs.Walk.{shows-that}
 use Rattle.table.proofs.table_open as callee
 use Rattle.table.proofs.table_open.Symbol as callee-def
@@ -189,9 +189,8 @@ module _ {M : Type 1} (𝓤 : URA M) (H : Heap 𝓤) (A : Atoms 𝓤) (W : Given
         calls-at ! fm (Callee 𝓤 H A mem run) known (to l₅ α γ) (and-then ! (load ! (from ! (stop !)) (look ! 11 refl)) (and-then ! (load ! (from ! (stop !)) (look ! 7 refl)) (and-then ! (load ! (from ! (stop !)) (look ! 18 refl)) (no-more !)))) (λ w.
         use1 W (later (some (λ (n : ℕ). ((‵ (flft (α ∷ []) fullShare) ⊛ (‵ (flft κ q) ⊛ ‵ ftrue)) ⊛ ‵ (u64 .own n (w ∷ []))) ⊛ raw (ensured 𝓤 H A callee.ended (callee.clauses 𝓤 H A mem run) (α ∷ [], (κ, tt)) (passed l₅ γ) tt n)))) (id⊢ 𝓤 _) $
         await ! tt $ pick ! (λ n. split ! $ move ! (1 ∷ []) $
-        use1 W (some (λ (vs : List Record × (List ℕ × (Unit {0} × Unit {0}))). ‵ (lasts callee.ended (α ∷ [], (κ, tt)) (passed l₅ γ) vs) ⊛ (raw (fact 𝓤 (n ≡ made-of .number)) ⊛ (raw (fact 𝓤 (vs .0 ≡ made-of .state .records)) ⊛ raw (fact 𝓤 (vs .1 .0 ≡ made-of .state .words)))))) (id⊢ 𝓤 _) $
-        pick ! (λ vs. let zs = vs .0 ++ drop-list m xs in split ! $ move ! (1 ∷ []) $ split ! $ heard ! (n ≡ made-of .number) (λ e. split ! $
-        heard ! (vs .0 ≡ made-of .state .records) (λ e′. heard ! (vs .1 .0 ≡ made-of .state .words) (λ e″.
+        use1 W (some (λ (vs : List Record × (List ℕ × (Unit {0} × Unit {0}))). ‵ (lasts callee.ended (α ∷ [], (κ, tt)) (passed l₅ γ) vs) ⊛ raw (fact 𝓤 (left n 0 (vs .0) (vs .1 .0) ≡ made-of)))) (id⊢ 𝓤 _) $
+        pick ! (λ vs. let zs = vs .0 ++ drop-list m xs in split ! $ move ! (1 ∷ []) $ heard ! (left n 0 (vs .0) (vs .1 .0) ≡ made-of) (λ h.
         fsplit ! $ fsplit ! $ move ! (1 ∷ []) $ feqL ! (λ k. move ! (1 ∷ []) $ fsplit ! $ fsplit ! $ move ! (1 ∷ []) $ feqL ! (λ l. move ! (1 ∷ []) $ drop ! $
         move ! (2 ∷ []) $ split ! $ split ! $
         -- [its token; the token; the result; words' last list; the array's; the lender's part; the elements that stayed; _12; …]: the lifetime is ended, and the array taken back
@@ -215,7 +214,7 @@ module _ {M : Type 1} (𝓤 : URA M) (H : Heap 𝓤) (A : Atoms 𝓤) (W : Given
         move ! (18 ∷ 19 ∷ []) $ free1 ! $ move ! (16 ∷ 17 ∷ []) $ free1 ! $ move ! (14 ∷ 15 ∷ []) $ free1 ! $ move ! (12 ∷ 13 ∷ []) $ free1 ! $
         move ! (10 ∷ 11 ∷ []) $ free1 ! $ move ! (8 ∷ 9 ∷ []) $ free1 ! $ move ! (6 ∷ 7 ∷ []) $ free1 ! $ move ! (4 ∷ 5 ∷ []) $ free1 ! $
         move ! (2 ∷ 3 ∷ []) $ free1 ! $ free0 ! $
-        by ! (exits n (vs .0) (vs .1 .0) g made (k ∙ count) (gz .1 .0 .1) l e e′ e″))))))))))))))))))))))))))
+        by ! (exits n (vs .0) (vs .1 .0) g made (k ∙ count) (gz .1 .0 .1) l (ap (λ (o : Table.Out). o .number) h) (ap (λ (o : Table.Out). o .state .records) h) (ap (λ (o : Table.Out). o .state .words) h)))))))))))))))))))))))))
 
 module _ {M : Type 1} (𝓤 : URA M) (H : Heap 𝓤) (A : Atoms 𝓤) (W : Given 𝓤 H A) (mem : Memory → SProp 𝓤) (run : Routine → Fun 𝓤) where
   open-front-walks : (C : Calls 𝓤 H) (Λ : Loops 𝓤 H) → FmC 𝓤 H (W .laws) C → Triple 𝓤 (C #callee) (Callee 𝓤 H A mem run)
