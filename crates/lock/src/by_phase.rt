@@ -6,9 +6,9 @@ ghost use lib.Dec.{ltb};
 ghost use lib.ListN.{length};
 ghost use Rattle.base.specs.Choice.{choose};
 ghost use Rattle.tree.specs.Lists.{notifyList};
-ghost use Rattle.lock.specs.Types.{phaseOf, pieces, currentPiece, isLeaf, noticesOf};
-ghost use Rattle.lock.specs.Readable.{differ, placePast, noticesWrong, phaseElsewhere, heldEarly, outcomeWrong, lacksGrip};
-ghost use Rattle.lock.specs.ReadableLaws.{Begun, pastList};
+ghost use Rattle.lock.specs.rules.Types.{phaseOf, pieces, currentPiece, isLeaf, noticesOf};
+ghost use Rattle.lock.specs.rules.Readable.{differ, placePast, noticesWrong, phaseElsewhere, heldEarly, outcomeWrong, lacksGrip};
+ghost use Rattle.lock.specs.laws.ReadableLaws.{Begun, pastList};
 use crate::Record;
 use crate::Settings;
 

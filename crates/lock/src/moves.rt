@@ -1,10 +1,10 @@
 // One step's own work: the node that it touches, and a match on the phase number that picks what it does there.
 ghost use mathlib.Core.Path.{_≡_};
 ghost use Prim.Native.Nat.{_≤_, _<_};
-ghost use Rattle.lock.specs.Steps.{touched, touchedIn, moved, claimPiece};
-ghost use Rattle.lock.specs.Types.{returning};
-ghost use Rattle.lock.specs.Active.{Settled};
-ghost use Rattle.lock.specs.Placed.{Placed, Sound};
+ghost use Rattle.lock.specs.rules.Steps.{touched, touchedIn, moved, claimPiece};
+ghost use Rattle.lock.specs.rules.Types.{returning};
+ghost use Rattle.lock.specs.laws.Active.{Settled};
+ghost use Rattle.lock.specs.laws.Placed.{Placed, Sound};
 use crate::Moved;
 use crate::Record;
 use crate::Settings;

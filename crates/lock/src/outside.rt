@@ -1,6 +1,6 @@
 // Cause 1, "H, m or T outside its range".
 ghost use mathlib.Core.Path.{_≡_};
-ghost use Rattle.lock.specs.Calls.{settingsOutside};
+ghost use Rattle.lock.specs.rules.Calls.{settingsOutside};
 use crate::Settings;
 
 impl Settings {

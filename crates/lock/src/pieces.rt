@@ -4,7 +4,7 @@ ghost use Prim.Native.Nat.{_≤_, _<_};
 ghost use lib.ListN.{length};
 ghost use lib.Dec.{eqb};
 ghost use Rattle.tree.specs.Tree.{Node};
-ghost use Rattle.lock.specs.Types.{pieces, pieceAt, isLeaf, gripOf, noticesOf};
+ghost use Rattle.lock.specs.rules.Types.{pieces, pieceAt, isLeaf, gripOf, noticesOf};
 use crate::Record;
 use crate::Settings;
 

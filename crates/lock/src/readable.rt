@@ -1,9 +1,9 @@
 // Whether a client record is unreadable: the clauses of document 01's paragraph "Unreadable" in its order; those that go by the phase are in
 // by_phase.rt. What several clauses ask of the current piece, its node, whether it is a leaf and how many notices it gives, is found once and handed on.
 ghost use mathlib.Core.Path.{_≡_};
-ghost use Rattle.lock.specs.Readable.{numberTooLarge, idleFilled, notCovered, timeAhead, givingWrong, fieldsWrong, unreadable};
-ghost use Rattle.lock.specs.Active.{Settled};
-ghost use Rattle.lock.specs.ReadableLaws.{Begun};
+ghost use Rattle.lock.specs.rules.Readable.{numberTooLarge, idleFilled, notCovered, timeAhead, givingWrong, fieldsWrong, unreadable};
+ghost use Rattle.lock.specs.laws.Active.{Settled};
+ghost use Rattle.lock.specs.laws.ReadableLaws.{Begun};
 use crate::Record;
 use crate::Settings;
 use crate::by_phase::grip_lacking;

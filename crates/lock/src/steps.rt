@@ -5,11 +5,11 @@ ghost use lib.Dec.{eqb};
 ghost use lib.ListN.{length};
 ghost use Rattle.base.specs.Choice.{choose};
 ghost use Rattle.tree.specs.Lists.{ancestors, notifyList, checkList};
-ghost use Rattle.lock.specs.Types.{pieces, currentPiece, withT1};
-ghost use Rattle.lock.specs.Steps.{startPhase, begin, taken, ticketTaken, turnAwaited, goUp, climbed, unblocked, bitsClaimed, occClaimed, allNotified, noticeGiven, waited, checkPassed};
+ghost use Rattle.lock.specs.rules.Types.{pieces, currentPiece, withT1};
+ghost use Rattle.lock.specs.rules.Steps.{startPhase, begin, taken, ticketTaken, turnAwaited, goUp, climbed, unblocked, bitsClaimed, occClaimed, allNotified, noticeGiven, waited, checkPassed};
 ghost use Rattle.tree.specs.Tree.{Node};
-ghost use Rattle.lock.specs.Active.{Settled};
-ghost use Rattle.lock.specs.Placed.{Pieced};
+ghost use Rattle.lock.specs.laws.Active.{Settled};
+ghost use Rattle.lock.specs.laws.Placed.{Pieced};
 use crate::Record;
 use crate::Settings;
 

@@ -7,9 +7,9 @@ ghost use Rattle.word.specs.Word.{Place, field, addField, occ, tcnt, tmax, dcnt
 ghost use Rattle.tree.specs.Tree.{parent, child, first, last, level, Node, size, left};
 ghost use Rattle.tree.specs.Lists.{ancestor, ancestors, notifyList, checkList};
 ghost use Rattle.cover.specs.Answer.{answer};
-ghost use Rattle.lock.specs.Active.{Settled};
-ghost use Rattle.lock.specs.Readable.{unreadable};
-ghost use Rattle.lock.specs.Calls.{requestAnswer, releaseAnswer, cancelAnswer, stepAnswer, stepWords};
+ghost use Rattle.lock.specs.laws.Active.{Settled};
+ghost use Rattle.lock.specs.rules.Readable.{unreadable};
+ghost use Rattle.lock.specs.rules.Calls.{requestAnswer, releaseAnswer, cancelAnswer, stepAnswer, stepWords};
 
 #[no_mangle]
 pub extern "C" fn probe_field(word: u64, shift: u64, width: u64) -> u64

@@ -6,9 +6,9 @@ use lib.Dec.{eqb, ltb}
 use lib.ListN.{length, getD}
 use Rattle.base.specs.Choice.{choose}
 use Rattle.lock.specs.declared.Settings.{Settings}
-use Rattle.lock.specs.Readable.{differ}
-use Rattle.lock.specs.Calls.{firstCause}
-use Rattle.lock.specs.Table.{Call}
+use Rattle.lock.specs.rules.Readable.{differ}
+use Rattle.lock.specs.rules.Calls.{firstCause}
+use Rattle.lock.specs.rules.Table.{Call}
 use Rattle.table.specs.Promises.{callOf}
 
 -- "little-endian": the number that k bytes from place i on hold

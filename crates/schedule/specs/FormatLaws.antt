@@ -10,8 +10,8 @@ use lib.Dec.{eqb, ltb}
 use lib.ListN.{length, getD}
 use Rattle.base.specs.Choice.{choose, choose-eq, choose-ne, by-lt}
 use Rattle.lock.specs.declared.Call.{Call as CallStruct}
-use Rattle.lock.specs.Readable.{differ}
-use Rattle.lock.specs.ReadableLaws.{true-first, true-later, next-test}
+use Rattle.lock.specs.rules.Readable.{differ}
+use Rattle.lock.specs.laws.ReadableLaws.{true-first, true-later, next-test}
 use Rattle.table.specs.Promises.{callOf}
 use Rattle.schedule.specs.Format.{little, offsetIn, placeOf, kindIn, clientIn, aIn, bIn, callIn, callWrong, anyWrong}
 

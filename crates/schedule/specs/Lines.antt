@@ -3,7 +3,7 @@ use mathlib.Core.Path.{_≡_}
 use mathlib.Core.List.{[], _∷_, _++_}
 use Prim.Native.Nat.{ℕ}
 use Rattle.lock.specs.declared.Record.{Record}
-use Rattle.lock.specs.Table.{Call, clientOf}
+use Rattle.lock.specs.rules.Table.{Call, clientOf}
 use Rattle.schedule.specs.Log.{decimal, spaced, kindText, line}
 
 -- a line with the numbers in the record's and the call's place

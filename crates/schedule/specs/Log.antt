@@ -8,8 +8,8 @@ use Rattle.base.specs.Choice.{choose}
 use Rattle.tree.specs.Tree.{wordCount}
 use Rattle.lock.specs.declared.Record.{Record}
 use Rattle.lock.specs.declared.Settings.{Settings}
-use Rattle.lock.specs.Types.{idleWith}
-use Rattle.lock.specs.Table.{State, Call, request, step, release, cancel, clientOf, recordAt, call, opening}
+use Rattle.lock.specs.rules.Types.{idleWith}
+use Rattle.lock.specs.rules.Table.{State, Call, request, step, release, cancel, clientOf, recordAt, call, opening}
 use Rattle.schedule.specs.Format.{settingsIn, clientsIn, callsIn, fileCause}
 
 -- a number in decimal digits, the highest first, with no zero in front. The first argument bounds the digits, and n is enough.

@@ -12,8 +12,8 @@ use Rattle.io.specs.Counts.{Counts}
 use Rattle.tree.specs.Tree.{wordCount}
 use Rattle.lock.specs.declared.Record.{Record}
 use Rattle.lock.specs.declared.Settings.{Settings}
-use Rattle.lock.specs.Types.{idleWith}
-use Rattle.lock.specs.Table.{State, Call, clientOf, recordAt, call, openingNumber, opened, opening}
+use Rattle.lock.specs.rules.Types.{idleWith}
+use Rattle.lock.specs.rules.Table.{State, Call, clientOf, recordAt, call, openingNumber, opened, opening}
 use Rattle.table.specs.declared.Answer.{Answer}
 use Rattle.table.specs.Promises.{lent, answer}
 use Rattle.schedule.specs.declared.Run.{Run}

@@ -3,9 +3,9 @@ use mathlib.Core.Path.{_≡_, refl}
 use mathlib.Core.List.{List, _∷_, _++_}
 use Prim.Native.Nat.{ℕ, suc}
 use Rattle.lock.specs.declared.Settings.{Settings}
-use Rattle.lock.specs.Table.{State, Call, clientOf, recordAt, call, opening}
-use Rattle.lock.specs.History.{event, Demand3}
-use Rattle.lock.specs.Demand3.{demand-3}
+use Rattle.lock.specs.rules.Table.{State, Call, clientOf, recordAt, call, opening}
+use Rattle.lock.specs.rules.History.{event, Demand3}
+use Rattle.lock.specs.claim.Demand3.{demand-3}
 use Rattle.schedule.specs.Format.{settingsIn, clientsIn, callsFrom}
 use Rattle.schedule.specs.Log.{line, lines, lentFor}
 

@@ -8,9 +8,9 @@ use borrow.Author.Tests.{ltb-false, lt-ltb, le-ltb}
 use lib.Dec.{ltb}
 use lib.ListN.{length}
 use Rattle.base.specs.Choice.{choose}
-use Rattle.lock.specs.Calls.{firstCause}
-use Rattle.lock.specs.ActiveLaws.{both-false}
-use Rattle.lock.specs.ReadableLaws.{true-first, next-test}
+use Rattle.lock.specs.rules.Calls.{firstCause}
+use Rattle.lock.specs.laws.ActiveLaws.{both-false}
+use Rattle.lock.specs.laws.ReadableLaws.{true-first, next-test}
 use Rattle.schedule.specs.Format.{little, settingsIn, clientsIn, countIn, offsetIn, placeOf, anyWrong, malformed, tooLarge, fileCause}
 use Rattle.schedule.specs.FormatLaws.{earlier-inside}
 

@@ -3,8 +3,8 @@
 ghost use mathlib.Core.Path.{_≡_};
 ghost use Prim.Native.Nat.{_≤_};
 ghost use lib.ListN.{length, getD, take, drop, replicate};
-ghost use Rattle.lock.specs.Table as Table;
-ghost use Rattle.lock.specs.Types.{idleWith};
+ghost use Rattle.lock.specs.rules.Table as Table;
+ghost use Rattle.lock.specs.rules.Types.{idleWith};
 ghost use Rattle.table.specs.Promises.{lent, answer, callOf};
 use crate::Acted;
 use crate::Opened;

@@ -56,8 +56,8 @@ use Rattle.lock.specs.declared.Record.{Record}
 use Rattle.lock.specs.declared.Settings.{Settings}
 use Rattle.lock.specs.declared.Call.{Call}
 use Rattle.lock.specs.declared.Stepped.{Stepped}
-use Rattle.lock.specs.Types.{idleWith}
-use Rattle.lock.specs.Table as Table
+use Rattle.lock.specs.rules.Types.{idleWith}
+use Rattle.lock.specs.rules.Table as Table
 use Rattle.lock.proofs.Record as Rec
 use Rattle.lock.proofs.Record.Laws as Rec′
 use Rattle.lock.proofs.Stepped as S

@@ -4,8 +4,8 @@ use Prim.Native.Nat.{ℕ}
 use Rattle.lock.specs.declared.Record.{Record}
 use Rattle.lock.specs.declared.Settings.{Settings}
 use Rattle.lock.specs.declared.Stepped.{Stepped}
-use Rattle.lock.specs.Calls.{requestAnswer, releaseAnswer, cancelAnswer, stepAnswer, stepWords}
-use Rattle.lock.specs.Table.{Call, request, step, release, cancel}
+use Rattle.lock.specs.rules.Calls.{requestAnswer, releaseAnswer, cancelAnswer, stepAnswer, stepWords}
+use Rattle.lock.specs.rules.Table.{Call, request, step, release, cancel}
 
 unfoldable pub answered : Settings → ℕ → Record → List ℕ → Call → Stepped
 answered s last r words (request c a b) = requestAnswer s last r words a b

@@ -9,8 +9,8 @@ use Rattle.lock.specs.declared.Record.{Record}
 use Rattle.lock.specs.declared.Settings.{Settings}
 use Rattle.lock.specs.declared.Stepped.{Stepped}
 use Rattle.lock.specs.declared.Call.{Call as Asked}
-use Rattle.lock.specs.Calls.{requestAnswer, releaseAnswer, cancelAnswer, stepAnswer, stepWords}
-use Rattle.lock.specs.Table.{Call, request, step, release, cancel, clientOf}
+use Rattle.lock.specs.rules.Calls.{requestAnswer, releaseAnswer, cancelAnswer, stepAnswer, stepWords}
+use Rattle.lock.specs.rules.Table.{Call, request, step, release, cancel, clientOf}
 use Rattle.table.specs.Promises.{callOf}
 use Rattle.table.specs.ByValue.{answered, wordsAfter}
 

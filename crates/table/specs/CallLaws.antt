@@ -10,10 +10,10 @@ use Rattle.base.specs.Choice.{choose, choose-ne}
 use Rattle.lock.specs.declared.Record.{Record}
 use Rattle.lock.specs.declared.Settings.{Settings}
 use Rattle.lock.specs.declared.Stepped.{Stepped}
-use Rattle.lock.specs.Types.{idleWith}
-use Rattle.lock.specs.Calls.{firstCause, treeTests, clientsOutside, clientTests, requested, released, cancelled, answered as answeredBy, requestNumber, requestAnswer}
-use Rattle.lock.specs.Calls.{releaseAnswer, cancelAnswer, stepNumber, stepAnswer, stepWords}
-use Rattle.lock.specs.Table.{State, Call, request, step, release, cancel, clientOf, recordAt, Out, ownTests, numberOf, after, call}
+use Rattle.lock.specs.rules.Types.{idleWith}
+use Rattle.lock.specs.rules.Calls.{firstCause, treeTests, clientsOutside, clientTests, requested, released, cancelled, answered as answeredBy, requestNumber, requestAnswer}
+use Rattle.lock.specs.rules.Calls.{releaseAnswer, cancelAnswer, stepNumber, stepAnswer, stepWords}
+use Rattle.lock.specs.rules.Table.{State, Call, request, step, release, cancel, clientOf, recordAt, Out, ownTests, numberOf, after, call}
 use Rattle.table.specs.declared.Answer.{Answer}
 use Rattle.table.specs.Promises.{lent, left}
 use Rattle.table.specs.ByValue.{answered, wordsAfter}

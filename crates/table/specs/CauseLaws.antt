@@ -8,8 +8,8 @@ use borrow.Author.Tests.{eq-eqb, ne-eqb, lt-ltb, le-ltb}
 use lib.Dec.{T, eqb, leb, ltb, nleb→lt}
 use Rattle.base.specs.Choice.{choose, choose-le, choose-gt}
 use Rattle.lock.specs.declared.Settings.{Settings}
-use Rattle.lock.specs.Calls.{Tests, firstCause, treeTests}
-use Rattle.lock.specs.CallLaws.{TreeTested, tree-passed}
+use Rattle.lock.specs.rules.Calls.{Tests, firstCause, treeTests}
+use Rattle.lock.specs.laws.CallLaws.{TreeTested, tree-passed}
 use Rattle.table.specs.Causes.{openingCause, tableCause}
 
 -- ---- a chain behind another

@@ -5,7 +5,7 @@ use mathlib.Core.List.{[], _∷_, _++_}
 use Prim.Native.Nat.{ℕ}
 use lib.Dec.{eqb, leb, ltb}
 use Rattle.lock.specs.declared.Settings.{Settings}
-use Rattle.lock.specs.Calls.{firstCause, treeTests}
+use Rattle.lock.specs.rules.Calls.{firstCause, treeTests}
 
 -- 1, 2 and 3
 unfoldable pub openingCause : Settings → ℕ → ℕ → ℕ

@@ -9,8 +9,8 @@ use Rattle.base.specs.Choice.{choose-eq, choose-ne}
 use Rattle.lock.specs.declared.Record.{Record}
 use Rattle.lock.specs.declared.Settings.{Settings}
 use Rattle.lock.specs.declared.Call.{Call as Asked}
-use Rattle.lock.specs.Table.{State, Call, Out, call, openingNumber, opening}
-use Rattle.lock.specs.History.{run}
+use Rattle.lock.specs.rules.Table.{State, Call, Out, call, openingNumber, opening}
+use Rattle.lock.specs.rules.History.{run}
 use Rattle.table.specs.declared.Answer.{Answer}
 use Rattle.table.specs.Promises.{lent, callOf, callsOf, history}
 use Rattle.table.specs.CallLaws.{Same, numbered}

@@ -6,9 +6,9 @@ use lib.ListN.{length, replicate}
 use Rattle.base.specs.Choice.{choose-eq, choose-ne}
 use Rattle.lock.specs.declared.Record.{Record}
 use Rattle.lock.specs.declared.Settings.{Settings}
-use Rattle.lock.specs.Types.{idleWith}
-use Rattle.lock.specs.Calls.{clientsOutside}
-use Rattle.lock.specs.Table.{State, Out, openingNumber, opened, opening}
+use Rattle.lock.specs.rules.Types.{idleWith}
+use Rattle.lock.specs.rules.Calls.{clientsOutside}
+use Rattle.lock.specs.rules.Table.{State, Out, openingNumber, opened, opening}
 use Rattle.table.specs.Promises.{lent, left}
 use Rattle.table.specs.Causes.{openingCause}
 

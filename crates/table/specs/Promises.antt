@@ -6,8 +6,8 @@ use lib.Dec.{eqb}
 use Rattle.base.specs.Choice.{choose}
 use Rattle.lock.specs.declared.Record.{Record}
 use Rattle.lock.specs.declared.Settings.{Settings}
-use Rattle.lock.specs.Table.{State, Call, request, step, release, cancel, Out, openingNumber, opening}
-use Rattle.lock.specs.History.{run}
+use Rattle.lock.specs.rules.Table.{State, Call, request, step, release, cancel, Out, openingNumber, opening}
+use Rattle.lock.specs.rules.History.{run}
 use Rattle.table.specs.declared.Answer.{Answer}
 
 -- "The client table is lent as a list of records. The last clock, H, m and wait T .. travel beside it.": what a call is made on

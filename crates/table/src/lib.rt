@@ -1,7 +1,7 @@
 // The calls over a lent table of records. Each tests the settings, the word count, the table's count and the client, and makes the call by value on that
 // client's record. Its promise is one equation, of one definition, the crate lock's `Table.call`, for every table, word list, client and number.
 ghost use mathlib.Core.Path.{_≡_};
-ghost use Rattle.lock.specs.Table as Table;
+ghost use Rattle.lock.specs.rules.Table as Table;
 ghost use Rattle.table.specs.Promises.{lent, left, callOf, callsOf, history};
 use lock::Call;
 use lock::Record;

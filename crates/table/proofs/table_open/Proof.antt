@@ -52,8 +52,8 @@ use denote.Triple.Walked.{Stays, stay-none, gave-slice, walkOf, goes-none, goes-
 use denote.Exit.{yes}
 use Rattle.lock.specs.declared.Record.{Record}
 use Rattle.lock.specs.declared.Settings.{Settings}
-use Rattle.lock.specs.Types.{idleWith}
-use Rattle.lock.specs.Table as Table
+use Rattle.lock.specs.rules.Types.{idleWith}
+use Rattle.lock.specs.rules.Table as Table
 use Rattle.lock.proofs.Record as Rec
 use Rattle.lock.proofs.Record.Laws as Rec′
 use Rattle.lock.proofs.Settings as G

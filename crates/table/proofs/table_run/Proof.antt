@@ -54,8 +54,8 @@ use denote.Exit.{yes}
 use Rattle.lock.specs.declared.Record.{Record}
 use Rattle.lock.specs.declared.Settings.{Settings}
 use Rattle.lock.specs.declared.Call.{Call}
-use Rattle.lock.specs.Table as Table
-use Rattle.lock.specs.Table.{State}
+use Rattle.lock.specs.rules.Table as Table
+use Rattle.lock.specs.rules.Table.{State}
 use Rattle.lock.proofs.Record as Rec
 use Rattle.lock.proofs.Settings as G
 use Rattle.lock.proofs.Settings.Laws as G′

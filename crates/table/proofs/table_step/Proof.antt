@@ -1,6 +1,6 @@
 -- `table::table_step` meets its contract: it is Thin.antt's law at `lock::Record::step`. Assumes nothing.
 use mathlib.Core.Path.{refl}
-use Rattle.lock.specs.Table.{step, clientOf}
+use Rattle.lock.specs.rules.Table.{step, clientOf}
 use Rattle.table.specs.ByValue.{answered, wordsAfter}
 use base.Logic.{emp}
 use contract.Monad.{factI}

@@ -3,9 +3,9 @@ use mathlib.Core.Path.{sym, ap, _∙_, subst}
 use Prim.Native.Nat.{ℕ}
 use native.Mathlib.Omega.{arith}
 use Rattle.tree.specs.Tree.{Node}
-use Rattle.lock.specs.Types.{isLeaf}
-use Rattle.lock.specs.Steps.{taken}
-use Rattle.lock.specs.StepLaws.{notified-late, notified-leaf, notified-inner}
+use Rattle.lock.specs.rules.Types.{isLeaf}
+use Rattle.lock.specs.rules.Steps.{taken}
+use Rattle.lock.specs.laws.StepLaws.{notified-late, notified-leaf, notified-inner}
 use borrow.Author.Needs.{needs}
 use Rattle.lock.proofs.Record.all_notified.Statement.{statement}
 use Rattle.lock.proofs.Record.all_notified.Tie as tie

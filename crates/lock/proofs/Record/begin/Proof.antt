@@ -2,8 +2,8 @@
 use mathlib.Core.Path.{sym, ap, _∙_, subst}
 use Prim.Native.Nat.{ℕ}
 use Rattle.tree.specs.Tree.{Node}
-use Rattle.lock.specs.Steps.{startPhase}
-use Rattle.lock.specs.StepLaws.{begin-is}
+use Rattle.lock.specs.rules.Steps.{startPhase}
+use Rattle.lock.specs.laws.StepLaws.{begin-is}
 use borrow.Author.Needs.{needs}
 use Rattle.lock.proofs.Record.begin.Statement.{statement}
 use Rattle.lock.proofs.Record.begin.Tie as tie

@@ -1,7 +1,7 @@
 -- `lock::Record::bits_claimed` meets its contract. Assumes nothing.
 use mathlib.Core.Path.{sym}
-use Rattle.lock.specs.Steps.{taken}
-use Rattle.lock.specs.StepLaws.{bits-won, bits-lost}
+use Rattle.lock.specs.rules.Steps.{taken}
+use Rattle.lock.specs.laws.StepLaws.{bits-won, bits-lost}
 use Rattle.lock.proofs.Record.bits_claimed.Statement.{statement}
 use Rattle.lock.proofs.Record.bits_claimed.Tie as tie
 

@@ -8,10 +8,10 @@ use lib.Dec.{eqb}
 use lib.ListN.{length}
 use Rattle.tree.specs.Tree.{last}
 use Rattle.lock.specs.declared.Record.{Record}
-use Rattle.lock.specs.Readable.{unreadable}
-use Rattle.lock.specs.Calls.{cancelled, firstCause, cancelTests, cancelAnswer}
-use Rattle.lock.specs.CallLaws.{cause-hit, cause-skip, answer-accepted, refused-by, own-unreadable, own-rest}
-use Rattle.lock.specs.ActiveLaws.{settled}
+use Rattle.lock.specs.rules.Readable.{unreadable}
+use Rattle.lock.specs.rules.Calls.{cancelled, firstCause, cancelTests, cancelAnswer}
+use Rattle.lock.specs.laws.CallLaws.{cause-hit, cause-skip, answer-accepted, refused-by, own-unreadable, own-rest}
+use Rattle.lock.specs.laws.ActiveLaws.{settled}
 use borrow.Author.Needs.{needs}
 use Rattle.lock.proofs.Record.cancel.Statement.{statement}
 use Rattle.lock.proofs.Record.cancel.Tie as tie

@@ -2,8 +2,8 @@
 use mathlib.Core.Path.{sym, _∙_}
 use borrow.Author.Needs.{needs}
 use Rattle.base.specs.Choice.{choose-eq, choose-ne}
-use Rattle.lock.specs.Types.{gripOf, idleWith}
-use Rattle.lock.specs.Calls.{cancelled}
+use Rattle.lock.specs.rules.Types.{gripOf, idleWith}
+use Rattle.lock.specs.rules.Calls.{cancelled}
 use borrow.Author.Needs.{needs}
 use Rattle.lock.proofs.Record.cancelled.Statement.{statement}
 use Rattle.lock.proofs.Record.cancelled.Tie as tie

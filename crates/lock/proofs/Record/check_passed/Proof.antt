@@ -6,9 +6,9 @@ use lib.ListN.{length}
 use Rattle.word.specs.Word.{dcnt, dmax}
 use Rattle.tree.specs.Tree.{Node}
 use Rattle.tree.specs.Lists.{checkList}
-use Rattle.lock.specs.Types.{currentPiece}
-use Rattle.lock.specs.Steps.{taken}
-use Rattle.lock.specs.StepLaws.{check-stays, check-more, check-last, check-small}
+use Rattle.lock.specs.rules.Types.{currentPiece}
+use Rattle.lock.specs.rules.Steps.{taken}
+use Rattle.lock.specs.laws.StepLaws.{check-stays, check-more, check-last, check-small}
 use borrow.Author.Needs.{needs}
 use Rattle.lock.proofs.Record.check_passed.Statement.{statement}
 use Rattle.lock.proofs.Record.check_passed.Tie as tie

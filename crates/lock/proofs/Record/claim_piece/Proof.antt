@@ -2,14 +2,14 @@
 use mathlib.Core.Path.{sym, ap, ap₂, _∙_, subst}
 use Prim.Native.Nat.{ℕ}
 use Rattle.tree.specs.Tree.{Node}
-use Rattle.lock.specs.Types.{isLeaf}
-use Rattle.lock.specs.Steps.{taken}
+use Rattle.lock.specs.rules.Types.{isLeaf}
+use Rattle.lock.specs.rules.Steps.{taken}
 use Rattle.word.specs.Word.{takeBits}
 use Rattle.cover.specs.Cover.{Meets}
-use Rattle.lock.specs.Steps.{leaves, wanted}
-use Rattle.lock.specs.Placed.{pieced}
-use Rattle.lock.specs.ReturnLaws.{leaf-level}
-use Rattle.lock.specs.MoveLaws.{claim-leaf, claim-inner}
+use Rattle.lock.specs.rules.Steps.{leaves, wanted}
+use Rattle.lock.specs.laws.Placed.{pieced}
+use Rattle.lock.specs.laws.ReturnLaws.{leaf-level}
+use Rattle.lock.specs.laws.MoveLaws.{claim-leaf, claim-inner}
 use borrow.Author.Needs.{needs}
 use Rattle.lock.proofs.Record.claim_piece.Statement.{statement}
 use Rattle.lock.proofs.Record.claim_piece.Tie as tie

@@ -1,8 +1,8 @@
 -- `lock::Record::climbed` meets its contract. Assumes nothing.
 use mathlib.Core.Path.{sym, ap, _∙_}
 use Rattle.word.specs.Word.{occ}
-use Rattle.lock.specs.Steps.{taken, goUp}
-use Rattle.lock.specs.StepLaws.{noted-fine, climb-set, climb-clear}
+use Rattle.lock.specs.rules.Steps.{taken, goUp}
+use Rattle.lock.specs.laws.StepLaws.{noted-fine, climb-set, climb-clear}
 use borrow.Author.Needs.{needs}
 use Rattle.lock.proofs.Record.climbed.Statement.{statement}
 use Rattle.lock.proofs.Record.climbed.Tie as tie

@@ -4,9 +4,9 @@ use mathlib.Core.Bool.{Bool, _||_}
 use Prim.Native.Nat.{ℕ}
 use lib.ListN.{length}
 use Rattle.tree.specs.Lists.{notifyList}
-use Rattle.lock.specs.Types.{phaseOf, isLeaf}
-use Rattle.lock.specs.Readable.{ticketTooLarge, lacksGrip, fieldsWrong}
-use Rattle.lock.specs.ReadableLaws.{piece-node-12}
+use Rattle.lock.specs.rules.Types.{phaseOf, isLeaf}
+use Rattle.lock.specs.rules.Readable.{ticketTooLarge, lacksGrip, fieldsWrong}
+use Rattle.lock.specs.laws.ReadableLaws.{piece-node-12}
 use borrow.Author.Needs.{needs}
 use Rattle.lock.proofs.Record.fields_wrong.Statement.{statement}
 use Rattle.lock.proofs.Record.fields_wrong.Tie as tie

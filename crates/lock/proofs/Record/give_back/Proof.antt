@@ -4,13 +4,13 @@ use Prim.Native.Nat.{ℕ, _<_}
 use native.Mathlib.Omega.{arith}
 use lib.ListN.{length}
 use Rattle.tree.specs.Tree.{Node}
-use Rattle.lock.specs.Types.{pieces, isLeaf}
-use Rattle.lock.specs.Steps.{taken}
+use Rattle.lock.specs.rules.Types.{pieces, isLeaf}
+use Rattle.lock.specs.rules.Steps.{taken}
 use Rattle.tree.specs.Tree.{left}
-use Rattle.lock.specs.Types.{givenPiece}
-use Rattle.lock.specs.Steps.{leaves}
-use Rattle.lock.specs.Placed.{pieced}
-use Rattle.lock.specs.ReturnLaws.{own-leaf, own-inner, own-notice, leaf-level}
+use Rattle.lock.specs.rules.Types.{givenPiece}
+use Rattle.lock.specs.rules.Steps.{leaves}
+use Rattle.lock.specs.laws.Placed.{pieced}
+use Rattle.lock.specs.laws.ReturnLaws.{own-leaf, own-inner, own-notice, leaf-level}
 use borrow.Author.Needs.{needs}
 use Rattle.lock.proofs.Record.give_back.Statement.{statement}
 use Rattle.lock.proofs.Record.give_back.Tie as tie

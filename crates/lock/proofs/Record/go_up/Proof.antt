@@ -5,9 +5,9 @@ use native.Mathlib.Omega.{arith}
 use Rattle.tree.specs.Tree.{level, Node}
 use Rattle.tree.specs.Ancestors.{ancestors-count}
 use Rattle.tree.specs.Level.{level-pos}
-use Rattle.lock.specs.Types.{currentPiece}
-use Rattle.lock.specs.Steps.{taken}
-use Rattle.lock.specs.StepLaws.{up-more, up-last}
+use Rattle.lock.specs.rules.Types.{currentPiece}
+use Rattle.lock.specs.rules.Steps.{taken}
+use Rattle.lock.specs.laws.StepLaws.{up-more, up-last}
 use borrow.Author.Needs.{needs}
 use Rattle.lock.proofs.Record.go_up.Statement.{statement}
 use Rattle.lock.proofs.Record.go_up.Tie as tie

@@ -1,7 +1,7 @@
 -- `lock::Record::grip_of` meets its contract. Assumes nothing.
 use mathlib.Core.Path.{sym}
 use native.Mathlib.Omega.{arith}
-use Rattle.lock.specs.Pieces.{grip-before, grip-current, grip-after}
+use Rattle.lock.specs.laws.Pieces.{grip-before, grip-current, grip-after}
 use Rattle.lock.proofs.Record.grip_of.Statement.{statement}
 use Rattle.lock.proofs.Record.grip_of.Tie as tie
 

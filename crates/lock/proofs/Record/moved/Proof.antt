@@ -2,10 +2,10 @@
 use mathlib.Core.Path.{sym, ap, ap₂, _∙_}
 use native.Mathlib.Omega.{arith}
 use mathlib.Core.Logic.{inl}
-use Rattle.lock.specs.Steps.{leaves, movedIn, climbed, unblocked, waited}
-use Rattle.lock.specs.Placed.{pieced, sound-placed}
-use Rattle.lock.specs.Phases.{at-ticket, at-turn, at-climb, at-blocked, at-claim, at-notify, at-wait, at-check, at-returning}
-use Rattle.lock.specs.MoveLaws.{moved-none}
+use Rattle.lock.specs.rules.Steps.{leaves, movedIn, climbed, unblocked, waited}
+use Rattle.lock.specs.laws.Placed.{pieced, sound-placed}
+use Rattle.lock.specs.laws.Phases.{at-ticket, at-turn, at-climb, at-blocked, at-claim, at-notify, at-wait, at-check, at-returning}
+use Rattle.lock.specs.laws.MoveLaws.{moved-none}
 use borrow.Author.Needs.{needs}
 use Rattle.lock.proofs.Record.moved.Statement.{statement}
 use Rattle.lock.proofs.Record.moved.Tie as tie

@@ -1,5 +1,5 @@
 -- `lock::Record::not_covered` meets its contract. Assumes nothing.
-use Rattle.lock.specs.ReadableLaws.{cover-tested}
+use Rattle.lock.specs.laws.ReadableLaws.{cover-tested}
 use borrow.Author.Needs.{needs}
 use Rattle.lock.proofs.Record.not_covered.Statement.{statement}
 use Rattle.lock.proofs.Record.not_covered.Tie as tie

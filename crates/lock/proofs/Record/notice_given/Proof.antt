@@ -6,9 +6,9 @@ use lib.ListN.{length}
 use Rattle.tree.specs.Tree.{Node}
 use Rattle.tree.specs.Lists.{notifyList}
 use Rattle.tree.specs.Code.{count-small, bounded}
-use Rattle.lock.specs.Types.{currentPiece}
-use Rattle.lock.specs.Steps.{taken}
-use Rattle.lock.specs.StepLaws.{pieced-kept, notice-more, notice-last}
+use Rattle.lock.specs.rules.Types.{currentPiece}
+use Rattle.lock.specs.rules.Steps.{taken}
+use Rattle.lock.specs.laws.StepLaws.{pieced-kept, notice-more, notice-last}
 use borrow.Author.Needs.{needs}
 use Rattle.lock.proofs.Record.notice_given.Statement.{statement}
 use Rattle.lock.proofs.Record.notice_given.Tie as tie

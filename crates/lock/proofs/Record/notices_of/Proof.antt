@@ -4,7 +4,7 @@ use Prim.Native.Nat.{ℕ}
 use lib.ListN.{length}
 use Rattle.tree.specs.Tree.{Node}
 use Rattle.tree.specs.Lists.{notifyList}
-use Rattle.lock.specs.Pieces.{notices-before, notices-current}
+use Rattle.lock.specs.laws.Pieces.{notices-before, notices-current}
 use borrow.Author.Needs.{needs}
 use Rattle.lock.proofs.Record.notices_of.Statement.{statement}
 use Rattle.lock.proofs.Record.notices_of.Tie as tie

@@ -1,7 +1,7 @@
 -- `lock::Record::occ_claimed` meets its contract. Assumes nothing.
 use mathlib.Core.Path.{sym, _∙_}
-use Rattle.lock.specs.Steps.{taken}
-use Rattle.lock.specs.StepLaws.{occ-root, occ-other}
+use Rattle.lock.specs.rules.Steps.{taken}
+use Rattle.lock.specs.laws.StepLaws.{occ-root, occ-other}
 use borrow.Author.Needs.{needs}
 use Rattle.lock.proofs.Record.occ_claimed.Statement.{statement}
 use Rattle.lock.proofs.Record.occ_claimed.Tie as tie

@@ -1,7 +1,7 @@
 -- `lock::Record::past_list` meets its contract. Assumes nothing.
 use mathlib.Core.Path.{sym, ap, _∙_}
 use Prim.Native.Nat.{ℕ}
-use Rattle.lock.specs.ReadableLaws.{pastList, past-none, past-some}
+use Rattle.lock.specs.laws.ReadableLaws.{pastList, past-none, past-some}
 use Rattle.lock.proofs.Record.past_list.Statement.{statement}
 use Rattle.lock.proofs.Record.past_list.Tie as tie
 

@@ -5,8 +5,8 @@ use native.Mathlib.Omega.{arith}
 use lib.Dec.{ltb}
 use lib.ListN.{length}
 use Rattle.tree.specs.Lists.{notifyList}
-use Rattle.lock.specs.Pieces.{notices-before, notices-current}
-use Rattle.lock.specs.ReadableLaws.{piece-node-12}
+use Rattle.lock.specs.laws.Pieces.{notices-before, notices-current}
+use Rattle.lock.specs.laws.ReadableLaws.{piece-node-12}
 use borrow.Author.Needs.{needs}
 use Rattle.lock.proofs.Record.past_notices.Statement.{statement}
 use Rattle.lock.proofs.Record.past_notices.Tie as tie

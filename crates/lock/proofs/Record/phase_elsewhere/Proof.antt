@@ -4,7 +4,7 @@ use mathlib.Core.Logic.{⊎-elim}
 use Prim.Native.Nat.{ℕ}
 use native.Mathlib.Omega.{arith}
 use lib.Dec.{eqb}
-use Rattle.lock.specs.ReadableLaws.{elsewhere-leaf, elsewhere-root, elsewhere-none}
+use Rattle.lock.specs.laws.ReadableLaws.{elsewhere-leaf, elsewhere-root, elsewhere-none}
 use Rattle.lock.proofs.Record.phase_elsewhere.Statement.{statement}
 use Rattle.lock.proofs.Record.phase_elsewhere.Tie as tie
 

@@ -1,6 +1,6 @@
 -- `lock::Record::piece_count` meets its contract. Assumes nothing.
 use mathlib.Core.Path.{sym}
-use Rattle.lock.specs.Pieces.{count-one, count-two}
+use Rattle.lock.specs.laws.Pieces.{count-one, count-two}
 use Rattle.lock.proofs.Record.piece_count.Statement.{statement}
 use Rattle.lock.proofs.Record.piece_count.Tie as tie
 

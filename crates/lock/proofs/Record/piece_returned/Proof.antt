@@ -1,10 +1,10 @@
 -- `lock::Record::piece_returned` meets its contract. Assumes nothing.
 use mathlib.Core.Path.{sym, _∙_}
 use native.Mathlib.Omega.{arith}
-use Rattle.lock.specs.Steps.{taken}
-use Rattle.lock.specs.Pieces.{few-pieces}
+use Rattle.lock.specs.rules.Steps.{taken}
+use Rattle.lock.specs.laws.Pieces.{few-pieces}
 use Rattle.tree.specs.Tree.{left}
-use Rattle.lock.specs.ReturnLaws.{piece-last, piece-next}
+use Rattle.lock.specs.laws.ReturnLaws.{piece-last, piece-next}
 use borrow.Author.Needs.{needs}
 use Rattle.lock.proofs.Record.piece_returned.Statement.{statement}
 use Rattle.lock.proofs.Record.piece_returned.Tie as tie

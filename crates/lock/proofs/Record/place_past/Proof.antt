@@ -8,8 +8,8 @@ use Rattle.tree.specs.Tree.{level}
 use Rattle.tree.specs.Level.{level-pos}
 use Rattle.tree.specs.Lists.{ancestors, checkList}
 use Rattle.tree.specs.Ancestors.{ancestors-count}
-use Rattle.lock.specs.Types.{currentPiece, noticesOf}
-use Rattle.lock.specs.ReadableLaws.{past-none, past-some, place-is, list-climbing, list-notifying, list-checking, list-returning, list-none, piece-node, piece-node-12}
+use Rattle.lock.specs.rules.Types.{currentPiece, noticesOf}
+use Rattle.lock.specs.laws.ReadableLaws.{past-none, past-some, place-is, list-climbing, list-notifying, list-checking, list-returning, list-none, piece-node, piece-node-12}
 use borrow.Author.Needs.{needs}
 use Rattle.lock.proofs.Record.place_past.Statement.{statement}
 use Rattle.lock.proofs.Record.place_past.Tie as tie

@@ -8,10 +8,10 @@ use borrow.Author.Tests.{eq-eqb, ne-eqb}
 use lib.ListN.{length}
 use Rattle.tree.specs.Tree.{last}
 use Rattle.lock.specs.declared.Record.{Record}
-use Rattle.lock.specs.Readable.{differ, unreadable}
-use Rattle.lock.specs.Calls.{released, firstCause, releaseTests, releaseAnswer}
-use Rattle.lock.specs.CallLaws.{cause-hit, cause-skip, answer-accepted, refused-by, own-unreadable, own-rest}
-use Rattle.lock.specs.ActiveLaws.{settled}
+use Rattle.lock.specs.rules.Readable.{differ, unreadable}
+use Rattle.lock.specs.rules.Calls.{released, firstCause, releaseTests, releaseAnswer}
+use Rattle.lock.specs.laws.CallLaws.{cause-hit, cause-skip, answer-accepted, refused-by, own-unreadable, own-rest}
+use Rattle.lock.specs.laws.ActiveLaws.{settled}
 use borrow.Author.Needs.{needs}
 use Rattle.lock.proofs.Record.release.Statement.{statement}
 use Rattle.lock.proofs.Record.release.Tie as tie

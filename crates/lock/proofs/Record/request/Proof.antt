@@ -9,12 +9,12 @@ use lib.ListN.{length}
 use Rattle.tree.specs.Tree.{last}
 use Rattle.cover.specs.Answer.{windowOutside}
 use Rattle.lock.specs.declared.Record.{Record}
-use Rattle.lock.specs.Readable.{differ, unreadable}
-use Rattle.lock.specs.Calls.{requested, firstCause, requestTests, requestNumber, requestAnswer}
-use Rattle.lock.specs.CallLaws.{cause-hit, cause-skip, answer-accepted, refused-by, own-unreadable, own-rest}
-use Rattle.lock.specs.CoverLaws.{cover-refused, cover-inside, cover-first, cover-second}
-use Rattle.lock.specs.ActiveLaws.{settled}
-use Rattle.lock.specs.RequestLaws.{inside-window}
+use Rattle.lock.specs.rules.Readable.{differ, unreadable}
+use Rattle.lock.specs.rules.Calls.{requested, firstCause, requestTests, requestNumber, requestAnswer}
+use Rattle.lock.specs.laws.CallLaws.{cause-hit, cause-skip, answer-accepted, refused-by, own-unreadable, own-rest}
+use Rattle.lock.specs.laws.CoverLaws.{cover-refused, cover-inside, cover-first, cover-second}
+use Rattle.lock.specs.laws.ActiveLaws.{settled}
+use Rattle.lock.specs.laws.RequestLaws.{inside-window}
 use borrow.Author.Needs.{needs}
 use Rattle.lock.proofs.Record.request.Statement.{statement}
 use Rattle.lock.proofs.Record.request.Tie as tie

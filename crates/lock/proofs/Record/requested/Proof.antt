@@ -2,9 +2,9 @@
 use mathlib.Core.Path.{_≡_, ap, _∙_}
 use lib.ListN.{getD}
 use Rattle.cover.specs.Search.{leastCover}
-use Rattle.lock.specs.Steps.{startPhase}
-use Rattle.lock.specs.Calls.{windowed, requested}
-use Rattle.lock.specs.RequestLaws.{first-node}
+use Rattle.lock.specs.rules.Steps.{startPhase}
+use Rattle.lock.specs.rules.Calls.{windowed, requested}
+use Rattle.lock.specs.laws.RequestLaws.{first-node}
 use Rattle.lock.proofs.Record.requested.Statement.{statement}
 use Rattle.lock.proofs.Record.requested.Tie as tie
 

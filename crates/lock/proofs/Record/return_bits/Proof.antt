@@ -2,13 +2,13 @@
 use mathlib.Core.Path.{_≡_, sym, ap, _∙_, subst}
 use Prim.Native.Nat.{ℕ}
 use Rattle.tree.specs.Tree.{level}
-use Rattle.lock.specs.Steps.{taken}
+use Rattle.lock.specs.rules.Steps.{taken}
 use Rattle.tree.specs.Tree.{left}
 use Rattle.word.specs.Word.{giveBits}
 use Rattle.cover.specs.Cover.{Meets}
-use Rattle.lock.specs.Steps.{leaves, wanted}
-use Rattle.lock.specs.Placed.{pieced}
-use Rattle.lock.specs.ReturnLaws.{bits-returned, bits-clear}
+use Rattle.lock.specs.rules.Steps.{leaves, wanted}
+use Rattle.lock.specs.laws.Placed.{pieced}
+use Rattle.lock.specs.laws.ReturnLaws.{bits-returned, bits-clear}
 use borrow.Author.Needs.{needs}
 use Rattle.lock.proofs.Record.return_bits.Statement.{statement}
 use Rattle.lock.proofs.Record.return_bits.Tie as tie

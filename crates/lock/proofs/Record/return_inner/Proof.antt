@@ -1,9 +1,9 @@
 -- `lock::Record::return_inner` meets its contract. Assumes nothing.
 use mathlib.Core.Path.{sym, ap, ap₂, _∙_}
-use Rattle.lock.specs.Steps.{taken}
+use Rattle.lock.specs.rules.Steps.{taken}
 use Rattle.tree.specs.Tree.{left}
-use Rattle.lock.specs.Steps.{leaves}
-use Rattle.lock.specs.ReturnLaws.{inner-occ, inner-turn, inner-ticket}
+use Rattle.lock.specs.rules.Steps.{leaves}
+use Rattle.lock.specs.laws.ReturnLaws.{inner-occ, inner-turn, inner-ticket}
 use borrow.Author.Needs.{needs}
 use Rattle.lock.proofs.Record.return_inner.Statement.{statement}
 use Rattle.lock.proofs.Record.return_inner.Tie as tie

@@ -5,13 +5,13 @@ use native.Mathlib.Omega.{arith}
 use borrow.Author.Needs.{needs}
 use borrow.Author.Tests.{lt-ltb, le-ltb}
 use Rattle.tree.specs.Tree.{last}
-use Rattle.lock.specs.Types.{wordAt, written}
-use Rattle.lock.specs.Steps.{touched, moved}
-use Rattle.lock.specs.Readable.{unreadable}
-use Rattle.lock.specs.Calls.{stepNumber}
-use Rattle.lock.specs.CallLaws.{step-back, step-unreadable, step-clear, step-accepted, words-accepted, step-refused, step-taken}
-use Rattle.lock.specs.ActiveLaws.{settled}
-use Rattle.lock.specs.Touched.{touched-counted, readable}
+use Rattle.lock.specs.rules.Types.{wordAt, written}
+use Rattle.lock.specs.rules.Steps.{touched, moved}
+use Rattle.lock.specs.rules.Readable.{unreadable}
+use Rattle.lock.specs.rules.Calls.{stepNumber}
+use Rattle.lock.specs.laws.CallLaws.{step-back, step-unreadable, step-clear, step-accepted, words-accepted, step-refused, step-taken}
+use Rattle.lock.specs.laws.ActiveLaws.{settled}
+use Rattle.lock.specs.laws.Touched.{touched-counted, readable}
 use borrow.Author.Needs.{needs}
 use Rattle.lock.proofs.Record.step.Statement.{statement}
 use Rattle.lock.proofs.Record.step.Tie as tie

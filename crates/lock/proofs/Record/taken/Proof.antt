@@ -1,9 +1,9 @@
 -- `lock::Record::taken` meets its contract. Assumes nothing.
 use mathlib.Core.Path.{sym, _∙_}
 use native.Mathlib.Omega.{arith}
-use Rattle.lock.specs.Steps.{begin, taken}
-use Rattle.lock.specs.Pieces.{few-pieces}
-use Rattle.lock.specs.StepLaws.{taken-more, taken-last}
+use Rattle.lock.specs.rules.Steps.{begin, taken}
+use Rattle.lock.specs.laws.Pieces.{few-pieces}
+use Rattle.lock.specs.laws.StepLaws.{taken-more, taken-last}
 use borrow.Author.Needs.{needs}
 use Rattle.lock.proofs.Record.taken.Statement.{statement}
 use Rattle.lock.proofs.Record.taken.Tie as tie

@@ -2,8 +2,8 @@
 use mathlib.Core.Path.{ap}
 use Prim.Native.Nat.{ℕ}
 use Rattle.word.specs.Word.{tmax}
-use Rattle.lock.specs.Types.{toPhase, withGrip, withTicket}
-use Rattle.lock.specs.Steps.{ticketTaken}
+use Rattle.lock.specs.rules.Types.{toPhase, withGrip, withTicket}
+use Rattle.lock.specs.rules.Steps.{ticketTaken}
 use borrow.Author.Needs.{needs}
 use Rattle.lock.proofs.Record.ticket_taken.Statement.{statement}
 use Rattle.lock.proofs.Record.ticket_taken.Tie as tie

@@ -6,10 +6,10 @@ use lib.ListN.{length, getD}
 use Rattle.tree.specs.Tree.{Node}
 use Rattle.tree.specs.Lists.{ancestors, notifyList, checkList}
 use mathlib.Core.Logic.{inl, inr}
-use Rattle.lock.specs.Steps.{touchedIn}
-use Rattle.lock.specs.Placed.{pieced, sound-placed}
-use Rattle.lock.specs.Phases.{at-ticket, at-turn, at-climb, at-blocked, at-claim, at-notify, at-check, at-returning}
-use Rattle.lock.specs.MoveLaws.{touched-none}
+use Rattle.lock.specs.rules.Steps.{touchedIn}
+use Rattle.lock.specs.laws.Placed.{pieced, sound-placed}
+use Rattle.lock.specs.laws.Phases.{at-ticket, at-turn, at-climb, at-blocked, at-claim, at-notify, at-check, at-returning}
+use Rattle.lock.specs.laws.MoveLaws.{touched-none}
 use Rattle.lock.proofs.Record.touched.Statement.{statement}
 use Rattle.lock.proofs.Record.touched.Tie as tie
 

@@ -5,10 +5,10 @@ use native.Mathlib.Omega.{arith}
 use lib.ListN.{length, getD}
 use Rattle.tree.specs.Tree.{Node}
 use Rattle.tree.specs.Lists.{notifyList}
-use Rattle.lock.specs.Types.{pieces}
-use Rattle.lock.specs.Steps.{taken}
-use Rattle.lock.specs.Placed.{pieced, given-notices}
-use Rattle.lock.specs.MoveLaws.{touched-own, touched-notice}
+use Rattle.lock.specs.rules.Types.{pieces}
+use Rattle.lock.specs.rules.Steps.{taken}
+use Rattle.lock.specs.laws.Placed.{pieced, given-notices}
+use Rattle.lock.specs.laws.MoveLaws.{touched-own, touched-notice}
 use Rattle.lock.proofs.Record.touched_returning.Statement.{statement}
 use Rattle.lock.proofs.Record.touched_returning.Tie as tie
 

@@ -1,8 +1,8 @@
 -- `lock::Record::turn_awaited` meets its contract. Assumes nothing.
 use mathlib.Core.Path.{sym, _∙_}
 use Rattle.word.specs.Word.{tcnt}
-use Rattle.lock.specs.Steps.{taken}
-use Rattle.lock.specs.StepLaws.{turn-stays, turn-root, turn-other}
+use Rattle.lock.specs.rules.Steps.{taken}
+use Rattle.lock.specs.laws.StepLaws.{turn-stays, turn-root, turn-other}
 use borrow.Author.Needs.{needs}
 use Rattle.lock.proofs.Record.turn_awaited.Statement.{statement}
 use Rattle.lock.proofs.Record.turn_awaited.Tie as tie

@@ -1,8 +1,8 @@
 -- `lock::Record::unblocked` meets its contract. Assumes nothing.
 use mathlib.Core.Path.{sym, _∙_}
 use Rattle.word.specs.Word.{occ}
-use Rattle.lock.specs.Steps.{taken}
-use Rattle.lock.specs.StepLaws.{unblocked-now, unblocked-not}
+use Rattle.lock.specs.rules.Steps.{taken}
+use Rattle.lock.specs.laws.StepLaws.{unblocked-now, unblocked-not}
 use borrow.Author.Needs.{needs}
 use Rattle.lock.proofs.Record.unblocked.Statement.{statement}
 use Rattle.lock.proofs.Record.unblocked.Tie as tie

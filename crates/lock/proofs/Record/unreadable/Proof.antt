@@ -5,10 +5,10 @@ use borrow.Author.Tests.{leb-false}
 use lib.Dec.{leb}
 use lib.ListN.{length}
 use Rattle.base.specs.Choice.{choose-eq, choose-ne}
-use Rattle.lock.specs.Types.{pieces}
-use Rattle.lock.specs.Readable.{numberTooLarge, idleFilled, notCovered, noCurrent, unreadable}
-use Rattle.lock.specs.ReadableLaws.{true-first, next-test}
-use Rattle.lock.specs.ActiveLaws.{both-false, begun}
+use Rattle.lock.specs.rules.Types.{pieces}
+use Rattle.lock.specs.rules.Readable.{numberTooLarge, idleFilled, notCovered, noCurrent, unreadable}
+use Rattle.lock.specs.laws.ReadableLaws.{true-first, next-test}
+use Rattle.lock.specs.laws.ActiveLaws.{both-false, begun}
 use borrow.Author.Needs.{needs}
 use Rattle.lock.proofs.Record.unreadable.Statement.{statement}
 use Rattle.lock.proofs.Record.unreadable.Tie as tie

@@ -1,8 +1,8 @@
 -- `lock::Record::waited` meets its contract. Assumes nothing.
 use mathlib.Core.Path.{sym}
 use native.Mathlib.Omega.{arith}
-use Rattle.lock.specs.Steps.{taken}
-use Rattle.lock.specs.StepLaws.{wait-over, wait-on}
+use Rattle.lock.specs.rules.Steps.{taken}
+use Rattle.lock.specs.laws.StepLaws.{wait-over, wait-on}
 use borrow.Author.Needs.{needs}
 use Rattle.lock.proofs.Record.waited.Statement.{statement}
 use Rattle.lock.proofs.Record.waited.Tie as tie

@@ -4,7 +4,7 @@ use Prim.Native.Nat.{ℕ, _+_, _^_, _<_}
 use native.Mathlib.Omega.{arith}
 use Rattle.tree.specs.Tree.{left}
 use Rattle.word.specs.Word.{wantedBits}
-use Rattle.lock.specs.Placed.{clipped}
+use Rattle.lock.specs.laws.Placed.{clipped}
 use borrow.Author.Needs.{needs}
 use Rattle.lock.proofs.Record.wanted.Statement.{statement}
 use Rattle.lock.proofs.Record.wanted.Tie as tie

@@ -1,9 +1,9 @@
 -- `lock::Record::word_returned` meets its contract. Assumes nothing.
 use mathlib.Core.Path.{sym, _∙_}
 use native.Mathlib.Omega.{arith}
-use Rattle.lock.specs.Steps.{taken}
+use Rattle.lock.specs.rules.Steps.{taken}
 use Rattle.tree.specs.Tree.{left}
-use Rattle.lock.specs.ReturnLaws.{word-more, word-last}
+use Rattle.lock.specs.laws.ReturnLaws.{word-more, word-last}
 use borrow.Author.Needs.{needs}
 use Rattle.lock.proofs.Record.word_returned.Statement.{statement}
 use Rattle.lock.proofs.Record.word_returned.Tie as tie

@@ -1,7 +1,7 @@
 -- `lock::Settings::start_phase` meets its contract. Assumes nothing.
 use mathlib.Core.Path.{sym, _∙_}
-use Rattle.lock.specs.Steps.{taken}
-use Rattle.lock.specs.StepLaws.{start-leaf, start-inner}
+use Rattle.lock.specs.rules.Steps.{taken}
+use Rattle.lock.specs.laws.StepLaws.{start-leaf, start-inner}
 use borrow.Author.Needs.{needs}
 use Rattle.lock.proofs.Settings.start_phase.Statement.{statement}
 use Rattle.lock.proofs.Settings.start_phase.Tie as tie

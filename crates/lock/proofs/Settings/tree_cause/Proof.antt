@@ -2,9 +2,9 @@
 use mathlib.Core.Path.{sym, _∙_}
 use native.Mathlib.Omega.{arith}
 use borrow.Author.Needs.{needs}
-use Rattle.lock.specs.CallLaws.{tested-settings, tested-count, tested-passed}
-use Rattle.lock.specs.ActiveLaws.{settled}
-use Rattle.lock.specs.RequestLaws.{last-is-count}
+use Rattle.lock.specs.laws.CallLaws.{tested-settings, tested-count, tested-passed}
+use Rattle.lock.specs.laws.ActiveLaws.{settled}
+use Rattle.lock.specs.laws.RequestLaws.{last-is-count}
 use borrow.Author.Needs.{needs}
 use Rattle.lock.proofs.Settings.tree_cause.Statement.{statement}
 use Rattle.lock.proofs.Settings.tree_cause.Tie as tie

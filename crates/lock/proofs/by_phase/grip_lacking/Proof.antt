@@ -2,8 +2,8 @@
 use mathlib.Core.Path.{sym, ap, _∙_}
 use native.Mathlib.Omega.{arith}
 use Rattle.base.specs.Choice.{choose}
-use Rattle.lock.specs.Readable.{differ}
-use Rattle.lock.specs.ReadableLaws.{grip-ticket, grip-turn, grip-climbing, grip-taken, grip-returning, grip-none}
+use Rattle.lock.specs.rules.Readable.{differ}
+use Rattle.lock.specs.laws.ReadableLaws.{grip-ticket, grip-turn, grip-climbing, grip-taken, grip-returning, grip-none}
 use borrow.Author.Needs.{needs}
 use Rattle.lock.proofs.by_phase.grip_lacking.Statement.{statement}
 use Rattle.lock.proofs.by_phase.grip_lacking.Tie as tie

@@ -5,8 +5,8 @@ use Prim.Native.Nat.{ℕ}
 use native.Mathlib.Omega.{arith}
 use lib.ListN.{take, getD}
 use Rattle.tree.specs.Tree.{last}
-use Rattle.lock.specs.Types.{idleWith}
-use Rattle.lock.specs.Table.{clientOf}
+use Rattle.lock.specs.rules.Types.{idleWith}
+use Rattle.lock.specs.rules.Table.{clientOf}
 use Rattle.table.specs.Promises.{lent, callOf}
 use Rattle.schedule.specs.FormatLaws.{call-read}
 use Rattle.table.specs.ByValueLaws.{client-of-kind}

@@ -1,0 +1,118 @@
+-- Laws: the record of a client after a call. Only an accepted call of its own changes it, and none but a request gives it other edges. Assumes nothing.
+use mathlib.Core.Path.{_≡_, refl, sym, ap, _∙_, subst}
+use mathlib.Core.Logic.{_⊎_, inl, inr}
+use Prim.Native.Nat.{ℕ}
+use lib.Dec.{eqb, eqb→eq}
+use lib.ListN.{length, getD, set, length-set}
+use lib.Seq.{getD-set-same, getD-set-other}
+use Rattle.base.specs.Choice.{on-choose, choose-eq, by-eq}
+use Rattle.lock.specs.declared.Moved.{Moved}
+use Rattle.lock.specs.declared.Record.{Record}
+use Rattle.lock.specs.declared.Settings.{Settings}
+use Rattle.lock.specs.rules.Types.{Phase, idle, ticket, turn, climb, blocked, claim, notify, wait, check, held, returning, unknown, wordAt, idleWith}
+use Rattle.lock.specs.rules.Steps.{touched, begin, taken, ticketTaken, turnAwaited, goUp, climbed, unblocked, bitsClaimed, occClaimed, allNotified, noticeGiven, waited, checkPassed, pieceReturned, wordReturned, turnReturned, claimPiece, returnBits, returnInner, giveBack, movedIn, moved}
+use Rattle.lock.specs.rules.Calls.{requested, released, cancelled}
+use Rattle.lock.specs.rules.Table.{State, Call, request, step, release, cancel, clientOf, recordAt, numberOf, after, call}
+use Rattle.lock.specs.laws.Accepted.{accepted}
+
+-- ---- the record that an accepted call gives back
+
+unfoldable pub recordAfter : Settings → State → Call → Record
+recordAfter s st (request c l r) = requested s l r
+recordAfter s st (step c t) = moved s (recordAt st c) (wordAt (st .words) (touched s (recordAt st c))) t .next
+recordAfter s st (release c) = released (recordAt st c)
+recordAfter s st (cancel c) = cancelled (recordAt st c)
+
+module _ (s : Settings) (st : State) where
+  records-after : (k : Call) → after s st k .records ≡ set (st .records) (clientOf k) (recordAfter s st k)
+  unfolding after recordAfter clientOf
+  records-after (request c l r) = refl
+  records-after (step c t) = refl
+  records-after (release c) = refl
+  records-after (cancel c) = refl
+
+  own-after : (k : Call) (c : ℕ) → numberOf s st k ≡ 0 → clientOf k ≡ c → recordAt (after s st k) c ≡ recordAfter s st k
+  unfolding recordAt
+  own-after k c a e =
+      ap (λ (d : ℕ). recordAt (after s st k) d) (sym e)
+      ∙ ap (λ x. getD x (clientOf k) (idleWith 0)) (records-after k)
+      ∙ getD-set-same (st .records) (clientOf k) (recordAfter s st k) (idleWith 0) (accepted s st k a .client)
+
+  other-after : (k : Call) (c : ℕ) → (clientOf k ≡ c → ⊥) → recordAt (after s st k) c ≡ recordAt st c
+  unfolding recordAt
+  other-after k c d =
+      ap (λ x. getD x c (idleWith 0)) (records-after k) ∙ getD-set-other (st .records) (clientOf k) c (recordAfter s st k) (idleWith 0) (λ e. d (sym e))
+
+  pub own-record : (k : Call) (c : ℕ) → numberOf s st k ≡ 0 → clientOf k ≡ c → recordAt (call s st k .state) c ≡ recordAfter s st k
+  unfolding call
+  own-record k c a e = ap (λ (x : State). recordAt x c) (choose-eq (numberOf s st k) 0 (after s st k) st a) ∙ own-after k c a e
+
+  -- what holds of the record, and of what an accepted call of its client gives back, holds of the record after the call
+  pub on-call : (P : Record → Type 0) (k : Call) (c : ℕ) → P (recordAt st c) → (numberOf s st k ≡ 0 → clientOf k ≡ c → P (recordAfter s st k))
+      → P (recordAt (call s st k .state) c)
+  unfolding call
+  on-call P k c old new =
+      on-choose (λ x. P (recordAt x c)) (eqb (numberOf s st k) 0) (after s st k) st
+      (λ t.
+      let a = eqb→eq (numberOf s st k) 0 t in
+      by-eq (clientOf k) c (λ e. subst P (sym (own-after k c a e)) (new a e)) (λ d. subst P (sym (other-after k c d)) old))
+      (λ _. old)
+
+  pub count-after : (k : Call) → length (call s st k .state .records) ≡ length (st .records)
+  unfolding call
+  count-after k =
+      on-choose (λ x. length (x .records) ≡ length (st .records)) (eqb (numberOf s st k) 0) (after s st k) st
+      (λ _. ap length (records-after k) ∙ length-set (st .records) (clientOf k) (recordAfter s st k)) (λ _. refl)
+
+-- ---- a step leaves the edges as the request set them, or makes the record idle
+
+module _ (l q : ℕ) where
+  -- [l, q) are the edges of r
+  abbrev pub HasEdges : Record → Type 0
+  HasEdges r = (r .left ≡ l) × (r .right ≡ q)
+
+  abbrev pub EdgesOrIdle : Record → Type 0
+  EdgesOrIdle r = (r .phase ≡ 0) ⊎ HasEdges r
+
+  module _ (s : Settings) where
+    edges-taken : (r : Record) → HasEdges r → HasEdges (taken s r)
+    unfolding taken begin
+    edges-taken r e = on-choose HasEdges _ _ _ (λ _. e) (λ _. e)
+
+    edges-up : (r : Record) → HasEdges r → HasEdges (goUp r)
+    unfolding goUp
+    edges-up r e = on-choose HasEdges _ _ _ (λ _. e) (λ _. e)
+
+    edges-notified : (r : Record) (t : ℕ) → HasEdges r → HasEdges (allNotified s r t)
+    unfolding allNotified
+    edges-notified r t e = on-choose HasEdges _ _ _ (λ _. e) (λ _. on-choose HasEdges _ _ _ (λ _. edges-taken r e) (λ _. e))
+
+    edges-returned : (r : Record) → HasEdges r → EdgesOrIdle (wordReturned s r)
+    unfolding wordReturned pieceReturned
+    edges-returned r e = on-choose EdgesOrIdle _ _ _ (λ _. inr e) (λ _. on-choose EdgesOrIdle _ _ _ (λ _. inl refl) (λ _. inr e))
+
+    edges-given : (r : Record) (w : ℕ) → HasEdges r → EdgesOrIdle (giveBack s r w .next)
+    unfolding giveBack returnBits returnInner turnReturned
+    edges-given r w e =
+        let Q : Moved → Type 0 = λ x. EdgesOrIdle (x .next) in
+        let back = edges-returned r e in
+        on-choose Q _ _ _
+        (λ _. on-choose Q _ _ _ (λ _. on-choose Q _ _ _ (λ _. back) (λ _. inr e))
+        (λ _. on-choose Q _ _ _ (λ _. back) (λ _. on-choose Q _ _ _ (λ _. back) (λ _. inr (on-choose HasEdges _ _ _ (λ _. e) (λ _. e))))))
+        (λ _. back)
+
+    -- each row of the table
+    pub edges-moved : (r : Record) (w t : ℕ) (p : Phase) → HasEdges r → EdgesOrIdle (movedIn s r w t p .next)
+    unfolding movedIn ticketTaken turnAwaited climbed unblocked claimPiece bitsClaimed occClaimed noticeGiven waited checkPassed
+    edges-moved r w t idle e = inr e
+    edges-moved r w t ticket e = inr e
+    edges-moved r w t turn e = inr (on-choose HasEdges _ _ _ (λ _. e) (λ _. e))
+    edges-moved r w t climb e = inr (on-choose HasEdges _ _ _ (λ _. e) (λ _. edges-up _ (on-choose HasEdges _ _ _ (λ _. e) (λ _. e))))
+    edges-moved r w t blocked e = inr (on-choose HasEdges _ _ _ (λ _. e) (λ _. e))
+    edges-moved r w t claim e = inr (on-choose (λ (x : Moved). HasEdges (x .next)) _ _ _ (λ _. on-choose HasEdges _ _ _ (λ _. e) (λ _. e)) (λ _. e))
+    edges-moved r w t notify e = inr (on-choose HasEdges _ _ _ (λ _. e) (λ _. edges-notified _ t e))
+    edges-moved r w t wait e = inr (on-choose HasEdges _ _ _ (λ _. e) (λ _. e))
+    edges-moved r w t check e = inr (on-choose HasEdges _ _ _ (λ _. on-choose HasEdges _ _ _ (λ _. e) (λ _. edges-taken r e)) (λ _. e))
+    edges-moved r w t held e = inr e
+    edges-moved r w t returning e = edges-given r w e
+    edges-moved r w t unknown e = inr e

@@ -1,0 +1,132 @@
+-- Laws: the steps of phases 7 and 8 owe nothing to the invariant. Assumes nothing.
+use mathlib.Core.Path.{_≡_, refl, sym, ap, _∙_}
+use mathlib.Core.Logic.{_≢_, _⊎_, inl, inr}
+use mathlib.Core.List.{List}
+use Prim.Native.Nat.{ℕ, suc, _-_, _≤_, _<_}
+use native.Mathlib.Omega.{arith}
+use lib.Dec.{eqb, leb, ltb, eqb→eq, leb→le, nltb→le}
+use lib.ListN.{length, getD}
+use Rattle.base.specs.Choice.{choose, on-choose, by-lt}
+use Rattle.word.specs.Word.{dcnt, dmax}
+use Rattle.tree.specs.Tree.{level, Node}
+use Rattle.tree.specs.Lists.{checkList}
+use Rattle.tree.specs.Climb.{left-pos}
+use Rattle.tree.specs.Check.{checkCount, checkNode, check-count, check-place, check-is}
+use Rattle.lock.specs.declared.Record.{Record}
+use Rattle.lock.specs.declared.Settings.{Settings}
+use Rattle.lock.specs.rules.Types.{pieces, pieceAt, currentPiece, toPhase, withPlace}
+use Rattle.lock.specs.rules.Steps.{taken, waited, checkPassed}
+use Rattle.lock.specs.laws.Active.{Settled}
+use Rattle.lock.specs.laws.Ready.{Ready}
+use Rattle.lock.specs.claim.Owned.{ownsNotice}
+use Rattle.lock.specs.claim.Fit.{Live, live-apart}
+use Rattle.lock.specs.claim.Effect.{quiet}
+use Rattle.lock.specs.claim.Kept.{nobody}
+use Rattle.lock.specs.claim.Stage.{checkedTo, stage-current, passing-none, checked-some, checked-all}
+use Rattle.lock.specs.claim.Forward.{kin, onward-unreturned}
+use Rattle.lock.specs.claim.Onward.{live-kin, onward}
+use Rattle.lock.specs.claim.Fine.{Fine, fine-stay, fine-quiet}
+use Rattle.lock.specs.claim.Taking.{taken-fine}
+
+module _ (s : Settings) (rs : List Record) (last now : ℕ) (later : last ≤ now) (r : Record) (g : Settled s) (rd : Ready s last r) (lv : Live s last r) (w : ℕ) where
+  abbrev n : ℕ
+  n = currentPiece r
+
+  t1-past : r .t1 ≤ now
+  t1-past = omega (arith, lv .t1-past)
+
+  -- ---- 7 wait
+
+  over : r .phase ≡ 7 → s .wait ≤ now - r .t0 → Fine s rs now r 0 w w (toPhase 8 r)
+  unfolding pieces pieceAt
+  over e b =
+      let q = toPhase 8 r in
+      let k = kin r q refl refl refl refl in
+      let ahead : r .phase ≢ 10 = λ f. omega arith in
+      let aheadq : q .phase ≢ 10 = λ f. omega arith in
+      let at = stage-current q (r .current) refl in
+      fine-quiet s rs now r q 0 w (λ d. absurd (d refl)) k refl ahead (onward-unreturned s q aheadq) refl refl refl
+      (live-kin s last now r q later lv k (lv .exists) (omega arith) (omega arith) (λ _ _. lv .claimed (omega arith) (omega arith)) (λ _ _. lv .all-noticed (omega arith) (omega arith)) (lv .listed) (λ f. absurd (omega arith)) t1-past)
+      (onward s rs nobody now r q k refl ahead aheadq (λ _ a. absurd (omega arith)) (λ _ _. inr (inl (omega arith, omega arith, b)))
+      (λ l a. absurd (omega (arith, checked-some s q (r .current) at))) (inl (passing-none q (λ f. omega arith) (λ f. omega arith) (λ f. omega arith))) (λ _ _. inl (omega arith, omega arith)))
+
+  pub wait-fine : r .phase ≡ 7 → Fine s rs now r 0 w w (waited s r now)
+  unfolding waited
+  wait-fine e =
+      on-choose (λ q. Fine s rs now r 0 w w q) (leb (s .wait) (now - r .t0)) (toPhase 8 r) r
+      (λ t. over e (leb→le (s .wait) (now - r .t0) t)) (λ _. fine-stay s rs last now r 0 w later (inr lv) (λ d. absurd (d refl)))
+
+  -- ---- 8 check
+
+  module _ (e : r .phase ≡ 8) where
+    abbrev h : ℕ
+    h = s .levels
+
+    abbrev m : ℕ
+    m = s .distance
+
+    abbrev x : ℕ
+    x = getD (checkList h m n) (r .place) 0
+
+    listed : r .place < checkCount h m n
+    listed = omega (arith, rd .active .checking e, check-count h m n)
+
+    checked-is : x ≡ checkNode n (r .place)
+    checked-is = check-place h m n (r .place) listed
+
+    -- the checked node is an inner node of the tree
+    pub checked-node : Node h x × (level x ≢ h)
+    unfolding checkNode
+    checked-node =
+        let node = live-apart s last r lv .node (r .current) (lv .exists) in
+        let c = check-is n (node .some) h m (g .distance-some) (r .place) listed in
+        let l = ap level checked-is in
+        (record { some = omega (arith, checked-is, left-pos (level (suc (r .place)) - 1) n (node .some)); inside = omega (arith, c .inner) }, λ f. omega (arith, c .inner))
+
+    ahead : r .phase ≢ 10
+    ahead f = omega arith
+
+    at-r : checkedTo s r (r .current) ≡ r .place
+    at-r = checked-some s r (r .current) (stage-current r (r .current) refl ∙ e)
+
+    module _ (none : (d : ℕ) → ownsNotice s x (getD rs d nobody) ≡ 0) where
+      -- one node more is checked
+      one-more : (l : ℕ) → l < suc (r .place)
+          → (l < checkedTo s r (r .current)) ⊎ (((d : ℕ) → ownsNotice s (checkNode n l) (getD rs d nobody) ≡ 0) ⊎ (level n ≡ h))
+      one-more l b =
+          by-lt l (r .place) (λ a. inl (omega (arith, at-r)))
+          (λ a. let f : checkNode n l ≡ x = ap (checkNode n) (let i : l ≡ r .place = omega arith in i) ∙ sym checked-is in
+          inr (inl (λ d. ap (λ (y : ℕ). ownsNotice s y (getD rs d nobody)) f ∙ none d)))
+
+      more-fine : Fine s rs now r x w w (withPlace (suc (r .place)) r)
+      unfolding pieces pieceAt
+      more-fine =
+          let q = withPlace (suc (r .place)) r in
+          let k = kin r q refl refl refl refl in
+          let at = checked-some s q (r .current) (stage-current q (r .current) refl ∙ e) in
+          fine-quiet s rs now r q x w (λ _. checked-node .0) k refl ahead (onward-unreturned s q ahead) refl refl refl
+          (live-kin s last now r q later lv k (lv .exists) (lv .some) (lv .most) (lv .claimed) (lv .all-noticed) (lv .listed) (lv .whole) t1-past)
+          (onward s rs nobody now r q k refl ahead ahead (λ _ a. absurd (omega arith)) (λ a b. inl (a, b)) (λ l b. one-more l (omega arith))
+          (inl (passing-none q (λ f. omega arith) (λ f. omega arith) (λ f. omega arith))) (λ a b. inl (a, b)))
+
+      last-fine : checkCount h m n ≤ suc (r .place) → Fine s rs now r x w w (taken s r)
+      unfolding pieces pieceAt
+      last-fine b =
+          let q = toPhase 9 r in
+          let k = kin r q refl refl refl refl in
+          let at = checked-all s q (r .current) (stage-current q (r .current) refl) in
+          taken-fine s rs last now later r r lv (record { pieces-same = refl; left-same = refl; right-same = refl }) refl ahead (lv .claimed (omega arith) (omega arith)) (lv .all-noticed (omega arith) (omega arith)) t1-past
+          x w w (λ _. checked-node .0) (λ p y. quiet refl y)
+          (onward s rs nobody now r q k refl ahead (λ f. omega arith) (λ _ a. absurd (omega arith)) (λ _ _. inl (omega arith, omega arith)) (λ l c. one-more l (omega arith))
+          (inl (passing-none q (λ f. omega arith) (λ f. omega arith) (λ f. omega arith))) (λ _ _. inl (omega arith, omega arith)))
+
+    pub check-fine : (dcnt w ≡ dmax w → (d : ℕ) → ownsNotice s x (getD rs d nobody) ≡ 0) → Fine s rs now r x w w (checkPassed s r w)
+    unfolding checkPassed
+    check-fine none =
+        let count = length (checkList h m n) in
+        on-choose (λ q. Fine s rs now r x w w q) (eqb (dcnt w) (dmax w)) (choose (ltb (suc (r .place)) count) (withPlace (suc (r .place)) r) (taken s r)) r
+        (λ t. let clear = none (eqb→eq (dcnt w) (dmax w) t) in
+        on-choose (λ q. Fine s rs now r x w w q) (ltb (suc (r .place)) count) (withPlace (suc (r .place)) r) (taken s r)
+        (λ _. more-fine clear)
+        (λ y. last-fine clear (omega (arith, nltb→le (suc (r .place)) count y, check-count h m n))))
+        (λ _. fine-stay s rs last now r x w later (inr lv) (λ _. checked-node .0))

@@ -1,0 +1,132 @@
+-- Laws: the step of phase 5 owes nothing to the invariant. Assumes nothing.
+use mathlib.Core.Path.{_≡_, refl, sym, subst}
+use mathlib.Core.Logic.{_≢_, _⊎_, inl, inr, ⊎-elim}
+use mathlib.Core.Bool.{Bool, true, false, not}
+use mathlib.Core.List.{List}
+use Prim.Native.Nat.{ℕ, _+_, _≤_}
+use native.Mathlib.Omega.{arith}
+use lib.Dec.{T, eqb→eq}
+use Rattle.base.specs.Choice.{on-choose, neqb→ne}
+use Rattle.word.specs.Word.{addOcc, takeBits}
+use Rattle.word.specs.Leaf.{wanted-lt}
+use Rattle.word.specs.Swap.{take-failed}
+use Rattle.tree.specs.Tree.{left, level, Node}
+use Rattle.tree.specs.Level.{level-root}
+use Rattle.tree.specs.Notify.{notify-count}
+use Rattle.tree.specs.Code.{bounded, count-none}
+use Rattle.lock.specs.declared.Moved.{Moved}
+use Rattle.lock.specs.declared.Record.{Record}
+use Rattle.lock.specs.declared.Settings.{Settings}
+use Rattle.lock.specs.rules.Types.{pieces, pieceAt, currentPiece, isLeaf, isRoot, toPhase, withGrip, withT0}
+use Rattle.lock.specs.rules.Steps.{bitsClaimed, occClaimed, wanted, leaves, claimPiece}
+use Rattle.lock.specs.laws.Active.{Settled}
+use Rattle.lock.specs.laws.Placed.{Clipped, clipped, widen}
+use Rattle.lock.specs.laws.Ready.{Ready}
+use Rattle.lock.specs.claim.Fit.{Live, live-apart}
+use Rattle.lock.specs.claim.Effect.{claimed, took}
+use Rattle.lock.specs.claim.Kept.{nobody}
+use Rattle.lock.specs.claim.Stage.{stage-current, passing-climb, passing-claim, passing-notify, passing-none, checked-none}
+use Rattle.lock.specs.claim.Forward.{kin, onward-unreturned, forward-grips}
+use Rattle.lock.specs.claim.Onward.{live-kin, onward, onward-low}
+use Rattle.lock.specs.claim.Fine.{Fine, fine-quiet}
+
+pub test-true : (b : Bool) → T b → b ≡ true
+test-true true t = refl
+test-true false t = absurd t
+
+pub test-false : (b : Bool) → T (not b) → b ≡ false
+test-false true t = absurd t
+test-false false t = refl
+
+module _ (s : Settings) (rs : List Record) (last now : ℕ) (later : last ≤ now) (r : Record) (g : Settled s) (rd : Ready s last r) (lv : Live s last r) (w : ℕ) (e : r .phase ≡ 5) where
+  abbrev n : ℕ
+  n = currentPiece r
+
+  current-node : Node (s .levels) n
+  current-node = live-apart s last r lv .node (r .current) (lv .exists)
+
+  ahead : r .phase ≢ 10
+  ahead f = omega arith
+
+  t1-past : r .t1 ≤ now
+  t1-past = omega (arith, lv .t1-past)
+
+  -- ---- "leaf: swap the wanted bits from all 0 to all 1; success to 6, failure to 3 at the parent"
+
+  module _ (leaf : level n ≡ s .levels) where
+    meets : Clipped (left (s .levels) n) (r .left) (r .right)
+    meets = clipped (s .levels) (r .left) (r .right) n (omega (arith, g .levels-some)) (g .levels-most) (rd .active .meets (r .current) (lv .exists)) leaf
+
+    won : takeBits (wanted s r n) w .done ≡ true → Fine s rs now r n w (takeBits (wanted s r n) w .word) (toPhase 6 (withGrip 3 r))
+    unfolding pieceAt pieces
+    won done =
+        let q = toPhase 6 (withGrip 3 r) in
+        let k = kin r q refl refl refl refl in
+        let aheadq : q .phase ≢ 10 = λ f. omega arith in
+        let at = stage-current q (r .current) refl in
+        record {
+          node = λ _. current-node;
+          effect = took leaf meets
+              (forward-grips s r q k refl (onward-unreturned s r ahead) (onward-unreturned s q aheadq) (live-apart s last r lv) (lv .exists) 0 3 (rd .grip-leaf (omega arith) (omega arith) leaf) refl refl (λ _ _ _ _. refl))
+              done refl;
+          fits = inr (live-kin s last now r q later lv k (lv .exists) (omega arith) (omega arith) (λ _ _. refl) (λ x _. absurd (omega arith)) (lv .listed) (λ z. absurd (omega arith)) t1-past);
+          time = onward s rs nobody now r q k refl ahead aheadq (λ _ _. inr (inr leaf)) (λ x _. absurd (omega arith))
+              (λ l x. absurd (omega (arith, checked-none s q (r .current) (λ f. omega arith) (λ f. omega arith))))
+              (inr (inl (omega (arith, passing-notify q refl, passing-claim r e), refl))) (λ x _. absurd (omega arith));
+        }
+
+    lost : takeBits (wanted s r n) w .done ≡ false → Fine s rs now r n w (takeBits (wanted s r n) w .word) (toPhase 3 r)
+    unfolding pieceAt pieces
+    lost failed =
+        let q = toPhase 3 r in
+        let k = kin r q refl refl refl refl in
+        let aheadq : q .phase ≢ 10 = λ f. omega arith in
+        let same = take-failed (wanted s r n) w (wanted-lt (left (s .levels) n) (r .left) (r .right) (meets .some) (meets .starts) (meets .ends)) failed in
+        subst (λ (v : ℕ). Fine s rs now r n w v q) (sym same)
+        (fine-quiet s rs now r q n w (λ _. current-node) k refl ahead (onward-unreturned s q aheadq) refl refl refl
+        (live-kin s last now r q later lv k (lv .exists) (omega arith) (omega arith) (λ x _. absurd (omega arith)) (λ x _. absurd (omega arith)) (lv .listed) (λ z. absurd (omega arith)) t1-past)
+        (onward-low s rs nobody now r q k refl ahead aheadq (omega arith) (inl (passing-climb q refl))))
+
+  -- ---- "Inner: Occ + 1, note t0, to 6 (root: to 7)"
+
+  inner-to : level n ≢ s .levels → (p : ℕ) → (p ≡ 6) ⊎ ((p ≡ 7) × (n ≡ 1)) → Fine s rs now r n w (addOcc 1 w) (toPhase p (withT0 now (withGrip 3 r)))
+  unfolding pieceAt pieces
+  inner-to inner p o =
+      let q = toPhase p (withT0 now (withGrip 3 r)) in
+      let k = kin r q refl refl refl refl in
+      let b : (6 ≤ p) × (p ≤ 7) = ⊎-elim (λ z. (omega arith, omega arith)) (λ z. (omega (arith, z .0), omega (arith, z .0))) o in
+      let aheadq : p ≢ 10 = λ f. omega (arith, b .1) in
+      let grip = rd .grip-inner (omega arith) (omega arith) inner in
+      let root : 7 ≤ p → n ≡ 1 = λ x. ⊎-elim (λ z. absurd (omega arith)) (λ z. z .1) o in
+      let at = stage-current q (r .current) refl in
+      record {
+        node = λ _. current-node;
+        effect = claimed inner
+            (forward-grips s r q k refl (onward-unreturned s r ahead) (onward-unreturned s q aheadq) (live-apart s last r lv) (lv .exists) 2 3 grip refl refl (λ _ _ _ _. refl)) refl;
+        fits = inr (live-kin s last now r q later lv k (lv .exists) (omega (arith, b .0)) (omega (arith, b .1)) (λ _ _. refl)
+            (λ x _. let z = root x in
+            omega (
+              arith,
+              rd .no-notices (omega arith),
+              notify-count (s .distance) n (bounded (s .distance) n (g .distance-some) (g .distance-most) (widen (s .levels) n (g .levels-most) current-node)),
+              count-none (s .distance) (level n) (omega (arith, level-root n (omega arith))),
+            ))
+            (lv .listed) (λ z. absurd (omega (arith, b .1))) t1-past);
+        time = onward s rs nobody now r q k refl ahead aheadq (λ _ _. inr (inl refl)) (λ x _. absurd (omega (arith, b .1)))
+            (λ l x. absurd (omega (arith, checked-none s q (r .current) (λ f. omega (arith, b .1)) (λ f. omega (arith, b .1)))))
+            (⊎-elim (λ z. inr (inl (omega (arith, passing-notify q z, passing-claim r e), refl))) (λ z. inl (passing-none q (λ f. omega (arith, z .0)) (λ f. omega (arith, z .0)) (λ f. omega (arith, z .0)))) o)
+            (λ x _. inr (inr (root x)));
+      }
+
+  pub claim-fine : Fine s rs now r n w (claimPiece s r w now .word) (claimPiece s r w now .next)
+  unfolding claimPiece bitsClaimed occClaimed isLeaf
+  claim-fine =
+      let bits = wanted s r n in
+      let swap = takeBits bits w in
+      on-choose (λ (m : Moved). Fine s rs now r n w (m .word) (m .next)) (isLeaf s n) (leaves (swap .word) (bitsClaimed r (swap .done))) (leaves (addOcc 1 w) (occClaimed r now))
+      (λ t. let leaf = eqb→eq (level n) (s .levels) t in
+      on-choose (λ q. Fine s rs now r n w (swap .word) q) (swap .done) (toPhase 6 (withGrip 3 r)) (toPhase 3 r)
+      (λ d. won leaf (test-true (swap .done) d)) (λ d. lost leaf (test-false (swap .done) d)))
+      (λ t. let inner = neqb→ne (level n) (s .levels) t in
+      on-choose (λ (p : ℕ). Fine s rs now r n w (addOcc 1 w) (toPhase p (withT0 now (withGrip 3 r)))) (isRoot n) 7 6
+      (λ y. inner-to inner 7 (inr (refl, eqb→eq n 1 y))) (λ y. inner-to inner 6 (inl refl)))

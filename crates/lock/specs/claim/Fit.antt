@@ -1,0 +1,162 @@
+-- Laws: what is known of every record of a table after a history: it is idle, or its pieces are its window's cover and its fields fit its phase.
+-- Assumes nothing.
+use mathlib.Core.Path.{_≡_, sym, ap, subst, _∙_}
+use mathlib.Core.Logic.{_≢_, _⊎_, inl, inr, ⊎-elim}
+use mathlib.Core.List.{List, [], _∷_}
+use Prim.Native.Nat.{ℕ, zero, suc, _≤_, _<_}
+use native.Mathlib.Omega.{arith}
+use lib.Dec.{eqb, leb, eqb→eq}
+use lib.ListN.{length, getD}
+use Rattle.base.specs.Choice.{choose, on-choose, choose-eq, choose-ne, by-lt}
+use Rattle.base.specs.Sum.{sumTo, to-only, to-le, to-once}
+use Rattle.tree.specs.Tree.{level, left, Node}
+use Rattle.tree.specs.Lists.{notifyList}
+use Rattle.tree.specs.Level.{level-pos}
+use Rattle.tree.specs.Notify.{notifyCount, Bounded, notify-count, notify-place, notify-once}
+use Rattle.cover.specs.Cover.{Covers, Rising}
+use Rattle.cover.specs.Search.{leastCover}
+use Rattle.cover.specs.Lowest.{Window}
+use Rattle.cover.specs.Least.{least-cover}
+use Rattle.lock.specs.declared.Record.{Record}
+use Rattle.lock.specs.declared.Settings.{Settings}
+use Rattle.lock.specs.rules.Types.{pieces, pieceAt, currentPiece, idleWith}
+use Rattle.lock.specs.laws.Pieces.{notices-before, notices-current}
+use Rattle.lock.specs.laws.Active.{Settled}
+use Rattle.lock.specs.laws.ActiveLaws.{in-at}
+use Rattle.lock.specs.claim.Owned.{returned, gripped, noticed, reaches, owns, outstanding, ownsNotice, noticed-begun, noticed-none}
+
+-- a record that is not idle
+pub record Live (s : Settings) (last : ℕ) (r : Record) : Type 0 where
+  pub window : Window (s .levels) (r .left) (r .right)
+  pub cover : pieces r ≡ leastCover 2 (s .levels) (r .left) (r .right)
+  pub exists : r .current < length (pieces r)
+  pub some : 1 ≤ r .phase
+  pub most : r .phase ≤ 10
+  pub claimed : 6 ≤ r .phase → r .phase ≤ 9 → r .grip ≡ 3
+  pub all-noticed : 7 ≤ r .phase → r .phase ≤ 9 → r .notices ≡ length (notifyList (s .distance) (currentPiece r))
+  pub listed : r .notices ≤ length (notifyList (s .distance) (currentPiece r))
+  pub whole : r .phase ≡ 9 → length (pieces r) ≤ suc (r .current)
+  pub t1-past : r .t1 ≤ last
+
+abbrev pub Fit : Settings → ℕ → Record → Type 0
+Fit s last r = (r ≡ idleWith (r .outcome)) ⊎ Live s last r
+
+-- ---- the pieces of a cover
+
+rising-from : (h n : ℕ) (c : List ℕ) → Rising h (n ∷ c) → (i : ℕ) → i < length c → left h n < left h (getD c i 0)
+unfolding Rising
+rising-from h n [] v i b = absurd (omega arith)
+rising-from h n (m ∷ c) v zero b = v .0
+rising-from h n (m ∷ c) v (suc i) b = omega (arith, v .0, rising-from h m c (v .1) i (omega arith))
+
+rising-tail : (h n : ℕ) (c : List ℕ) → Rising h (n ∷ c) → Rising h c
+unfolding Rising
+rising-tail h n [] v = tt
+rising-tail h n (m ∷ c) v = v .1
+
+rising-at : (h : ℕ) (c : List ℕ) → Rising h c → (i j : ℕ) → i < length c → j < i → left h (getD c j 0) < left h (getD c i 0)
+rising-at h [] v i j b l = absurd (omega arith)
+rising-at h (n ∷ c) v zero j b l = absurd (omega arith)
+rising-at h (n ∷ c) v (suc i) zero b l = rising-from h n c v i (omega arith)
+rising-at h (n ∷ c) v (suc i) (suc j) b l = rising-at h c (rising-tail h n c v) i j (omega arith) (omega arith)
+
+-- the pieces of a record are nodes of the tree, and no two are the same
+pub record Apart (s : Settings) (r : Record) : Type 0 where
+  pub node : (i : ℕ) → i < length (pieces r) → Node (s .levels) (pieceAt r i)
+  pub apart : (i j : ℕ) → i < length (pieces r) → j < length (pieces r) → i ≢ j → pieceAt r i ≢ pieceAt r j
+
+module _ (s : Settings) (r : Record) (w : Window (s .levels) (r .left) (r .right)) (c : pieces r ≡ leastCover 2 (s .levels) (r .left) (r .right)) where
+  pub covers : Covers (s .levels) (r .left) (r .right) (pieces r)
+  covers = subst (Covers (s .levels) (r .left) (r .right)) (sym c) (least-cover (s .levels) (r .left) (r .right) (w .levels) (w .some) (w .fits) 2 (omega arith) .covers)
+
+  pub covered-apart : Apart s r
+  unfolding pieceAt
+  covered-apart =
+      let lower : (i j : ℕ) → i < length (pieces r) → j < i → pieceAt r i ≢ pieceAt r j
+      = λ i j b l e. omega (arith, rising-at (s .levels) (pieces r) (covers .rising) i j b l, ap (left (s .levels)) e) in
+      record {
+        node = λ i b. covers .meets _ (in-at (pieces r) i b) .node;
+        apart = λ i j b d n e. by-lt i j (λ q. lower j i d q (sym e)) (λ q. lower i j b (omega arith) e);
+      }
+
+-- ---- what a record owns, piece by piece
+
+module _ (s : Settings) (r : Record) (v : Apart s r) where
+  -- at most one piece is at node n
+  pub owns-here : (n i k : ℕ) → i < length (pieces r) → pieceAt r i ≡ n → owns s k n r ≡ reaches k (gripped s r i)
+  unfolding owns
+  owns-here n i k b e =
+      to-only _ (length (pieces r)) i b (λ j c d. choose-ne (pieceAt r j) n _ 0 (λ f. v .apart j i c b d (f ∙ sym e)))
+      ∙ choose-eq (pieceAt r i) n _ 0 e
+
+  module _ (g : Settled s) (given : (i : ℕ) → i < length (pieces r) → noticed s r i ≤ length (notifyList (s .distance) (pieceAt r i))) where
+    pub bounded-piece : (i : ℕ) → i < length (pieces r) → Bounded (s .distance) (level (pieceAt r i))
+    bounded-piece i b =
+        record { m-some = g .distance-some; m-most = g .distance-most; d-some = level-pos (pieceAt r i); d-most = omega (arith, v .node i b .inside, g .levels-most) }
+
+    -- a piece owns at most one notice at a node
+    notice-once : (n i : ℕ) → i < length (pieces r) → sumTo (noticed s r i) (λ j. outstanding s n r i j) ≤ 1
+    unfolding outstanding
+    notice-once n i b =
+        to-once _ (noticed s r i) (λ j c. small j)
+        (λ j l c d x y.
+        let y1 = bounded-piece i b in
+        let m = s .distance in
+        let p = pieceAt r i in
+        let count = notify-count m p y1 in
+        let a : j < notifyCount m (level p) = omega (arith, given i b) in
+        notify-once m p y1 (v .node i b .some) j l a d
+        (sym (notify-place m p y1 l (omega arith)) ∙ at l y ∙ sym (at j x) ∙ notify-place m p y1 j a))
+      where
+        small : (j : ℕ) → choose (leb (returned s r i) (suc j)) (choose (eqb (getD (notifyList (s .distance) (pieceAt r i)) j 0) n) 1 0) 0 ≤ 1
+        small j =
+            on-choose (λ (x : ℕ). x ≤ 1) (leb (returned s r i) (suc j)) _ 0
+            (λ _. on-choose (λ (x : ℕ). x ≤ 1) (eqb (getD (notifyList (s .distance) (pieceAt r i)) j 0) n) 1 0 (λ _. omega arith) (λ _. omega arith)) (λ _. omega arith)
+
+        at : (j : ℕ) → 0 < choose (leb (returned s r i) (suc j)) (choose (eqb (getD (notifyList (s .distance) (pieceAt r i)) j 0) n) 1 0) 0
+            → getD (notifyList (s .distance) (pieceAt r i)) j 0 ≡ n
+        at j =
+            on-choose (λ (x : ℕ). 0 < x → getD (notifyList (s .distance) (pieceAt r i)) j 0 ≡ n) (leb (returned s r i) (suc j)) _ 0
+            (λ _. on-choose (λ (x : ℕ). 0 < x → getD (notifyList (s .distance) (pieceAt r i)) j 0 ≡ n) (eqb (getD (notifyList (s .distance) (pieceAt r i)) j 0) n) 1 0
+            (λ t _. eqb→eq _ n t) (λ _ b. absurd (omega arith))) (λ _ b. absurd (omega arith))
+
+    -- a record owns at most as many notices at a node as it has pieces
+    pub notice-le : (n : ℕ) → ownsNotice s n r ≤ length (pieces r)
+    unfolding ownsNotice
+    notice-le n = omega (arith, to-le (λ i. sumTo (noticed s r i) (λ j. outstanding s n r i j)) 1 (length (pieces r)) (λ i b. notice-once n i b))
+
+-- ---- a record that fits
+
+module _ (s : Settings) (last : ℕ) (r : Record) (v : Live s last r) where
+  pub live-apart : Apart s r
+  live-apart = covered-apart s r (v .window) (v .cover)
+
+  pub live-noticed : (i : ℕ) → i < length (pieces r) → noticed s r i ≤ length (notifyList (s .distance) (pieceAt r i))
+  live-noticed i b =
+      by-lt (r .current) i
+      (λ q. omega (arith, noticed-none s r i q))
+      (λ q. by-lt i (r .current)
+      (λ l. omega (arith, noticed-begun s r i q, notices-before r i s l))
+      (λ l. let e : i ≡ r .current = omega arith in
+      let f : length (notifyList (s .distance) (pieceAt r i)) ≡ length (notifyList (s .distance) (currentPiece r)) = ap (λ (j : ℕ). length (notifyList (s .distance) (pieceAt r j))) e in
+      omega (arith, noticed-begun s r i q, notices-current r i s l, v .listed)))
+
+pub fit-past : (s : Settings) (last : ℕ) (r : Record) → Fit s last r → r .t1 ≤ last
+fit-past s last r v = ⊎-elim (λ e. omega (arith, ap (λ x. x .t1) e)) (λ l. l .t1-past) v
+
+pub fit-later : (s : Settings) (last now : ℕ) (r : Record) → last ≤ now → Fit s last r → Fit s now r
+fit-later s last now r b v =
+    ⊎-elim inl
+    (λ l. inr (record {
+      window = l .window;
+      cover = l .cover;
+      exists = l .exists;
+      some = l .some;
+      most = l .most;
+      claimed = l .claimed;
+      all-noticed = l .all-noticed;
+      listed = l .listed;
+      whole = l .whole;
+      t1-past = omega (arith, l .t1-past);
+    }))
+    v

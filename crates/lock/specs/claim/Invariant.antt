@@ -1,0 +1,210 @@
+-- The invariant of a state that every call keeps, and the law that a call with one of the effects keeps it. Assumes nothing.
+use mathlib.Core.Path.{_≡_, refl, sym, ap, subst, _∙_}
+use mathlib.Core.Logic.{_≢_}
+use mathlib.Core.List.{List}
+use Prim.Native.Nat.{ℕ, zero, suc, _^_, _≤_, _<_}
+use native.Mathlib.Decide.{ℕ-discrete}
+use native.Mathlib.Omega.{arith}
+use lib.ListN.{length, getD, set, length-set}
+use lib.Seq.{getD-set-same, getD-set-other}
+use Rattle.base.specs.Sum.{on-set}
+use Rattle.word.specs.Word.{takeBits, giveBits}
+use Rattle.word.specs.Leaf.{wanted-lt}
+use Rattle.word.specs.Swap.{take-lt, give-lt}
+use Rattle.tree.specs.Tree.{level, left, leaf, units, wordCount, Node}
+use Rattle.tree.specs.Level.{node-counted}
+use Rattle.tree.specs.Range.{leaf-level, leaf-some}
+use Rattle.lock.specs.declared.Record.{Record}
+use Rattle.lock.specs.declared.Settings.{Settings}
+use Rattle.lock.specs.rules.Types.{wordAt, written}
+use Rattle.lock.specs.rules.Table.{State, recordAt}
+use Rattle.lock.specs.laws.Active.{Settled}
+use Rattle.lock.specs.rules.Steps.{wanted}
+use Rattle.lock.specs.claim.Owned.{owns-falls}
+use Rattle.lock.specs.claim.Fit.{Fit, fit-past, fit-later}
+use Rattle.lock.specs.claim.Effect.{Grips, Notices, Effect, quiet, drew, turned, claimed, freed, passed, notified, unnotified, took, gave}
+use Rattle.lock.specs.claim.Kept.{nobody, Kept, kept-same, kept-drew, kept-turned, kept-claimed, kept-freed, kept-passed, kept-notified, kept-unnotified}
+use Rattle.lock.specs.claim.Bits.{Bit, bit-same, bit-took, bit-gave}
+use Rattle.lock.specs.claim.Timed.{Timed, Timely, timed-later, timed-above, timed-below}
+
+pub record Invariant (s : Settings) (st : State) : Type 0 where
+  pub settled : Settled s
+  pub count : length (st .words) ≡ wordCount (s .levels)
+  pub few : length (st .records) ≤ 32767
+  -- every record is idle or fits its phase
+  pub fit : (c : ℕ) → Fit s (st .clock) (recordAt st c)
+  -- every inner word holds what the records own of it
+  pub inner : (n : ℕ) → Node (s .levels) n → level n ≢ s .levels → Kept s n (wordAt (st .words) n) (st .records)
+  -- so does every leaf word, which has 64 bits
+  pub small : (n : ℕ) → Node (s .levels) n → level n ≡ s .levels → wordAt (st .words) n < 2 ^ 64
+  pub bits : (u : ℕ) → u < units (s .levels) → Bit s u (wordAt (st .words) (leaf (s .levels) u)) (st .records)
+  -- and what is known of two different clients
+  pub timed : (c d : ℕ) → c ≢ d → Timed s (st .clock) (recordAt st c) (recordAt st d)
+
+-- ---- one word written
+
+written-same : (words : List ℕ) (x v : ℕ) → 1 ≤ x → x ≤ length words → wordAt (written words x v) x ≡ v
+unfolding wordAt written
+written-same words zero v a b = absurd (omega arith)
+written-same words (suc i) v a b = getD-set-same words i v 0 b
+
+written-other : (words : List ℕ) (x v n : ℕ) → n ≢ x → wordAt (written words x v) n ≡ wordAt words n
+unfolding wordAt written
+written-other words zero v n d = refl
+written-other words (suc i) v zero d = refl
+written-other words (suc i) v (suc j) d = getD-set-other words i j v 0 (λ e. d (ap suc e))
+
+written-length : (words : List ℕ) (x v : ℕ) → length (written words x v) ≡ length words
+unfolding written
+written-length words zero v = refl
+written-length words (suc i) v = length-set words i v
+
+-- ---- an effect
+
+module _ (s : Settings) (st : State) (inv : Invariant s st) (c : ℕ) (client : c < length (st .records)) (x v : ℕ) (q : Record)
+    (some : x ≢ 0 → Node (s .levels) x) (e : Effect s (recordAt st c) q x (wordAt (st .words) x) v) where
+  abbrev rs : List Record
+  rs = st .records
+
+  abbrev r : Record
+  r = recordAt st c
+
+  -- an inner word that is not touched
+  else-kept : (n : ℕ) → Node (s .levels) n → level n ≢ s .levels → n ≢ x → Kept s n (wordAt (st .words) n) (set rs c q)
+  unfolding recordAt
+  else-kept n a b d =
+      let w = wordAt (st .words) n in
+      let k = inv .inner n a b in
+      let grips : (from to : ℕ) → Grips s r q x from to → Kept s n w (set rs c q)
+      = λ from to g. kept-same s n (a .some) w rs k c q client (g .else 1 n (omega arith) (a .some) d) (g .else 2 n (omega arith) (a .some) d) (g .else 3 n (omega arith) (a .some) d) (g .notices n (a .some)) (g .drawn n (a .some) d) in
+      let notes : Notices s r q x → Kept s n w (set rs c q)
+      = λ g. kept-same s n (a .some) w rs k c q client (g .owned 1 n (omega arith) (a .some)) (g .owned 2 n (omega arith) (a .some)) (g .owned 3 n (omega arith) (a .some)) (g .else n (a .some) d) (g .drawn n (a .some)) in
+      elim e [
+        | quiet i g ↦ kept-same s n (a .some) w rs k c q client (g .owned 1 n (omega arith) (a .some)) (g .owned 2 n (omega arith) (a .some)) (g .owned 3 n (omega arith) (a .some)) (g .notices n (a .some)) (g .drawn n (a .some))
+        | drew i g t j ↦ grips 0 1 g
+        | turned i g t j ↦ grips 1 2 g
+        | claimed i g j ↦ grips 2 3 g
+        | freed i g j ↦ grips 3 0 g
+        | passed i g j ↦ grips 2 0 g
+        | notified i g t j ↦ notes g
+        | unnotified i g t j ↦ notes g
+        | took i p g t j ↦ grips 0 3 g
+        | gave i p g t j ↦ grips 3 0 g
+      ]
+
+  -- the inner word that is touched
+  here-kept : Node (s .levels) x → level x ≢ s .levels → Kept s x v (set rs c q)
+  unfolding recordAt
+  here-kept a b =
+      let w = wordAt (st .words) x in
+      let k = inv .inner x a b in
+      elim e [
+        | quiet i g ↦ rw i (kept-same s x (a .some) w rs k c q client (g .owned 1 x (omega arith) (a .some)) (g .owned 2 x (omega arith) (a .some)) (g .owned 3 x (omega arith) (a .some)) (g .notices x (a .some)) (g .drawn x (a .some)))
+        | drew i g t j ↦ rw j (kept-drew s x (a .some) w rs k c q client 0 1 g (inv .few) refl refl t)
+        | turned i g t j ↦ rw j (kept-turned s x (a .some) w rs k c q client 1 2 g refl refl t)
+        | claimed i g j ↦ rw j (kept-claimed s x (a .some) w rs k c q client 2 3 g (λ d. owns-falls s 2 x (getD rs d nobody)) (λ d. owns-falls s 1 x (getD rs d nobody)) refl refl)
+        | freed i g j ↦ rw j (kept-freed s x (a .some) w rs k c q client 3 0 g refl refl)
+        | passed i g j ↦ rw j (kept-passed s x (a .some) w rs k c q client 2 0 g refl refl)
+        | notified i g t j ↦ rw j (kept-notified s x (a .some) w rs k c q client g t)
+        | unnotified i g t j ↦ rw j (kept-unnotified s x (a .some) w rs k c q client g t)
+        | took i p g t j ↦ absurd (b i)
+        | gave i p g t j ↦ absurd (b i)
+      ]
+
+  levels-some : 1 ≤ s .levels
+  levels-some = omega (arith, inv .settled .levels-some)
+
+  -- a unit of a leaf that is not touched
+  else-bit : (u : ℕ) → u < units (s .levels) → leaf (s .levels) u ≢ x → Bit s u (wordAt (st .words) (leaf (s .levels) u)) (set rs c q)
+  unfolding recordAt
+  else-bit u f d =
+      let same = bit-same s u levels-some f (wordAt (st .words) (leaf (s .levels) u)) rs (inv .bits u f) c q client in
+      elim e [
+        | quiet i g ↦ same (g .units u)
+        | drew i g t j ↦ same (g .units u d)
+        | turned i g t j ↦ same (g .units u d)
+        | claimed i g j ↦ same (g .units u d)
+        | freed i g j ↦ same (g .units u d)
+        | passed i g j ↦ same (g .units u d)
+        | notified i g t j ↦ same (g .units u)
+        | unnotified i g t j ↦ same (g .units u)
+        | took i p g t j ↦ same (g .units u d)
+        | gave i p g t j ↦ same (g .units u d)
+      ]
+
+  -- a unit of the leaf that is touched
+  here-bit : (u : ℕ) → u < units (s .levels) → leaf (s .levels) u ≡ x → Bit s u v (set rs c q)
+  unfolding recordAt
+  here-bit u f z =
+      let w = wordAt (st .words) x in
+      let k : Bit s u w rs = subst (λ (n : ℕ). Bit s u (wordAt (st .words) n) rs) z (inv .bits u f) in
+      let inner : level x ≢ s .levels → Bit s u v (set rs c q) = λ d. absurd (d (ap level (sym z) ∙ leaf-level (s .levels) u levels-some f)) in
+      elim e [
+        | quiet i g ↦ rw i (bit-same s u levels-some f w rs k c q client (g .units u))
+        | drew i g t j ↦ inner i
+        | turned i g t j ↦ inner i
+        | claimed i g j ↦ inner i
+        | freed i g j ↦ inner i
+        | passed i g j ↦ inner i
+        | notified i g t j ↦ inner i
+        | unnotified i g t j ↦ inner i
+        | took i p g t j ↦ rw j (subst (λ (n : ℕ). Bit s u (takeBits (wanted s r n) w .word) (set rs c q)) z (bit-took s u levels-some f w rs k c q client (rw z p) (rw z g) (rw z t)))
+        | gave i p g t j ↦ rw j (subst (λ (n : ℕ). Bit s u (giveBits (wanted s r n) w .word) (set rs c q)) z (bit-gave s u levels-some f w rs k c q client (rw z p) (rw z g) (rw z t)))
+      ]
+
+  -- a leaf word that is touched still has 64 bits
+  here-small : Node (s .levels) x → level x ≡ s .levels → v < 2 ^ 64
+  here-small a b =
+      let w = wordAt (st .words) x in
+      let k = inv .small x a b in
+      elim e [
+        | quiet i g ↦ rw i k
+        | drew i g t j ↦ absurd (i b)
+        | turned i g t j ↦ absurd (i b)
+        | claimed i g j ↦ absurd (i b)
+        | freed i g j ↦ absurd (i b)
+        | passed i g j ↦ absurd (i b)
+        | notified i g t j ↦ absurd (i b)
+        | unnotified i g t j ↦ absurd (i b)
+        | took i p g t j ↦ rw j (take-lt (wanted s r x) w (wanted-lt (left (s .levels) x) (r .left) (r .right) (p .some) (p .starts) (p .ends)) k)
+        | gave i p g t j ↦ rw j (give-lt (wanted s r x) w (wanted-lt (left (s .levels) x) (r .left) (r .right) (p .some) (p .starts) (p .ends)) k)
+      ]
+
+  -- a statement of the word of node n after the call
+  on-word : (P : ℕ → Type 0) (n : ℕ) → Node (s .levels) n → (n ≡ x → P v) → (n ≢ x → P (wordAt (st .words) n)) → P (wordAt (written (st .words) x v) n)
+  on-word P n a f g =
+      elim (ℕ-discrete n x) [
+        | yes i ↦
+            let z : x ≤ length (st .words) = omega (arith, node-counted (s .levels) n a, inv .count) in
+            subst P (sym (ap (wordAt (written (st .words) x v)) i ∙ written-same (st .words) x v (omega (arith, a .some)) z)) (f i)
+        | no d ↦ subst P (sym (written-other (st .words) x v n d)) (g d)
+      ]
+
+  module _ (now : ℕ) (later : st .clock ≤ now) (fits : Fit s now q) (time : Timely s rs nobody now r q) where
+    abbrev after : State
+    after = record { words = written (st .words) x v; records = set rs c q; clock = now }
+
+    two-timed : (a b : ℕ) → a ≢ b → Timed s now (recordAt after a) (recordAt after b)
+    unfolding recordAt
+    two-timed a b d =
+        on-set (λ y. Timed s now y (getD (set rs c q) b nobody)) rs c a q nobody client
+        (λ i. on-set (λ y. Timed s now q y) rs c b q nobody client
+        (λ j. absurd (d (i ∙ sym j)))
+        (λ j. timed-above s (inv .settled) rs nobody (st .clock) now later r q time (getD rs b nobody) (inv .fit b) (fit-past s (st .clock) (getD rs b nobody) (inv .fit b)) (λ n z. z b) (inv .timed c b (λ k. j (sym k)))))
+        (λ i. on-set (λ y. Timed s now (getD rs a nobody) y) rs c b q nobody client
+        (λ j. timed-below s (inv .settled) rs nobody (st .clock) now later r q time (getD rs a nobody) (inv .fit a) (λ n z. z a) (inv .timed a c i))
+        (λ j. timed-later s (st .clock) now (getD rs a nobody) (getD rs b nobody) later (inv .timed a b d)))
+
+    pub effect-keeps : Invariant s after
+    unfolding recordAt
+    effect-keeps = record {
+      settled = inv .settled;
+      count = written-length (st .words) x v ∙ inv .count;
+      few = rw (length-set rs c q) (inv .few);
+      fit = λ d. on-set (Fit s now) rs c d q nobody client (λ _. fits) (λ _. fit-later s (st .clock) now (getD rs d nobody) later (inv .fit d));
+      inner = λ n a b. on-word (λ w. Kept s n w (set rs c q)) n a (λ i. rw i (here-kept (rw (sym i) a) (rw (sym i) b))) (else-kept n a b);
+      small = λ n a b. on-word (λ w. w < 2 ^ 64) n a (λ i. here-small (rw (sym i) a) (rw (sym i) b)) (λ _. inv .small n a b);
+      bits = λ u f. on-word (λ w. Bit s u w (set rs c q)) (leaf (s .levels) u)
+          (record { some = leaf-some (s .levels) u levels-some f; inside = omega (arith, leaf-level (s .levels) u levels-some f) }) (here-bit u f) (else-bit u f);
+      timed = two-timed;
+    }

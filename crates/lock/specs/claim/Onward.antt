@@ -1,0 +1,172 @@
+-- Laws: from what a call changes in the fields of a record to what it changes of how far the record's pieces have come. Assumes nothing.
+use mathlib.Core.Path.{_≡_, refl, sym, ap, subst, _∙_}
+use mathlib.Core.Logic.{_≢_, _⊎_, inl, inr, ⊎-elim}
+use mathlib.Core.List.{List}
+use Prim.Native.Nat.{ℕ, suc, _-_, _≤_, _<_}
+use native.Mathlib.Omega.{arith}
+use lib.ListN.{length, getD}
+use Rattle.base.specs.Choice.{by-lt, by-eq}
+use Rattle.tree.specs.Tree.{climb, level}
+use Rattle.tree.specs.Check.{checkCount, checkNode}
+use Rattle.tree.specs.Lists.{notifyList}
+use Rattle.lock.specs.declared.Record.{Record}
+use Rattle.lock.specs.declared.Settings.{Settings}
+use Rattle.lock.specs.rules.Types.{pieces, pieceAt, currentPiece}
+use Rattle.lock.specs.claim.Owned.{owns, ownsNotice}
+use Rattle.lock.specs.claim.Fit.{Live}
+use Rattle.lock.specs.claim.Forward.{Kin}
+use Rattle.lock.specs.claim.Stage.{phaseAt, passing, checkedTo, stage-before, stage-returning, stage-current, stage-after, stage-cases, passing-climb, passing-none, checked-all, checked-none, checked-stage}
+use Rattle.lock.specs.claim.Timed.{Timely}
+
+kin-piece : (r q : Record) → Kin r q → (i : ℕ) → pieceAt q i ≡ pieceAt r i
+unfolding pieceAt
+kin-piece r q k i = ap (λ l. getD l i 0) (k .pieces-same)
+
+-- ---- a record that fits its phase still does
+
+module _ (s : Settings) (last now : ℕ) (r q : Record) (later : last ≤ now) (v : Live s last r) (k : Kin r q) where
+  pub live-kin : q .current < length (pieces r) → 1 ≤ q .phase → q .phase ≤ 10 → (6 ≤ q .phase → q .phase ≤ 9 → q .grip ≡ 3)
+      → (7 ≤ q .phase → q .phase ≤ 9 → q .notices ≡ length (notifyList (s .distance) (currentPiece q)))
+      → q .notices ≤ length (notifyList (s .distance) (currentPiece q)) → (q .phase ≡ 9 → length (pieces r) ≤ suc (q .current)) → q .t1 ≤ now → Live s now q
+  live-kin e a b c d f g h = record {
+    window = rw (k .left-same, k .right-same) (v .window);
+    cover = rw (k .pieces-same, k .left-same, k .right-same) (v .cover);
+    exists = rw (k .pieces-same) e;
+    some = a;
+    most = b;
+    claimed = c;
+    all-noticed = d;
+    listed = f;
+    whole = λ z. rw (k .pieces-same) (g z);
+    t1-past = h;
+  }
+
+-- ---- how far it has come
+
+module _ (s : Settings) (rs : List Record) (nobody : Record) (now : ℕ) (r : Record) where
+  pub timely-stay : Timely s rs nobody now r r
+  timely-stay = record {
+    claims = λ x y. inl (x, y, refl, refl);
+    waits = λ i x y. (refl, inl (x, y));
+    checks = λ i k x. (refl, inl x);
+    passes = inr (refl, inl (omega arith, refl));
+    notifies = λ j x y. (refl, inl (x, y));
+  }
+
+  module _ (q : Record) where
+    -- no piece has claimed, and none has passed an ancestor
+    pub timely-none : (6 ≤ q .phase → 10 ≤ q .phase) → ((i : ℕ) → 6 ≤ phaseAt q i → 10 ≤ phaseAt q i) → passing q ≡ 0 → Timely s rs nobody now r q
+    timely-none a b c = record {
+      claims = λ x y. absurd (omega (arith, a x));
+      waits = λ i x y. absurd (omega (arith, b i (omega arith)));
+      checks = λ i k x. let z = checked-stage s q i (omega arith) in absurd (omega (arith, z .0, z .1, b i (omega (arith, z .0))));
+      passes = inl c;
+      notifies = λ j x y. absurd (omega (arith, b j (omega arith)));
+    }
+
+    -- a record that returns
+    pub timely-returning : q .phase ≡ 10 → Timely s rs nobody now r q
+    timely-returning e =
+        timely-none (λ _. omega arith)
+        (λ i x. by-lt i (q .current) (λ b. omega (arith, stage-returning q i b e)) (λ b. by-eq i (q .current) (λ f. omega (arith, stage-current q i f)) (λ d. absurd (omega (arith, stage-after q i (omega arith))))))
+        (passing-none q (λ f. omega arith) (λ f. omega arith) (λ f. omega arith))
+
+    -- a record that begins its first piece, or is idle
+    pub timely-first : q .current ≡ 0 → q .phase ≤ 4 → (q .phase ≡ 3 → q .place ≡ 0) → Timely s rs nobody now r q
+    timely-first c b p =
+        timely-none (λ x. absurd (omega arith))
+        (λ i x. by-eq i 0 (λ e. absurd (omega (arith, stage-current q i (e ∙ sym c)))) (λ d. absurd (omega (arith, stage-after q i (omega arith)))))
+        (by-eq (q .phase) 3 (λ e. passing-climb q e ∙ p e) (λ d. passing-none q d (λ f. omega arith) (λ f. omega arith)))
+
+    -- ---- the current piece goes on
+
+    module _ (k : Kin r q) (c : q .current ≡ r .current) (a : r .phase ≢ 10) (b : q .phase ≢ 10) where
+      piece : (i : ℕ) → pieceAt q i ≡ pieceAt r i
+      piece = kin-piece r q k
+
+      current-same : currentPiece q ≡ currentPiece r
+      current-same = ap (pieceAt q) c ∙ piece (r .current)
+
+      -- cases on a piece that has come somewhere: taken before and after, or the current one
+      on-piece : (P : ℕ → Type 0) (i : ℕ) → 1 ≤ phaseAt q i → phaseAt q i ≤ 9 → (i < r .current → phaseAt r i ≡ 9 → phaseAt q i ≡ 9 → P i)
+          → (phaseAt q (r .current) ≡ q .phase → P (r .current)) → P i
+      on-piece P i x y f g =
+          ⊎-elim
+          (λ z. f (omega (arith, z .0)) (stage-before r i (omega (arith, z .0)) a) (stage-before q i (z .0) b))
+          (λ z. subst P (let e : r .current ≡ i = omega (arith, z .0) in e) (g (stage-current q (r .current) (sym c))))
+          (stage-cases q i x y)
+
+      now-at : phaseAt r (r .current) ≡ r .phase
+      now-at = stage-current r (r .current) refl
+
+      pub onward :
+          (6 ≤ q .phase → q .phase ≤ 7 → ((6 ≤ r .phase) × (r .phase ≤ 7) × (q .t0 ≡ r .t0)) ⊎ ((q .t0 ≡ now) ⊎ (level (currentPiece r) ≡ s .levels)))
+          → (8 ≤ q .phase → q .phase ≤ 9 → ((8 ≤ r .phase) × (r .phase ≤ 9)) ⊎ (((6 ≤ r .phase) × (r .phase ≤ 7) × (s .wait ≤ now - r .t0)) ⊎ (level (currentPiece r) ≡ s .levels)))
+          → ((l : ℕ) → l < checkedTo s q (r .current)
+          → (l < checkedTo s r (r .current)) ⊎ (((d : ℕ) → ownsNotice s (checkNode (currentPiece r) l) (getD rs d nobody) ≡ 0) ⊎ (level (currentPiece r) ≡ s .levels)))
+          → (passing q ≡ 0) ⊎ (((passing q ≤ passing r) × (q .t1 ≡ r .t1))
+          ⊎ ((passing q ≡ suc (passing r)) × ((q .t1 ≡ r .t1) ⊎ (passing r ≡ 0)) × ((d : ℕ) → owns s 3 (climb (suc (passing r)) (currentPiece r)) (getD rs d nobody) ≡ 0)))
+          → (7 ≤ q .phase → q .phase ≤ 9 → ((7 ≤ r .phase) × (r .phase ≤ 9)) ⊎ (((level (currentPiece r) ≤ suc (passing r)) × (now - r .t1 < s .wait)) ⊎ (currentPiece r ≡ 1)))
+          → Timely s rs nobody now r q
+      onward claims waits checks passes notifies = record {
+        claims = λ x y. ⊎-elim (λ z. inl (z .0, z .1, z .2, current-same)) (λ z. inr (⊎-elim inl (λ l. inr (ap level current-same ∙ l)) z)) (claims x y);
+        waits = λ i x y. on-piece (λ j. 8 ≤ phaseAt q j → phaseAt q j ≤ 9 → (pieceAt q j ≡ pieceAt r j) × (((8 ≤ phaseAt r j) × (phaseAt r j ≤ 9))
+            ⊎ (((j ≡ r .current) × (6 ≤ r .phase) × (r .phase ≤ 7) × (s .wait ≤ now - r .t0)) ⊎ (level (pieceAt q j) ≡ s .levels)))) i (omega arith) y
+            (λ l e f _ _. (piece i, inl (omega arith, omega arith)))
+            (λ e o u. (
+              piece (r .current),
+              ⊎-elim (λ z. inl (omega (arith, z .0, now-at), omega (arith, z .1, now-at)))
+                  (λ z. inr (⊎-elim (λ w. inl (refl, w .0, w .1, w .2)) (λ l. inr (ap level (piece (r .current)) ∙ l)) z)) (waits (omega arith) (omega arith)),
+            )) x y;
+        checks = λ i l x. let stage = checked-stage s q i (omega arith) in
+            on-piece (λ j. l < checkedTo s q j → (pieceAt q j ≡ pieceAt r j) × ((l < checkedTo s r j)
+            ⊎ (((d : ℕ) → ownsNotice s (checkNode (pieceAt r j) l) (getD rs d nobody) ≡ 0) ⊎ (level (pieceAt q j) ≡ s .levels)))) i (omega (arith, stage .0)) (stage .1)
+            (λ o e f z. (piece i, inl (omega (arith, checked-all s q i f, checked-all s r i e, ap (checkCount (s .levels) (s .distance)) (piece i)))))
+            (λ e z. (piece (r .current), ⊎-elim inl (λ o. inr (⊎-elim inl (λ w. inr (ap level (piece (r .current)) ∙ w)) o)) (checks l z))) x;
+        passes = ⊎-elim inl (λ z. inr (current-same, z)) passes;
+        notifies = λ i x y. on-piece (λ j. 7 ≤ phaseAt q j → phaseAt q j ≤ 9 → (pieceAt q j ≡ pieceAt r j) × (((7 ≤ phaseAt r j) × (phaseAt r j ≤ 9))
+            ⊎ (((j ≡ r .current) × (level (currentPiece r) ≤ suc (passing r)) × (now - r .t1 < s .wait)) ⊎ (pieceAt q j ≡ 1)))) i (omega arith) y
+            (λ l e f _ _. (piece i, inl (omega arith, omega arith)))
+            (λ e o u. (
+              piece (r .current),
+              ⊎-elim (λ z. inl (omega (arith, z .0, now-at), omega (arith, z .1, now-at)))
+                  (λ z. inr (⊎-elim (λ w. inl (refl, w .0, w .1)) (λ l. inr (piece (r .current) ∙ l)) z)) (notifies (omega arith) (omega arith)),
+            )) x y;
+      }
+
+      -- to a phase in which nothing is claimed
+      pub onward-low : q .phase ≤ 5
+          → (passing q ≡ 0) ⊎ (((passing q ≤ passing r) × (q .t1 ≡ r .t1))
+          ⊎ ((passing q ≡ suc (passing r)) × ((q .t1 ≡ r .t1) ⊎ (passing r ≡ 0)) × ((d : ℕ) → owns s 3 (climb (suc (passing r)) (currentPiece r)) (getD rs d nobody) ≡ 0)))
+          → Timely s rs nobody now r q
+      onward-low l passes =
+          let at = stage-current q (r .current) (sym c) in
+          onward (λ x y. absurd (omega arith)) (λ x y. absurd (omega arith))
+          (λ n x. absurd (omega (arith, checked-none s q (r .current) (λ e. omega arith) (λ e. omega arith)))) passes (λ x y. absurd (omega arith))
+
+    -- ---- the piece is taken, and the next begins
+
+    module _ (p : Record) (time : Timely s rs nobody now r p) (k : Kin p q) (held : p .phase ≡ 9) (c : q .current ≡ suc (p .current)) (low : q .phase ≤ 4) (first : q .place ≡ 0) where
+      was-taken : (i : ℕ) → 6 ≤ phaseAt q i → phaseAt q i ≤ 9 → (phaseAt p i ≡ 9) × (phaseAt q i ≡ 9)
+      was-taken i x y =
+          ⊎-elim
+          (λ z. (by-lt i (p .current) (λ b. stage-before p i b (λ e. omega arith)) (λ b. stage-current p i (omega (arith, z .0)) ∙ held), stage-before q i (z .0) (z .1)))
+          (λ z. absurd (omega (arith, z .1)))
+          (stage-cases q i (omega arith) y)
+
+      pub timely-begin : Timely s rs nobody now r q
+      timely-begin =
+          let piece = kin-piece p q k in
+          record {
+            claims = λ x y. absurd (omega arith);
+            waits = λ i x y. let t = was-taken i (omega arith) y in let w = time .waits i (omega (arith, t .0)) (omega (arith, t .0)) in
+                (piece i ∙ w .0, ⊎-elim inl (λ z. inr (⊎-elim inl (λ l. inr (ap level (piece i) ∙ l)) z)) (w .1));
+            checks = λ i l x. let z = checked-stage s q i (omega arith) in
+                let t = was-taken i (omega (arith, z .0)) (z .1) in
+                let same : checkedTo s q i ≡ checkedTo s p i = checked-all s q i (t .1) ∙ ap (checkCount (s .levels) (s .distance)) (piece i) ∙ sym (checked-all s p i (t .0)) in
+                let w = time .checks i l (omega arith) in
+                (piece i ∙ w .0, ⊎-elim inl (λ o. inr (⊎-elim inl (λ n. inr (ap level (piece i) ∙ n)) o)) (w .1));
+            passes = inl (by-eq (q .phase) 3 (λ e. passing-climb q e ∙ first) (λ d. passing-none q d (λ f. omega arith) (λ f. omega arith)));
+            notifies = λ j x y. let t = was-taken j (omega arith) y in let w = time .notifies j (omega (arith, t .0)) (omega (arith, t .0)) in
+                (piece j ∙ w .0, ⊎-elim inl (λ z. inr (⊎-elim inl (λ l. inr (piece j ∙ l)) z)) (w .1));
+          }

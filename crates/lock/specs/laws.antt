@@ -1,0 +1,15 @@
+pub mod Accepted
+pub mod Active
+pub mod ActiveLaws
+pub mod CallLaws
+pub mod CoverLaws
+pub mod MoveLaws
+pub mod Phases
+pub mod Pieces
+pub mod Placed
+pub mod ReadableLaws
+pub mod Ready
+pub mod RequestLaws
+pub mod ReturnLaws
+pub mod StepLaws
+pub mod Touched

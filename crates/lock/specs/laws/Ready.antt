@@ -1,0 +1,113 @@
+-- Laws: what an accepted call knows of its client's record, which is readable: grip, notices, pieces and place by phase. Assumes nothing.
+use mathlib.Core.Path.{_≡_, sym, ap, _∙_}
+use mathlib.Core.Logic.{_≢_, _⊎_, inl, inr, ⊎-elim}
+use mathlib.Core.Bool.{Bool, true, false, not, _&&_}
+use Prim.Native.Nat.{ℕ, _≤_, _<_}
+use native.Mathlib.Omega.{arith}
+use borrow.Author.Tests.{ltb-false, eqb-false, eqb-true, not-false, lt-ltb, eq-eqb, ne-eqb}
+use lib.Dec.{eqb, ltb}
+use lib.ListN.{length}
+use Rattle.base.specs.Choice.{choose, choose-eq, choose-ne, by-lt, by-eq}
+use Rattle.tree.specs.Tree.{level}
+use Rattle.tree.specs.Lists.{notifyList}
+use Rattle.lock.specs.declared.Record.{Record}
+use Rattle.lock.specs.declared.Settings.{Settings}
+use Rattle.lock.specs.rules.Types.{Phase, phaseOf, pieces, currentPiece, isLeaf, gripOf}
+use Rattle.lock.specs.laws.Phases.{at-ticket, at-turn, at-climb, at-blocked, at-claim, at-notify, at-wait, at-check, at-returning}
+use Rattle.lock.specs.rules.Readable.{nonzero, differ, noticesWrong, phaseElsewhere, lacksGrip, gripLacking, givingWrong, unreadable}
+use Rattle.lock.specs.laws.Active.{Settled, Active}
+use Rattle.lock.specs.laws.ActiveLaws.{both-false, Passed, passed, active}
+
+pub record Ready (s : Settings) (last : ℕ) (r : Record) : Type 0 where
+  pub active : Active s last r
+  pub grip-ticket : r .phase ≡ 1 → r .grip ≡ 0
+  pub grip-turn : r .phase ≡ 2 → r .grip ≡ 1
+  pub grip-leaf : 3 ≤ r .phase → r .phase ≤ 5 → level (currentPiece r) ≡ s .levels → r .grip ≡ 0
+  pub grip-inner : 3 ≤ r .phase → r .phase ≤ 5 → level (currentPiece r) ≢ s .levels → r .grip ≡ 2
+  pub grip-most : r .phase ≡ 10 → r .grip ≤ 3
+  pub grip-leaf-returning : r .phase ≡ 10 → level (currentPiece r) ≡ s .levels → (r .grip ≡ 0) ⊎ (r .grip ≡ 3)
+  pub inner : (r .phase ≡ 1) ⊎ ((r .phase ≡ 2) ⊎ ((r .phase ≡ 7) ⊎ (r .phase ≡ 8))) → level (currentPiece r) ≢ s .levels
+  pub below : (r .phase ≡ 3) ⊎ ((r .phase ≡ 4) ⊎ (r .phase ≡ 6)) → currentPiece r ≢ 1
+  pub no-notices : r .grip < 3 → r .notices ≡ 0
+  pub notices-place : r .phase ≡ 6 → r .notices ≡ r .place
+  pub no-giving : r .phase ≢ 10 → r .giving ≡ 0
+  pub giving-gripped : r .phase ≡ 10 → gripOf r (r .giving) ≢ 0
+
+-- a test that is false of two numbers that differ says that they do not
+same : (m n : ℕ) → differ m n ≡ false → m ≡ n
+same m n e = eqb-true m n (not-false (eqb m n) e)
+
+-- the second of two joined tests, where the first is true
+and-second : (a b : Bool) → a ≡ true → (a && b) ≡ false → b ≡ false
+and-second a b t e = sym (ap (λ x. x && b) t) ∙ e
+
+module _ (s : Settings) (last : ℕ) (r : Record) (k : Passed s last r) where
+  lacks : (p : Phase) → phaseOf (r .phase) ≡ p → gripLacking s r p ≡ false
+  lacks p e = ap (gripLacking s r) (sym e) ∙ k .grip
+
+  elsewhere : (p : Phase) → phaseOf (r .phase) ≡ p → phaseElsewhere s r p ≡ false
+  elsewhere p e = ap (phaseElsewhere s r) (sym e) ∙ k .phase
+
+  not-leaf : isLeaf s (currentPiece r) ≡ false → level (currentPiece r) ≢ s .levels
+  unfolding isLeaf
+  not-leaf e = eqb-false (level (currentPiece r)) (s .levels) e
+
+  climbing-grip : r .grip ≡ choose (isLeaf s (currentPiece r)) 0 2
+      → ((level (currentPiece r) ≡ s .levels → r .grip ≡ 0) × (level (currentPiece r) ≢ s .levels → r .grip ≡ 2))
+  unfolding isLeaf
+  climbing-grip e = (λ f. e ∙ choose-eq (level (currentPiece r)) (s .levels) 0 2 f, λ d. e ∙ choose-ne (level (currentPiece r)) (s .levels) 0 2 d)
+
+  climbing : 3 ≤ r .phase → r .phase ≤ 5 → ((level (currentPiece r) ≡ s .levels → r .grip ≡ 0) × (level (currentPiece r) ≢ s .levels → r .grip ≡ 2))
+  unfolding lacksGrip
+  climbing a b =
+      by-eq (r .phase) 3 (λ e. climbing-grip (same (r .grip) _ (lacks _ (at-climb (r .phase) e)))) (λ d.
+      by-eq (r .phase) 4 (λ e. climbing-grip (same (r .grip) _ (lacks _ (at-blocked (r .phase) e)))) (λ f.
+      climbing-grip (same (r .grip) _ (lacks _ (at-claim (r .phase) (omega arith))))))
+
+  leaf-returning : r .phase ≡ 10 → level (currentPiece r) ≡ s .levels → (r .grip ≡ 0) ⊎ (r .grip ≡ 3)
+  unfolding lacksGrip isLeaf
+  leaf-returning e f =
+      let both : (differ (r .grip) 0 && differ (r .grip) 3) ≡ false = sym (choose-eq (level (currentPiece r)) (s .levels) _ (ltb 3 (r .grip)) f) ∙ lacks _ (at-returning (r .phase) e) in
+      by-eq (r .grip) 0 inl (λ d. inr (same (r .grip) 3 (and-second (differ (r .grip) 0) _ (ap not (ne-eqb (r .grip) 0 d)) both)))
+
+  most-returning : r .phase ≡ 10 → r .grip ≤ 3
+  unfolding lacksGrip isLeaf
+  most-returning e =
+      by-eq (level (currentPiece r)) (s .levels)
+      (λ f. ⊎-elim (λ z. omega arith) (λ z. omega arith) (leaf-returning e f))
+      (λ d. ltb-false 3 (r .grip) (sym (choose-ne (level (currentPiece r)) (s .levels) _ (ltb 3 (r .grip)) d) ∙ lacks _ (at-returning (r .phase) e)))
+
+  notice-tests : ((nonzero (r .notices) && ltb (r .grip) 3) ≡ false) × ((eqb (r .phase) 6 && differ (r .notices) (r .place)) ≡ false)
+  unfolding noticesWrong
+  notice-tests =
+      let both = both-false _ (eqb (r .phase) 6 && differ (r .notices) (r .place)) (k .notices) in
+      (both-false (ltb (length (notifyList (s .distance) (currentPiece r))) (r .notices)) (nonzero (r .notices) && ltb (r .grip) 3) (both .0) .1, both .1)
+
+  giving-test : choose (eqb (r .phase) 10) (eqb (gripOf r (r .giving)) 0) (nonzero (r .giving)) ≡ false
+  unfolding givingWrong
+  giving-test = both-false (ltb (r .current) (r .giving)) _ (k .giving) .1
+
+  pub ready-passed : Active s last r → Ready s last r
+  unfolding phaseElsewhere lacksGrip
+  ready-passed a = record {
+    active = a;
+    grip-ticket = λ e. same (r .grip) 0 (lacks _ (at-ticket (r .phase) e));
+    grip-turn = λ e. same (r .grip) 1 (lacks _ (at-turn (r .phase) e));
+    grip-leaf = λ x y f. climbing x y .0 f;
+    grip-inner = λ x y d. climbing x y .1 d;
+    grip-most = most-returning;
+    grip-leaf-returning = leaf-returning;
+    inner = λ o. not-leaf (⊎-elim (λ e. elsewhere _ (at-ticket (r .phase) e)) (λ o. ⊎-elim (λ e. elsewhere _ (at-turn (r .phase) e))
+        (λ o. ⊎-elim (λ e. elsewhere _ (at-wait (r .phase) e)) (λ e. elsewhere _ (at-check (r .phase) e)) o) o) o);
+    below = λ o. eqb-false (currentPiece r) 1 (⊎-elim (λ e. elsewhere _ (at-climb (r .phase) e)) (λ o. ⊎-elim (λ e. elsewhere _ (at-blocked (r .phase) e))
+        (λ e. elsewhere _ (at-notify (r .phase) e)) o) o);
+    no-notices = λ b. by-lt 0 (r .notices)
+        (λ l. absurd (omega (arith, ltb-false (r .grip) 3 (and-second (nonzero (r .notices)) (ltb (r .grip) 3) (lt-ltb 0 (r .notices) l) (notice-tests .0)))))
+        (λ l. omega arith);
+    notices-place = λ e. same (r .notices) (r .place) (and-second (eqb (r .phase) 6) _ (eq-eqb (r .phase) 6 e) (notice-tests .1));
+    no-giving = λ d. omega (arith, ltb-false 0 (r .giving) (sym (choose-ne (r .phase) 10 (eqb (gripOf r (r .giving)) 0) _ d) ∙ giving-test));
+    giving-gripped = λ e. eqb-false (gripOf r (r .giving)) 0 (sym (choose-eq (r .phase) 10 _ (nonzero (r .giving)) e) ∙ giving-test);
+  }
+
+pub ready : (s : Settings) (last : ℕ) (r : Record) → Settled s → unreadable s last r ≡ false → r .phase ≢ 0 → Ready s last r
+ready s last r v u d = ready-passed s last r (passed s last r u d) (active s last r v u d)

@@ -1,0 +1,122 @@
+-- To be believed: document 01, section "Refused calls" and the last paragraph of "Phases": the tests of each call in their order, and what an accepted call
+-- makes of the record, the words and the clock. First the calls by value, on one record, then the same over the table. Assumes nothing.
+use mathlib.Core.Bool.{Bool, not, _||_}
+use mathlib.Core.List.{List, [], _∷_, _++_}
+use Prim.Native.Nat.{ℕ}
+use lib.Dec.{eqb, leb, ltb}
+use lib.ListN.{length, getD, set}
+use Rattle.base.specs.Choice.{choose}
+use Rattle.tree.specs.Tree.{wordCount}
+use Rattle.cover.specs.Search.{leastCover}
+use Rattle.cover.specs.Answer.{levelsOutside, windowOutside}
+use Rattle.lock.specs.declared.Record.{Record}
+use Rattle.lock.specs.declared.Settings.{Settings}
+use Rattle.lock.specs.declared.Stepped.{Stepped}
+use Rattle.lock.specs.rules.Types.{gripOf, wordAt, written, toPhase, withOutcome, idleWith}
+use Rattle.lock.specs.rules.Readable.{differ, unreadable}
+use Rattle.lock.specs.rules.Steps.{touched, moved, startPhase}
+
+-- ---- "Refused calls, in order of testing": the number of the first test that is true, 0 if none is
+
+abbrev pub Tests : Type 0
+Tests = List (Bool × ℕ)
+
+unfoldable pub firstCause : Tests → ℕ
+firstCause [] = 0
+firstCause (test ∷ tests) = choose (test .0) (test .1) (firstCause tests)
+
+-- "H, m or T outside its range": "m (1..4)", "T (1..2^32 - 1)"
+unfoldable pub settingsOutside : Settings → Bool
+settingsOutside s = levelsOutside (s .levels) || ltb (s .distance) 1 || ltb 4 (s .distance) || ltb (s .wait) 1 || ltb 4294967295 (s .wait)
+
+-- 1 and 2, "word count not the tree's"
+unfoldable pub treeTests : Settings → ℕ → Tests
+treeTests s count = (settingsOutside s, 1) ∷ (differ count (wordCount (s .levels)), 2) ∷ []
+
+-- 3, "no clients, or over 32,767", and 4, "client not below the table's count"
+unfoldable pub clientsOutside : List Record → Bool
+clientsOutside records = eqb (length records) 0 || ltb 32767 (length records)
+
+unfoldable pub clientTests : List Record → ℕ → Tests
+clientTests records client = (clientsOutside records, 3) ∷ (leb (length records) client, 4) ∷ []
+
+-- request: 6, 7, 8
+unfoldable pub requestTests : Settings → ℕ → Record → ℕ → ℕ → Tests
+requestTests s last r a b = (unreadable s last r, 6) ∷ (windowOutside (s .levels) a b, 7) ∷ (differ (r .phase) 0, 8) ∷ []
+
+-- step: 5, 6, 9; "Only a step tests 5 and 9"
+unfoldable pub stepTests : Settings → ℕ → Record → List ℕ → ℕ → Tests
+stepTests s last r words clock =
+    (ltb clock last, 5) ∷ (unreadable s last r, 6) ∷ (differ (moved s r (wordAt words (touched s r)) clock .number) 0, 9) ∷ []
+
+-- release: 6, 8, "release when not held"
+unfoldable pub releaseTests : Settings → ℕ → Record → Tests
+releaseTests s last r = (unreadable s last r, 6) ∷ (differ (r .phase) 9, 8) ∷ []
+
+-- cancel: 6, 8, "cancel in 0, 9 or 10"
+unfoldable pub cancelTests : Settings → ℕ → Record → Tests
+cancelTests s last r = (unreadable s last r, 6) ∷ (eqb (r .phase) 0 || eqb (r .phase) 9 || eqb (r .phase) 10, 8) ∷ []
+
+-- ---- what an accepted call makes of the record
+
+-- "A request sets window and pieces, zeroes the rest, and sets phase 1 for an inner first piece and 3 for a leaf."
+abbrev pub windowed : (phase left right first second : ℕ) → Record
+windowed phase left right first second = record {
+  phase = phase;
+  outcome = 0;
+  left = left;
+  right = right;
+  first = first;
+  second = second;
+  current = 0;
+  giving = 0;
+  grip = 0;
+  ticket = 0;
+  place = 0;
+  notices = 0;
+  t1 = 0;
+  t0 = 0;
+}
+
+unfoldable pub requested : Settings → ℕ → ℕ → Record
+requested s a b =
+    windowed (startPhase s (getD (leastCover 2 (s .levels) a b) 0 0)) a b (getD (leastCover 2 (s .levels) a b) 0 0) (getD (leastCover 2 (s .levels) a b) 1 0)
+
+-- "Release (from 9) and cancel (from 1..8) touch no word and set outcome 1 or 3 and phase 10; a cancel with nothing to give back makes the record
+-- idle with outcome 3."
+unfoldable pub released : Record → Record
+released r = toPhase 10 (withOutcome 1 r)
+
+unfoldable pub cancelled : Record → Record
+cancelled r = choose (eqb (gripOf r 0) 0) (idleWith 3) (toPhase 10 (withOutcome 3 r))
+
+-- ---- a call by value: number, clock and record after it, and the words
+
+-- "As it was": a refused call gives its number, and the record and the clock as they were
+unfoldable pub answered : ℕ → ℕ → Record → ℕ → Record → Stepped
+answered number last r clock next =
+    choose (eqb number 0) (record { number = 0; clock = clock; next = next }) (record { number = number; clock = last; next = r })
+
+unfoldable pub requestNumber : Settings → ℕ → Record → List ℕ → ℕ → ℕ → ℕ
+requestNumber s last r words a b = firstCause (treeTests s (length words) ++ requestTests s last r a b)
+
+unfoldable pub requestAnswer : Settings → ℕ → Record → List ℕ → ℕ → ℕ → Stepped
+requestAnswer s last r words a b = answered (requestNumber s last r words a b) last r last (requested s a b)
+
+unfoldable pub releaseAnswer : Settings → ℕ → Record → List ℕ → Stepped
+releaseAnswer s last r words = answered (firstCause (treeTests s (length words) ++ releaseTests s last r)) last r last (released r)
+
+unfoldable pub cancelAnswer : Settings → ℕ → Record → List ℕ → Stepped
+cancelAnswer s last r words = answered (firstCause (treeTests s (length words) ++ cancelTests s last r)) last r last (cancelled r)
+
+unfoldable pub stepNumber : Settings → ℕ → Record → List ℕ → ℕ → ℕ
+stepNumber s last r words clock = firstCause (treeTests s (length words) ++ stepTests s last r words clock)
+
+-- "An accepted step sets the last clock."
+unfoldable pub stepAnswer : Settings → ℕ → Record → List ℕ → ℕ → Stepped
+stepAnswer s last r words clock =
+    answered (stepNumber s last r words clock) last r clock (moved s r (wordAt words (touched s r)) clock .next)
+
+unfoldable pub stepWords : Settings → ℕ → Record → List ℕ → ℕ → List ℕ
+stepWords s last r words clock =
+    choose (eqb (stepNumber s last r words clock) 0) (written words (touched s r) (moved s r (wordAt words (touched s r)) clock .word)) words

@@ -1,0 +1,129 @@
+-- To be believed: document 01, section "Histories": what a history is, and from it alone when a client holds, when it is idle, and what demand 3 claims.
+-- Assumes nothing.
+use mathlib.Core.Path.{_≡_}
+use mathlib.Core.Logic.{_⊎_}
+use mathlib.Core.List.{List, [], _∷_, _++_}
+use Prim.Native.Nat.{ℕ, _≤_, _<_}
+use lib.ListN.{length}
+use Rattle.word.specs.Word.{exp, occ, tcnt, tmax, dcnt, dmax}
+use Rattle.tree.specs.Tree.{level, Node}
+use Rattle.lock.specs.declared.Settings.{Settings}
+use Rattle.lock.specs.rules.Types.{wordAt}
+use Rattle.lock.specs.rules.Table.{State, Call, request, step, release, cancel, clientOf, recordAt, call}
+
+-- ---- "A history is a list of calls"
+
+-- "Every call in it is made with that opening's H, m and T, on the words, records and last clock that the call before left"
+unfoldable pub run : Settings → State → List Call → State
+run s st [] = st
+run s st (k ∷ ks) = run s (call s st k .state) ks
+
+-- what is seen of a call: the call, its number (0 accepted), and the phase in which it gave its client's record back
+pub record Event : Type 0 where
+  pub made : Call
+  pub number : ℕ
+  pub phase : ℕ
+
+abbrev pub event : Settings → State → Call → Event
+event s st k = record { made = k; number = call s st k .number; phase = recordAt (call s st k .state) (clientOf k) .phase }
+
+unfoldable pub events : Settings → State → List Call → List Event
+events s st [] = []
+events s st (k ∷ ks) = event s st k ∷ events s (call s st k .state) ks
+
+-- some event of the list has P
+unfoldable pub Some : (Event → Type 0) → List Event → Type 0
+Some P [] = ⊥
+Some P (e ∷ es) = P e ⊎ Some P es
+
+-- ---- the calls of the client c, those that were accepted, and those that gave its record back in phase p
+
+abbrev pub CallOf : ℕ → Call → Type 0
+CallOf c k = clientOf k ≡ c
+
+unfoldable pub RequestOf : ℕ → Call → Type 0
+RequestOf c (request d l r) = d ≡ c
+RequestOf c (step d t) = ⊥
+RequestOf c (release d) = ⊥
+RequestOf c (cancel d) = ⊥
+
+unfoldable pub StepOf : ℕ → Call → Type 0
+StepOf c (request d l r) = ⊥
+StepOf c (step d t) = d ≡ c
+StepOf c (release d) = ⊥
+StepOf c (cancel d) = ⊥
+
+unfoldable pub ReleaseOf : ℕ → Call → Type 0
+ReleaseOf c (request d l r) = ⊥
+ReleaseOf c (step d t) = ⊥
+ReleaseOf c (release d) = d ≡ c
+ReleaseOf c (cancel d) = ⊥
+
+abbrev pub Accepted : (Call → Type 0) → Event → Type 0
+Accepted K e = (e .number ≡ 0) × K (e .made)
+
+abbrev pub GaveBackIn : ℕ → (Call → Type 0) → Event → Type 0
+GaveBackIn p K e = Accepted K e × (e .phase ≡ p)
+
+-- [l, r) are "the edges of its last accepted request", and `since` is what came after that request
+pub record LastRequest (h : List Event) (c l r : ℕ) (since : List Event) : Type 0 where
+  pub before : List Event
+  pub asked : Event
+  pub whole : before ++ (asked ∷ since) ≡ h
+  pub accepted : asked .number ≡ 0
+  pub edges : asked .made ≡ request c l r
+  pub last : Some (Accepted (RequestOf c)) since → ⊥
+
+-- ---- "After a history a client holds [l, r) if these are the edges of its last accepted request, an accepted step of it since then gave its record back in
+-- phase 9, and no release of it has been accepted since that request."
+
+pub record Holds (h : List Event) (c l r : ℕ) : Type 0 where
+  pub since : List Event
+  pub asked : LastRequest h c l r since
+  pub taken : Some (GaveBackIn 9 (StepOf c)) since
+  pub kept : Some (Accepted (ReleaseOf c)) since → ⊥
+
+-- ---- "It is idle if no request of it was accepted, or an accepted call of it since the last such request gave its record back in phase 0."
+
+pub record GivenBack (h : List Event) (c : ℕ) : Type 0 where
+  pub left : ℕ
+  pub right : ℕ
+  pub since : List Event
+  pub asked : LastRequest h c left right since
+  pub returned : Some (GaveBackIn 0 (CallOf c)) since
+
+abbrev pub Idle : List Event → ℕ → Type 0
+Idle h c = (Some (Accepted (RequestOf c)) h → ⊥) ⊎ GivenBack h c
+
+-- ---- "Two windows overlap if some unit u has l ≤ u < r in both."
+
+pub record Overlap (l r k q : ℕ) : Type 0 where
+  pub unit : ℕ
+  pub low : l ≤ unit
+  pub high : unit < r
+  pub other-low : k ≤ unit
+  pub other-high : unit < q
+
+-- ---- "Of an inner word the flags are Exp and Occ, the ticket counts TCnt and TMax, the notice counts DCnt and DMax."
+
+pub record CleanInner (w : ℕ) : Type 0 where
+  pub exp-clear : exp w ≡ 0
+  pub occ-clear : occ w ≡ 0
+  pub tickets : tcnt w ≡ tmax w
+  pub notices : dcnt w ≡ dmax w
+
+-- "every leaf word is 0, and each inner word has both its flags at 0, its two ticket counts equal and its two notice counts equal"
+pub record Clean (s : Settings) (words : List ℕ) : Type 0 where
+  pub leaf : (n : ℕ) → Node (s .levels) n → level n ≡ s .levels → wordAt words n ≡ 0
+  pub inner : (n : ℕ) → Node (s .levels) n → level n < s .levels → CleanInner (wordAt words n)
+
+-- ---- "Demand 3 is one claim about the whole history"
+
+-- "no two different clients hold windows that overlap"
+abbrev pub SingleHolding : List Event → Type 0
+SingleHolding h = (c d l r k q : ℕ) → (c ≡ d → ⊥) → Holds h c l r → Holds h d k q → Overlap l r k q → ⊥
+
+-- st is what "an accepted opening left". All clients are those below the table's count: of any other every call is refused by 4.
+abbrev pub Demand3 : Settings → State → List Call → Type 0
+Demand3 s st ks =
+    SingleHolding (events s st ks) × (((c : ℕ) → c < length (st .records) → Idle (events s st ks) c) → Clean s (run s st ks .words))
