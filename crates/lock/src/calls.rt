@@ -1,13 +1,12 @@
 // The calls by value: from the record, the lent tree, the settings and the call to the number, the clock and the next record.
 ghost use mathlib.Core.Path.{_≡_};
-ghost use mathlib.Core.List.{List};
+ghost use mathlib.Core.List.{List, [], _∷_, _++_};
 ghost use Prim.Native.Nat.{ℕ, _≤_, _<_};
-ghost use mathlib.Core.Bool.{_||_};
-ghost use lib.Dec.{eqb};
 ghost use lib.ListN.{length, getD};
 ghost use Rattle.lock.specs.declared.Stepped.{Stepped};
 ghost use Rattle.lock.specs.rules.Types.{wordAt, written, toPhase, withOutcome};
-ghost use Rattle.lock.specs.rules.Calls.{requested, cancelled, requestAnswer, releaseAnswer, cancelAnswer, stepAnswer, stepWords};
+ghost use Rattle.lock.specs.rules.Readable.{unreadable};
+ghost use Rattle.lock.specs.rules.Calls.{firstCause, treeTests, requested, cancelled, requestAnswer, releaseAnswer, cancelAnswer, stepAnswer, stepWords};
 ghost use Rattle.lock.specs.laws.CallLaws.{TreeTested};
 ghost use Rattle.lock.specs.laws.Active.{Settled};
 ghost use Rattle.cover.specs.Lowest.{Window};
@@ -155,20 +154,31 @@ impl Record {
         self
     }
 
+    // Causes 1, 2 and 6, and 8 where the phase is wrong for the call.
+    fn own_cause(self, settings: Settings, count: u64, last: u64, wrong: bool) -> u64
+        ensures { λ n. ⌜ n ≡ firstCause (treeTests settings count ++ ((unreadable settings last self, 6) ∷ (wrong, 8) ∷ [])) ⌝ }
+    {
+        let cause = settings.tree_cause(count);
+        if cause != 0 {
+            return cause;
+        }
+        if self.unreadable(settings, last) {
+            return 6;
+        }
+        if wrong {
+            return 8;
+        }
+        0
+    }
+
     // Tests 1, 2, 6, 8. "Release (from 9)": outcome 1 and phase 10.
     pub fn release(self, words: &mut [u64], settings: Settings, call: Call) -> Stepped
         ensures answer { λ s. ⌜ s ≡ releaseAnswer settings (call .last) self (now (words .entry)) ⌝ }
         ensures words { λ s. ⌜ now (words .exit) ≡ now (words .entry) ⌝ }
     {
-        let cause = settings.tree_cause(words.len() as u64);
-        if cause != 0 {
-            return self.refused(cause, call.last);
-        }
-        if self.unreadable(settings, call.last) {
-            return self.refused(6, call.last);
-        }
-        if self.phase != 9 {
-            return self.refused(8, call.last);
+        let number = self.own_cause(settings, words.len() as u64, call.last, self.phase != 9);
+        if number != 0 {
+            return self.refused(number, call.last);
         }
         let next = self.sent_back(1);
         Stepped {
@@ -188,27 +198,15 @@ impl Record {
         self.sent_back(3)
     }
 
-    // "cancel in 0, 9 or 10"
-    fn not_cancellable(self) -> bool
-        ensures { λ b. ⌜ b ≡ (eqb (self .phase) 0 || eqb (self .phase) 9 || eqb (self .phase) 10) ⌝ }
-    {
-        (self.phase == 0) | (self.phase == 9) | (self.phase == 10)
-    }
-
-    // Tests 1, 2, 6, 8.
+    // Tests 1, 2, 6, 8: "cancel in 0, 9 or 10".
     pub fn cancel(self, words: &mut [u64], settings: Settings, call: Call) -> Stepped
         ensures answer { λ s. ⌜ s ≡ cancelAnswer settings (call .last) self (now (words .entry)) ⌝ }
         ensures words { λ s. ⌜ now (words .exit) ≡ now (words .entry) ⌝ }
     {
-        let cause = settings.tree_cause(words.len() as u64);
-        if cause != 0 {
-            return self.refused(cause, call.last);
-        }
-        if self.unreadable(settings, call.last) {
-            return self.refused(6, call.last);
-        }
-        if self.not_cancellable() {
-            return self.refused(8, call.last);
+        let wrong = (self.phase == 0) | (self.phase == 9) | (self.phase == 10);
+        let number = self.own_cause(settings, words.len() as u64, call.last, wrong);
+        if number != 0 {
+            return self.refused(number, call.last);
         }
         let next = self.cancelled();
         Stepped {

@@ -1,125 +1,35 @@
 -- `lock::Record::cancel` meets its contract. Assumes nothing.
 use mathlib.Core.Path.{refl, sym, ap, _∙_}
-use mathlib.Core.Bool.{_||_}
-use mathlib.Core.List.{[]}
-use native.Mathlib.Omega.{arith}
-use borrow.Author.Needs.{needs}
-use lib.Dec.{eqb}
-use lib.ListN.{length}
-use Rattle.tree.specs.Tree.{last}
 use Rattle.lock.specs.declared.Record.{Record}
-use Rattle.lock.specs.rules.Readable.{unreadable}
-use Rattle.lock.specs.rules.Calls.{cancelled, firstCause, cancelTests, cancelAnswer}
-use Rattle.lock.specs.laws.CallLaws.{cause-hit, cause-skip, answer-accepted, refused-by, own-unreadable, own-rest}
-use Rattle.lock.specs.laws.ActiveLaws.{settled}
+use Rattle.lock.specs.rules.Calls.{cancelTests, cancelAnswer}
+use Rattle.lock.specs.laws.CallLaws.{answer-accepted, refused-by}
 use borrow.Author.Needs.{needs}
 use Rattle.lock.proofs.Record.cancel.Statement.{statement}
 use Rattle.lock.proofs.Record.cancel.Tie as tie
 
-tree-cause-requires : tie.Need-tree-cause-requires
-tree-cause-requires c κs = search needs
+own-cause-requires : tie.Need-own-cause-requires
+own-cause-requires c κs = search needs
 
 refused-requires : tie.Need-refused-requires
 refused-requires c κs = search needs
 
 returns : tie.Need-returns
-unfolding cancelAnswer
+unfolding cancelAnswer cancelTests
 returns c =
-    let a = c .before .before .before .before .args in
-    let ws = a .words .now in
-    let s = a .settings in
-    let r = a .self in
-    let t = c .before .before .tree-cause .ensures in
-    (c .refused .ensures ∙ refused-by _ (c .before .before .tree-cause .result) (a .call .last) (a .call .last) r _ (t .refused (c .before .if1 .taken) _) (c .before .if1 .taken), refl)
-
-unreadable-requires : tie.Need-unreadable-requires
-unreadable-requires c κs =
-    let a = c .before .before .before .args in
-    let ws = a .words .now in
-    let s = a .settings in
-    let r = a .self in
-    let t = c .before .tree-cause .ensures in
-    let z = c .if1 .left in
-    let o = t .settings z in
-    let n = t .count-right z in
-    let v = settled s o in
-    v
-
-refused-requires-2 : tie.Need-refused-requires-2
-refused-requires-2 c κs = search needs
-
-returns-2 : tie.Need-returns-2
-unfolding cancelAnswer cancelTests
-returns-2 c =
-    let a = c .before .before .before .before .before .before .args in
-    let ws = a .words .now in
-    let s = a .settings in
-    let r = a .self in
-    let t = c .before .before .before .before .tree-cause .ensures in
-    let z = c .before .before .before .if1 .left in
-    let o = t .settings z in
-    let n = t .count-right z in
-    let v = settled s o in
-    (c .refused2 .ensures ∙ refused-by _ 6 (a .call .last) (a .call .last) r _ (own-unreadable s (a .call .last) r (length ws) o n _ (sym (c .before .before .unreadable .ensures) ∙ c .before .if2 .taken)) (λ e. omega arith), refl)
-
-not-cancellable-requires : tie.Need-not-cancellable-requires
-not-cancellable-requires c κs = search needs
-
-refused-requires-3 : tie.Need-refused-requires-3
-refused-requires-3 c κs = search needs
-
-returns-3 : tie.Need-returns-3
-unfolding cancelAnswer cancelTests
-returns-3 c =
-    let a = c .before .before .before .before .before .before .before .before .args in
-    let ws = a .words .now in
-    let s = a .settings in
-    let r = a .self in
-    let t = c .before .before .before .before .before .before .tree-cause .ensures in
-    let z = c .before .before .before .before .before .if1 .left in
-    let o = t .settings z in
-    let n = t .count-right z in
-    let v = settled s o in
-    let u = sym (c .before .before .before .before .unreadable .ensures) ∙ c .before .before .before .if2 .left in (
-      c .refused3 .ensures ∙ refused-by _ 8 (a .call .last) (a .call .last) r _ (own-rest s (a .call .last) r (length ws) o n _ u
-          ∙ cause-hit (eqb (r .phase) 0 || eqb (r .phase) 9 || eqb (r .phase) 10) 8 [] (sym (c .before .before .not-cancellable .ensures) ∙ c .before .if3 .taken)) (λ e. omega arith),
-      refl,
-    )
+    let a = c .before .before .before .before .before .before .before .args in
+    (c .refused .ensures ∙ refused-by _ (c .before .before .own-cause .result) (a .call .last) (a .call .last) (a .self) _ (sym (c .before .before .own-cause .ensures)) (c .before .if1 .taken), refl)
 
 cancelled-requires : tie.Need-cancelled-requires
 cancelled-requires c κs = search needs
 
-returns-4 : tie.Need-returns-4
-unfolding cancelAnswer cancelTests firstCause
-returns-4 c =
-    let a = c .before .before .before .before .before .before .before .before .args in
-    let ws = a .words .now in
-    let s = a .settings in
-    let r = a .self in
-    let t = c .before .before .before .before .before .before .tree-cause .ensures in
-    let z = c .before .before .before .before .before .if1 .left in
-    let o = t .settings z in
-    let n = t .count-right z in
-    let v = settled s o in
-    let u = sym (c .before .before .before .before .unreadable .ensures) ∙ c .before .before .before .if2 .left in (
+returns-2 : tie.Need-returns-2
+unfolding cancelAnswer cancelTests
+returns-2 c =
+    let a = c .before .before .before .before .before .before .before .args in (
       ap (λ (y : Record). record { number = 0; clock = a .call .last; next = y }) (c .cancelled .ensures)
-          ∙ sym (answer-accepted _ (a .call .last) (a .call .last) r _ (own-rest s (a .call .last) r (length ws) o n _ u
-          ∙ cause-skip (eqb (r .phase) 0 || eqb (r .phase) 9 || eqb (r .phase) 10) 8 [] (sym (c .before .before .not-cancellable .ensures) ∙ c .before .if3 .left))),
+          ∙ sym (answer-accepted _ (a .call .last) (a .call .last) (a .self) _ (sym (c .before .before .own-cause .ensures) ∙ c .before .if1 .left)),
       refl,
     )
 
 pub cancel-spec : {M : Type 1} → statement M
-cancel-spec =
-    tie.close
-    (tie.spec
-    tree-cause-requires
-    refused-requires
-    returns
-    unreadable-requires
-    refused-requires-2
-    returns-2
-    not-cancellable-requires
-    refused-requires-3
-    returns-3
-    cancelled-requires
-    returns-4)
+cancel-spec = tie.close (tie.spec own-cause-requires refused-requires returns cancelled-requires returns-2)
