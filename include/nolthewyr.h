@@ -1,8 +1,8 @@
 /* The calls of the static library `table`, which `rt staticlib table` builds. docs/LINKING.md says how to use them.
  *
  * The proof of these functions assumes what Rust's references give. From C it is the caller's duty:
- * - each length is true: `records` has `clients` elements, `words` has `count`, `calls` has `numbers`, all at aligned addresses;
- * - no two of these arrays overlap;
+ * - each length is true: `records` has `clients` elements and `words` has `count`, both at aligned addresses;
+ * - the two arrays do not overlap;
  * - while a call runs nobody else reads or writes them, and between the calls of one table nobody else writes them.
  * All else is tested: a call with any other numbers in its arguments or in the arrays is accepted or refused by a number. */
 
@@ -72,10 +72,6 @@ Answer table_release(Record *records, size_t clients, uint64_t *words, size_t co
 
 /* Gives up a window that is not yet held: the client gives back by steps what it has, if anything, and is idle with outcome 3. */
 Answer table_cancel(Record *records, size_t clients, uint64_t *words, size_t count, Settings settings, Call call);
-
-/* Opens the table and, if that is accepted, makes the listed calls from clock 0, each on what the one before left. A call is four
- * numbers: kind (0 request, 1 step, 2 release, else cancel), client, a and b. The answer has the opening's number and the last clock. */
-Answer table_run(Record *records, size_t clients, uint64_t *words, size_t count, Settings settings, const uint64_t *calls, size_t numbers);
 
 #ifdef __cplusplus
 }

@@ -53,7 +53,6 @@ extern "C" {
     fn table_step(records: *mut Record, clients: usize, words: *mut u64, count: usize, settings: Settings, call: Call) -> Answer;
     fn table_release(records: *mut Record, clients: usize, words: *mut u64, count: usize, settings: Settings, call: Call) -> Answer;
     fn table_cancel(records: *mut Record, clients: usize, words: *mut u64, count: usize, settings: Settings, call: Call) -> Answer;
-    fn table_run(records: *mut Record, clients: usize, words: *mut u64, count: usize, settings: Settings, calls: *const u64, numbers: usize) -> Answer;
 }
 
 pub fn open(records: &mut [Record], words: &mut [u64], settings: Settings) -> u64 {
@@ -74,10 +73,4 @@ pub fn release(records: &mut [Record], words: &mut [u64], settings: Settings, ca
 
 pub fn cancel(records: &mut [Record], words: &mut [u64], settings: Settings, call: Call) -> Answer {
     unsafe { table_cancel(records.as_mut_ptr(), records.len(), words.as_mut_ptr(), words.len(), settings, call) }
-}
-
-/// The calls are four numbers each: kind, client, a and b.
-pub fn run(records: &mut [Record], words: &mut [u64], settings: Settings, calls: &[u64]) -> Answer {
-    let (listed, numbers) = (calls.as_ptr(), calls.len());
-    unsafe { table_run(records.as_mut_ptr(), records.len(), words.as_mut_ptr(), words.len(), settings, listed, numbers) }
 }

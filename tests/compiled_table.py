@@ -47,7 +47,6 @@ def load(library):
         call = getattr(found, f"table_{name}")
         call.argtypes, call.restype = (*LENT, CCall), CAnswer
     found.table_open.argtypes, found.table_open.restype = LENT, c_uint64
-    found.table_run.argtypes, found.table_run.restype = (*LENT, POINTER(c_uint64), c_size_t), CAnswer
     return found
 
 
@@ -74,12 +73,6 @@ class Table:
 
     def open(self):
         return Library.function("open")(*self.lent)
-
-    def run(self, calls):
-        """Opens the table and runs the list, four numbers to a call."""
-        flat = [number for call in calls for number in (KINDS.index(call.kind), call.client, call.a, call.b)]
-        answer = Library.function("run")(*self.lent, (c_uint64 * len(flat))(*flat), len(flat))
-        return Answer(answer.number, answer.clock)
 
     def answer(self, call, last, name=None):
         """Makes one call, by its own function or by the one that `name` says."""

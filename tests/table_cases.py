@@ -19,7 +19,6 @@ UNLIKE = ("number", "clock", "records unlike", "words unlike")
 NAMES["compiled opening"] = ("levels", "words", "clients"), ("number", "records unlike", "words unlike")
 NAMES["compiled call"] = ("seed", "call", "by kind"), UNLIKE
 NAMES["compiled refusal"] = ("kind", "causes taken away", "by kind"), UNLIKE
-NAMES["compiled run"] = SHAPE, UNLIKE
 NAMES["compiled history"] = SHAPE, ("overlaps", "words left", "refused by 6", "refused by 9")
 NAMES["compiled occurs"] = ("place in the list of what must occur",), ("occurs",)
 
@@ -89,27 +88,6 @@ def single_calls():
             lock.make(call)
 
 
-def runs():
-    """A whole history in one call of `table_run` leaves what the model's calls leave, also where the opening is refused
-    and nothing is left to be done."""
-    for seed in range(150):
-        rng = Random(f"run {seed}")
-        shape = Shape(Settings(rng.choice([1, 2, 2, 3, 4]), rng.choice([1, 2, 3, 4, 4]), rng.choice([0, 1, 4, 9, 20])), rng.choice([0, 1, 2, 3, 5]), rng.choice([0, 1, 300]))
-        words, records = [rng.getrandbits(64) for _ in range(tree.node_count(max(shape.settings.levels, 2)))], [FILLED] * shape.clients
-        compiled = Table(shape.settings, words, records)
-        expected = table.opening(shape.settings, words, records, 0)
-        calls = []
-        if expected.number == 0:
-            lock = Opened(shape.settings, words, records)
-            driver = Driver(lock, seed)
-            for _ in range(shape.calls):
-                calls.append(driver.next_call())
-                lock.make(calls[-1])
-            expected = table.Answer(0, lock.clock)
-        answer = compiled.run(calls)
-        yield case("compiled run", [*shape.settings, shape.clients, shape.calls, seed], (*expected, 0, 0)), (*answer, *compiled.unlike(words, records))
-
-
 def shapes():
     """Small trees with few clients, a higher one, and as many clients as windows to fight for."""
     for h, m, clients in [(h, m, clients) for h in (2, 3, 4) for m in (1, 2, 3, 4) for clients in (2, 3, 5, 8)]:
@@ -164,7 +142,6 @@ SUITES = {
     "compiled table, 32,767 clients open, 32,768 are refused 3": openings,
     "compiled table, refused in order of testing": refusals_in_order,
     "compiled table, calls on lent records and words, damaged ones too": single_calls,
-    "compiled table, a list of calls in one run": runs,
     "compiled table, demand 3 after every call of a history": demand_3,
     "compiled table, every phase, outcome and refusal occurs in a million calls": what_occurs,
 }

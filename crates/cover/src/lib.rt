@@ -1,11 +1,11 @@
 // The cover of a window: the one or two nodes that hold all of it with the least over-cover, in a fixed number of steps.
 ghost use mathlib.Core.Path.{_≡_};
 ghost use Prim.Native.Nat.{_<_};
-ghost use Rattle.cover.specs.Answer.{refused, accepted, answer};
-ghost use Rattle.cover.specs.Search.{leastCover};
-ghost use Rattle.cover.specs.Rise.{rise};
-ghost use Rattle.cover.specs.Lowest.{Window};
-ghost use Rattle.cover.specs.Code.{lowestPiece, one, pair};
+ghost use Rattle.cover.specs.rules.Answer.{refused, accepted, answer};
+ghost use Rattle.cover.specs.rules.Search.{leastCover};
+ghost use Rattle.cover.specs.laws.Rise.{rise};
+ghost use Rattle.cover.specs.laws.Lowest.{Window};
+ghost use Rattle.cover.specs.laws.Code.{lowestPiece, one, pair};
 
 // number 0: the pieces (second 0 for none) and their total over-cover; else the cause of a refusal, and zeros.
 #[repr(C)]

@@ -1,18 +1,19 @@
 pub mod AfterCall
 pub mod Backward
-pub mod Bits
 pub mod Changes
 pub mod Checking
 pub mod Claiming
 pub mod Climbing
 pub mod Demand3
 pub mod Effect
-pub mod Fine
 pub mod Fit
 pub mod Forward
+pub mod HistoryRecord
+pub mod InnerWords
 pub mod Invariant
 pub mod Keeping
-pub mod Kept
+pub mod Keeps
+pub mod LeafWords
 pub mod Notifying
 pub mod Onward
 pub mod Owned
@@ -22,4 +23,3 @@ pub mod Start
 pub mod Taking
 pub mod Timed
 pub mod Times
-pub mod Told

@@ -1,6 +1,6 @@
 pub mod Calls
 pub mod History
-pub mod Readable
+pub mod Records
 pub mod Steps
 pub mod Table
-pub mod Types
+pub mod Unreadable

@@ -4,13 +4,12 @@ ghost use mathlib.Core.List.{List, [], _∷_, _++_};
 ghost use Prim.Native.Nat.{ℕ, _≤_, _<_};
 ghost use lib.ListN.{length, getD};
 ghost use Rattle.lock.specs.declared.Stepped.{Stepped};
-ghost use Rattle.lock.specs.rules.Types.{wordAt, written, toPhase, withOutcome};
-ghost use Rattle.lock.specs.rules.Readable.{unreadable};
+ghost use Rattle.lock.specs.rules.Records.{wordAt, written, toPhase, withOutcome};
+ghost use Rattle.lock.specs.rules.Unreadable.{unreadable};
 ghost use Rattle.lock.specs.rules.Calls.{firstCause, treeTests, requested, cancelled, requestAnswer, releaseAnswer, cancelAnswer, stepAnswer, stepWords};
-ghost use Rattle.lock.specs.laws.CallLaws.{TreeTested};
 ghost use Rattle.lock.specs.laws.Active.{Settled};
-ghost use Rattle.cover.specs.Lowest.{Window};
-ghost use Rattle.cover.specs.Search.{leastCover};
+ghost use Rattle.cover.specs.laws.Lowest.{Window};
+ghost use Rattle.cover.specs.rules.Search.{leastCover};
 use crate::Call;
 use crate::Record;
 use crate::Settings;
@@ -40,7 +39,7 @@ fn put_word(words: &mut [u64], n: u64, word: u64)
 impl Settings {
     // Causes 1 and 2: settings outside their ranges, or a word count that is not the tree's.
     pub fn tree_cause(self, count: u64) -> u64
-        ensures { λ n. ⌜ TreeTested self count n ⌝ }
+        ensures { λ n. ⌜ n ≡ firstCause (treeTests self count) ⌝ }
     {
         if self.outside() {
             return 1;
@@ -66,8 +65,8 @@ impl Record {
 
     // Tests 1, 2, 5, 6, 9. "An accepted step sets the last clock."
     pub fn step(self, words: &mut [u64], settings: Settings, call: Call) -> Stepped
-        ensures answer { λ s. ⌜ s ≡ stepAnswer settings (call .last) self (now (words .entry)) (call .a) ⌝ }
-        ensures words { λ s. ⌜ now (words .exit) ≡ stepWords settings (call .last) self (now (words .entry)) (call .a) ⌝ }
+        ensures answer { λ s. ⌜ s ≡ stepAnswer settings self (now (words .entry)) (call .last) (call .a) ⌝ }
+        ensures words { λ s. ⌜ now (words .exit) ≡ stepWords settings self (now (words .entry)) (call .last) (call .a) ⌝ }
     {
         let cause = settings.tree_cause(words.len() as u64);
         if cause != 0 {
@@ -119,7 +118,7 @@ impl Record {
 
     // Tests 1, 2, 6, 7, 8. It touches no word.
     pub fn request(self, words: &mut [u64], settings: Settings, call: Call) -> Stepped
-        ensures answer { λ s. ⌜ s ≡ requestAnswer settings (call .last) self (now (words .entry)) (call .a) (call .b) ⌝ }
+        ensures answer { λ s. ⌜ s ≡ requestAnswer settings self (now (words .entry)) (call .last) (call .a) (call .b) ⌝ }
         ensures words { λ s. ⌜ now (words .exit) ≡ now (words .entry) ⌝ }
     {
         let cause = settings.tree_cause(words.len() as u64);
@@ -156,7 +155,7 @@ impl Record {
 
     // Causes 1, 2 and 6, and 8 where the phase is wrong for the call.
     fn own_cause(self, settings: Settings, count: u64, last: u64, wrong: bool) -> u64
-        ensures { λ n. ⌜ n ≡ firstCause (treeTests settings count ++ ((unreadable settings last self, 6) ∷ (wrong, 8) ∷ [])) ⌝ }
+        ensures { λ n. ⌜ n ≡ firstCause (treeTests settings count ++ ((unreadable settings self last, 6) ∷ (wrong, 8) ∷ [])) ⌝ }
     {
         let cause = settings.tree_cause(count);
         if cause != 0 {
@@ -173,7 +172,7 @@ impl Record {
 
     // Tests 1, 2, 6, 8. "Release (from 9)": outcome 1 and phase 10.
     pub fn release(self, words: &mut [u64], settings: Settings, call: Call) -> Stepped
-        ensures answer { λ s. ⌜ s ≡ releaseAnswer settings (call .last) self (now (words .entry)) ⌝ }
+        ensures answer { λ s. ⌜ s ≡ releaseAnswer settings self (now (words .entry)) (call .last) ⌝ }
         ensures words { λ s. ⌜ now (words .exit) ≡ now (words .entry) ⌝ }
     {
         let number = self.own_cause(settings, words.len() as u64, call.last, self.phase != 9);
@@ -200,7 +199,7 @@ impl Record {
 
     // Tests 1, 2, 6, 8: "cancel in 0, 9 or 10".
     pub fn cancel(self, words: &mut [u64], settings: Settings, call: Call) -> Stepped
-        ensures answer { λ s. ⌜ s ≡ cancelAnswer settings (call .last) self (now (words .entry)) ⌝ }
+        ensures answer { λ s. ⌜ s ≡ cancelAnswer settings self (now (words .entry)) (call .last) ⌝ }
         ensures words { λ s. ⌜ now (words .exit) ≡ now (words .entry) ⌝ }
     {
         let wrong = (self.phase == 0) | (self.phase == 9) | (self.phase == 10);

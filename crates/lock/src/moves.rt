@@ -2,7 +2,7 @@
 ghost use mathlib.Core.Path.{_≡_};
 ghost use Prim.Native.Nat.{_≤_, _<_};
 ghost use Rattle.lock.specs.rules.Steps.{touched, touchedIn, moved, claimPiece};
-ghost use Rattle.lock.specs.rules.Types.{returning};
+ghost use Rattle.lock.specs.rules.Records.{returning};
 ghost use Rattle.lock.specs.laws.Active.{Settled};
 ghost use Rattle.lock.specs.laws.Placed.{Placed, Sound};
 use crate::Moved;

@@ -3,8 +3,8 @@ ghost use mathlib.Core.Path.{_≡_};
 ghost use Prim.Native.Nat.{_≤_, _<_};
 ghost use lib.ListN.{length};
 ghost use lib.Dec.{eqb};
-ghost use Rattle.tree.specs.Tree.{Node};
-ghost use Rattle.lock.specs.rules.Types.{pieces, pieceAt, isLeaf, gripOf, noticesOf};
+ghost use Rattle.tree.specs.rules.Tree.{Node};
+ghost use Rattle.lock.specs.rules.Records.{pieces, pieceAt, isLeaf, gripOf, noticesOf};
 use crate::Record;
 use crate::Settings;
 

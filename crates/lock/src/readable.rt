@@ -1,7 +1,7 @@
 // Whether a client record is unreadable: the clauses of document 01's paragraph "Unreadable" in its order; those that go by the phase are in
 // by_phase.rt. What several clauses ask of the current piece, its node, whether it is a leaf and how many notices it gives, is found once and handed on.
 ghost use mathlib.Core.Path.{_≡_};
-ghost use Rattle.lock.specs.rules.Readable.{numberTooLarge, idleFilled, notCovered, timeAhead, givingWrong, fieldsWrong, unreadable};
+ghost use Rattle.lock.specs.rules.Unreadable.{numberTooLarge, idleFilled, notCovered, timeAhead, givingWrong, fieldsWrong, unreadable};
 ghost use Rattle.lock.specs.laws.Active.{Settled};
 ghost use Rattle.lock.specs.laws.ReadableLaws.{Begun};
 use crate::Record;
@@ -45,7 +45,7 @@ impl Record {
 
     // "a noted time after the last clock"
     fn time_ahead(self, last: u64) -> bool
-        ensures { λ b. ⌜ b ≡ timeAhead last self ⌝ }
+        ensures { λ b. ⌜ b ≡ timeAhead self last ⌝ }
     {
         (last < self.t1) | (last < self.t0)
     }
@@ -62,7 +62,7 @@ impl Record {
     // the clauses from the ticket on
     fn fields_wrong(self, settings: Settings, last: u64) -> bool
         requires { ⌜ Begun settings self ⌝ }
-        ensures { λ b. ⌜ b ≡ fieldsWrong settings last self ⌝ }
+        ensures { λ b. ⌜ b ≡ fieldsWrong settings self last ⌝ }
     {
         let node = self.piece_at(self.current);
         let notices = tree::notify_count(settings.distance, node);
@@ -80,7 +80,7 @@ impl Record {
 
     pub fn unreadable(self, settings: Settings, last: u64) -> bool
         requires { ⌜ Settled settings ⌝ }
-        ensures { λ b. ⌜ b ≡ unreadable settings last self ⌝ }
+        ensures { λ b. ⌜ b ≡ unreadable settings self last ⌝ }
     {
         if self.number_too_large() {
             return true;

@@ -2,9 +2,9 @@
 ghost use mathlib.Core.Path.{_≡_};
 ghost use Prim.Native.Nat.{_≤_, _<_};
 ghost use lib.ListN.{length};
-ghost use Rattle.tree.specs.Tree.{level, Node};
-ghost use Rattle.cover.specs.Cover.{Meets};
-ghost use Rattle.lock.specs.rules.Types.{pieces, givenPiece, idleWith};
+ghost use Rattle.tree.specs.rules.Tree.{level, Node};
+ghost use Rattle.cover.specs.rules.Cover.{Meets};
+ghost use Rattle.lock.specs.rules.Records.{pieces, givenPiece, idleWith};
 ghost use Rattle.lock.specs.rules.Steps.{pieceReturned, wordReturned, turnReturned, wanted, leaves, returnBits, returnInner, giveBack};
 ghost use Rattle.lock.specs.laws.Active.{Settled};
 ghost use Rattle.lock.specs.laws.Placed.{Pieced, Placed};

@@ -3,11 +3,11 @@ ghost use mathlib.Core.Path.{_≡_};
 ghost use Prim.Native.Nat.{_≤_, _<_};
 ghost use lib.Dec.{eqb};
 ghost use lib.ListN.{length};
-ghost use Rattle.base.specs.Choice.{choose};
-ghost use Rattle.tree.specs.Lists.{ancestors, notifyList, checkList};
-ghost use Rattle.lock.specs.rules.Types.{pieces, currentPiece, withT1};
+ghost use Rattle.base.specs.rules.Choice.{choose};
+ghost use Rattle.tree.specs.rules.Lists.{ancestors, notifyList, checkList};
+ghost use Rattle.lock.specs.rules.Records.{pieces, currentPiece, withT1};
 ghost use Rattle.lock.specs.rules.Steps.{startPhase, begin, taken, ticketTaken, turnAwaited, goUp, climbed, unblocked, bitsClaimed, occClaimed, allNotified, noticeGiven, waited, checkPassed};
-ghost use Rattle.tree.specs.Tree.{Node};
+ghost use Rattle.tree.specs.rules.Tree.{Node};
 ghost use Rattle.lock.specs.laws.Active.{Settled};
 ghost use Rattle.lock.specs.laws.Placed.{Pieced};
 use crate::Record;
@@ -135,7 +135,7 @@ impl Record {
     // "Beginning a piece zeroes grip, ticket, notices, t1 and t0."
     fn begin(mut self, settings: Settings, i: u64) -> Record
         requires { ⌜ Pieced self × (i < length (pieces self)) ⌝ }
-        ensures { λ r. ⌜ r ≡ begin settings i self ⌝ }
+        ensures { λ r. ⌜ r ≡ begin settings self i ⌝ }
     {
         let phase = settings.start_phase(self.piece_at(i));
         self.phase = phase;

@@ -3,12 +3,12 @@
 ghost use mathlib.Core.Path.{_≡_};
 ghost use Prim.Native.Nat.{_+_, _^_, _≤_, _<_};
 ghost use lib.ListN.{length, getD};
-ghost use Rattle.word.specs.Word.{Place, field, addField, occ, tcnt, tmax, dcnt, dmax, addOcc, addTcnt, addTmax, addDcnt, addDmax, layout, addFields, returnOcc, wantedBits, maskedSwap, takeBits, giveBits};
-ghost use Rattle.tree.specs.Tree.{parent, child, first, last, level, Node, size, left};
-ghost use Rattle.tree.specs.Lists.{ancestor, ancestors, notifyList, checkList};
-ghost use Rattle.cover.specs.Answer.{answer};
+ghost use Rattle.word.specs.rules.Word.{Place, field, addField, occ, tcnt, tmax, dcnt, dmax, addOcc, addTcnt, addTmax, addDcnt, addDmax, layout, addFields, returnOcc, wantedBits, maskedSwap, takeBits, giveBits};
+ghost use Rattle.tree.specs.rules.Tree.{parent, child, first, last, level, Node, size, left};
+ghost use Rattle.tree.specs.rules.Lists.{ancestor, ancestors, notifyList, checkList};
+ghost use Rattle.cover.specs.rules.Answer.{answer};
 ghost use Rattle.lock.specs.laws.Active.{Settled};
-ghost use Rattle.lock.specs.rules.Readable.{unreadable};
+ghost use Rattle.lock.specs.rules.Unreadable.{unreadable};
 ghost use Rattle.lock.specs.rules.Calls.{requestAnswer, releaseAnswer, cancelAnswer, stepAnswer, stepWords};
 
 #[no_mangle]
@@ -264,7 +264,7 @@ pub extern "C" fn probe_request(
     settings: lock::Settings,
     call: lock::Call,
 ) -> lock::Stepped
-    ensures answer { λ s. ⌜ s ≡ requestAnswer settings (call .last) client (now (words .entry)) (call .a) (call .b) ⌝ }
+    ensures answer { λ s. ⌜ s ≡ requestAnswer settings client (now (words .entry)) (call .last) (call .a) (call .b) ⌝ }
     ensures words { λ s. ⌜ now (words .exit) ≡ now (words .entry) ⌝ }
 {
     client.request(words, settings, call)
@@ -277,8 +277,8 @@ pub extern "C" fn probe_step(
     settings: lock::Settings,
     call: lock::Call,
 ) -> lock::Stepped
-    ensures answer { λ s. ⌜ s ≡ stepAnswer settings (call .last) client (now (words .entry)) (call .a) ⌝ }
-    ensures words { λ s. ⌜ now (words .exit) ≡ stepWords settings (call .last) client (now (words .entry)) (call .a) ⌝ }
+    ensures answer { λ s. ⌜ s ≡ stepAnswer settings client (now (words .entry)) (call .last) (call .a) ⌝ }
+    ensures words { λ s. ⌜ now (words .exit) ≡ stepWords settings client (now (words .entry)) (call .last) (call .a) ⌝ }
 {
     client.step(words, settings, call)
 }
@@ -290,7 +290,7 @@ pub extern "C" fn probe_release(
     settings: lock::Settings,
     call: lock::Call,
 ) -> lock::Stepped
-    ensures answer { λ s. ⌜ s ≡ releaseAnswer settings (call .last) client (now (words .entry)) ⌝ }
+    ensures answer { λ s. ⌜ s ≡ releaseAnswer settings client (now (words .entry)) (call .last) ⌝ }
     ensures words { λ s. ⌜ now (words .exit) ≡ now (words .entry) ⌝ }
 {
     client.release(words, settings, call)
@@ -303,7 +303,7 @@ pub extern "C" fn probe_cancel(
     settings: lock::Settings,
     call: lock::Call,
 ) -> lock::Stepped
-    ensures answer { λ s. ⌜ s ≡ cancelAnswer settings (call .last) client (now (words .entry)) ⌝ }
+    ensures answer { λ s. ⌜ s ≡ cancelAnswer settings client (now (words .entry)) (call .last) ⌝ }
     ensures words { λ s. ⌜ now (words .exit) ≡ now (words .entry) ⌝ }
 {
     client.cancel(words, settings, call)
@@ -316,7 +316,7 @@ pub extern "C" fn probe_unreadable(
     last: u64,
 ) -> bool
     requires { ⌜ Settled settings ⌝ }
-    ensures { λ b. ⌜ b ≡ unreadable settings last client ⌝ }
+    ensures { λ b. ⌜ b ≡ unreadable settings client last ⌝ }
 {
     client.unreadable(settings, last)
 }

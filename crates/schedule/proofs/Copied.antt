@@ -7,7 +7,7 @@ use native.Mathlib.Numerals.{add-one}
 use native.Mathlib.Omega.{arith}
 use lib.ListN.{length, take, set, getD}
 use lib.Seq.{take-suc, take-all}
-use Rattle.schedule.specs.Appended.{Appended, nothing, one-more, restated}
+use Rattle.schedule.specs.laws.Appended.{Appended, nothing, one-more, restated}
 
 module _ (a : List ℕ) (i : ℕ) (t : List ℕ) (room : i + length t ≤ length a) where
   pub none-copied : Appended a i a (i + 0) (take 0 t)

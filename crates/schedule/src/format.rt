@@ -2,8 +2,8 @@
 ghost use mathlib.Core.Path.{_≡_};
 ghost use Prim.Native.Nat.{suc, _+_, _≤_, _<_};
 ghost use lib.ListN.{length, getD};
-ghost use Rattle.schedule.specs.Format.{little, settingsIn, clientsIn, countIn, offsetIn, placeOf, callWrong, anyWrong, malformed, tooLarge, fileCause};
-ghost use Rattle.schedule.specs.FormatLaws.{CallRead, CallReadAt, wrongAt};
+ghost use Rattle.schedule.specs.rules.Format.{little, settingsIn, clientsIn, countIn, offsetIn, placeOf, callWrong, anyWrong, malformed, tooLarge, fileCause};
+ghost use Rattle.schedule.specs.laws.FormatLaws.{CallRead, CallReadAt, wrongAt};
 use lock::Call;
 use lock::Settings;
 

@@ -4,9 +4,9 @@ ghost use Prim.Native.Nat.{_+_, _≤_};
 ghost use mathlib.Core.List.{[], _∷_, _++_};
 ghost use lib.ListN.{length};
 ghost use Rattle.lock.specs.declared.Record.{Record};
-ghost use Rattle.table.specs.Promises.{callOf};
-ghost use Rattle.schedule.specs.Appended.{Appended};
-ghost use Rattle.schedule.specs.Log.{decimal, spaced, kindText, headerLine, line, refusedLine};
+ghost use Rattle.table.specs.rules.Lent.{callOf};
+ghost use Rattle.schedule.specs.laws.Appended.{Appended};
+ghost use Rattle.schedule.specs.rules.Log.{decimal, spaced, kindText, headerLine, line, refusedLine};
 use lock::Call;
 use lock::Settings;
 

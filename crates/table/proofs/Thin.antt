@@ -56,7 +56,7 @@ use Rattle.lock.specs.declared.Record.{Record}
 use Rattle.lock.specs.declared.Settings.{Settings}
 use Rattle.lock.specs.declared.Call.{Call}
 use Rattle.lock.specs.declared.Stepped.{Stepped}
-use Rattle.lock.specs.rules.Types.{idleWith}
+use Rattle.lock.specs.rules.Records.{idleWith}
 use Rattle.lock.specs.rules.Table as Table
 use Rattle.lock.proofs.Record as Rec
 use Rattle.lock.proofs.Record.Laws as Rec′
@@ -67,11 +67,11 @@ use Rattle.lock.proofs.Settings.Laws as G′
 use Rattle.lock.proofs.Call as K
 use Rattle.lock.proofs.Call.Laws as K′
 use Rattle.table.specs.declared.Answer.{Answer}
-use Rattle.table.specs.Promises.{lent, left}
-use Rattle.table.specs.ByValue.{answered, wordsAfter}
-use Rattle.table.specs.Causes.{tableCause}
-use Rattle.table.specs.CauseLaws.{client-below}
-use Rattle.table.specs.CallLaws.{Same, numbered, answeredOf, table-refuses, table-takes}
+use Rattle.table.specs.rules.Lent.{lent, result}
+use Rattle.table.specs.laws.ByValue.{answered, wordsAfter}
+use Rattle.table.specs.laws.Causes.{tableCause}
+use Rattle.table.specs.laws.CauseLaws.{client-below}
+use Rattle.table.specs.laws.CallLaws.{Same, numbered, answeredOf, table-refuses, table-takes}
 use Rattle.table.proofs.Answer as An
 use Rattle.table.proofs.Answer.Laws as An′
 use Rattle.table.proofs.Walk.{gives-up, goes-on, shows-that, fits-index, none-found, some-found}
@@ -168,10 +168,10 @@ Checked 𝓤 H A = tripleOf 𝓤 H A check (closing 𝓤 H A check-ended (checks
 module _ (kind : Call → Table.Call) (its-client : (c : Call) → Table.clientOf (kind c) ≡ c .client) where
   -- the call by value, and the call over the table
   abbrev next : Record → List ℕ → Settings → Call → Stepped
-  next r ws st ca = answered st (ca .last) r ws (kind ca)
+  next r ws st ca = answered st r ws (ca .last) (kind ca)
 
   abbrev after : Record → List ℕ → Settings → Call → List ℕ
-  after r ws st ca = wordsAfter st (ca .last) r ws (kind ca)
+  after r ws st ca = wordsAfter st r ws (ca .last) (kind ca)
 
   abbrev called-on : List Record → List ℕ → Settings → Call → Table.Out
   called-on ys ws st ca = Table.call st (lent ys ws (ca .last)) (kind ca)
@@ -185,7 +185,7 @@ module _ (kind : Call → Table.Call) (its-client : (c : Call) → Table.clientO
   unfolding Table.recordAt
   taken ys ws st ca e r vs ge h g g′ =
       let t = table-takes st ys ws (ca .last) (kind ca) (ca .client) (its-client ca) (sym ge ∙ none-found e h) in
-      (λ i. left (g i .number) (g i .clock) (set ys (ca .client) (g i .next)) (g′ i)) ∙ t
+      (λ i. result (g i .number) (set ys (ca .client) (g i .next)) (g′ i) (g i .clock)) ∙ t
 
   abbrev pub called : {M : Type 1} (𝓤 : URA M) → Clauses 𝓤 callee-ended
   called 𝓤 κs a = record { ghost = Unit {0}; requires = λ _. emp 𝓤; ensures = λ _ r e. sep 𝓤 (fact 𝓤 (r ≡ next (a .0) (now (a .1 .0)) (a .1 .1 .0) (a .1 .1 .1 .0))) (fact 𝓤 (now (e .1 .0) ≡ after (a .0) (now (a .1 .0)) (a .1 .1 .0) (a .1 .1 .1 .0))) }

@@ -1,6 +1,6 @@
 // The tests that stand before a client's own: causes 1 to 4.
 ghost use mathlib.Core.Path.{_≡_};
-ghost use Rattle.table.specs.Causes.{openingCause, tableCause};
+ghost use Rattle.table.specs.laws.Causes.{openingCause, tableCause};
 use lock::Settings;
 
 // Causes 1 to 3: settings outside their ranges, a word count that is not the tree's, "no clients, or over 32,767".

@@ -2,14 +2,13 @@
 // client's record. Its promise is one equation, of one definition, the crate lock's `Table.call`, for every table, word list, client and number.
 ghost use mathlib.Core.Path.{_≡_};
 ghost use Rattle.lock.specs.rules.Table as Table;
-ghost use Rattle.table.specs.Promises.{lent, left, callOf, callsOf, history};
+ghost use Rattle.table.specs.rules.Lent.{lent, result, callOf};
 use lock::Call;
 use lock::Record;
 use lock::Settings;
 
 mod causes;
 mod kinds;
-mod list;
 mod zeroes;
 
 // What a call over the table answers: its number (0 accepted) and the clock after it.
@@ -27,7 +26,7 @@ pub extern "C" fn table_request(
     settings: Settings,
     call: Call,
 ) -> Answer
-    ensures { λ r. ⌜ left (r .number) (r .clock) (now (records .exit)) (now (words .exit)) ≡ Table.call settings (lent (now (records .entry)) (now (words .entry)) (call .last)) (Table.request (call .client) (call .a) (call .b)) ⌝ }
+    ensures { λ r. ⌜ result (r .number) (now (records .exit)) (now (words .exit)) (r .clock) ≡ Table.call settings (lent (now (records .entry)) (now (words .entry)) (call .last)) (Table.request (call .client) (call .a) (call .b)) ⌝ }
 {
     let cause = causes::table_cause(settings, words.len(), records.len(), call.client);
     if 0 < cause {
@@ -54,7 +53,7 @@ pub extern "C" fn table_step(
     settings: Settings,
     call: Call,
 ) -> Answer
-    ensures { λ r. ⌜ left (r .number) (r .clock) (now (records .exit)) (now (words .exit)) ≡ Table.call settings (lent (now (records .entry)) (now (words .entry)) (call .last)) (Table.step (call .client) (call .a)) ⌝ }
+    ensures { λ r. ⌜ result (r .number) (now (records .exit)) (now (words .exit)) (r .clock) ≡ Table.call settings (lent (now (records .entry)) (now (words .entry)) (call .last)) (Table.step (call .client) (call .a)) ⌝ }
 {
     let cause = causes::table_cause(settings, words.len(), records.len(), call.client);
     if 0 < cause {
@@ -81,7 +80,7 @@ pub extern "C" fn table_release(
     settings: Settings,
     call: Call,
 ) -> Answer
-    ensures { λ r. ⌜ left (r .number) (r .clock) (now (records .exit)) (now (words .exit)) ≡ Table.call settings (lent (now (records .entry)) (now (words .entry)) (call .last)) (Table.release (call .client)) ⌝ }
+    ensures { λ r. ⌜ result (r .number) (now (records .exit)) (now (words .exit)) (r .clock) ≡ Table.call settings (lent (now (records .entry)) (now (words .entry)) (call .last)) (Table.release (call .client)) ⌝ }
 {
     let cause = causes::table_cause(settings, words.len(), records.len(), call.client);
     if 0 < cause {
@@ -108,7 +107,7 @@ pub extern "C" fn table_cancel(
     settings: Settings,
     call: Call,
 ) -> Answer
-    ensures { λ r. ⌜ left (r .number) (r .clock) (now (records .exit)) (now (words .exit)) ≡ Table.call settings (lent (now (records .entry)) (now (words .entry)) (call .last)) (Table.cancel (call .client)) ⌝ }
+    ensures { λ r. ⌜ result (r .number) (now (records .exit)) (now (words .exit)) (r .clock) ≡ Table.call settings (lent (now (records .entry)) (now (words .entry)) (call .last)) (Table.cancel (call .client)) ⌝ }
 {
     let cause = causes::table_cause(settings, words.len(), records.len(), call.client);
     if 0 < cause {
@@ -135,7 +134,7 @@ pub extern "C" fn table_act(
     settings: Settings,
     call: Call,
 ) -> Answer
-    ensures { λ r. ⌜ left (r .number) (r .clock) (now (records .exit)) (now (words .exit)) ≡ Table.call settings (lent (now (records .entry)) (now (words .entry)) (call .last)) (callOf (call .kind) (call .client) (call .a) (call .b)) ⌝ }
+    ensures { λ r. ⌜ result (r .number) (now (records .exit)) (now (words .exit)) (r .clock) ≡ Table.call settings (lent (now (records .entry)) (now (words .entry)) (call .last)) (callOf (call .kind) (call .client) (call .a) (call .b)) ⌝ }
 {
     let cause = causes::table_cause(settings, words.len(), records.len(), call.client);
     if 0 < cause {
@@ -157,7 +156,7 @@ pub extern "C" fn table_act(
 // "Opening tests 1 to 3, then zeroes words, records and clock." The clock travels beside the table: it is 0 from here on.
 #[no_mangle]
 pub extern "C" fn table_open(records: &mut [Record], words: &mut [u64], settings: Settings) -> u64
-    ensures { λ n. ⌜ left n 0 (now (records .exit)) (now (words .exit)) ≡ Table.opening settings (lent (now (records .entry)) (now (words .entry)) 0) ⌝ }
+    ensures { λ n. ⌜ result n (now (records .exit)) (now (words .exit)) 0 ≡ Table.opening settings (lent (now (records .entry)) (now (words .entry)) 0) ⌝ }
 {
     let cause = causes::opening_cause(settings, words.len(), records.len());
     if 0 < cause {
@@ -171,36 +170,4 @@ pub extern "C" fn table_open(records: &mut [Record], words: &mut [u64], settings
         client = client + 1;
     }
     cause
-}
-
-// A history: the opening, and where it is accepted the calls of the list from clock 0, each on what the one before it left.
-#[no_mangle]
-pub extern "C" fn table_run(
-    records: &mut [Record],
-    words: &mut [u64],
-    settings: Settings,
-    calls: &[u64],
-) -> Answer
-    ensures { λ r. ⌜ left (r .number) (r .clock) (now (records .exit)) (now (words .exit)) ≡ history settings (lent (now (records .entry)) (now (words .entry)) 0) (callsOf (now (calls .entry))) ⌝ }
-{
-    let cause = table_open(records, words, settings);
-    if 0 < cause {
-        return Answer {
-            number: cause,
-            clock: 0,
-        };
-    }
-    let count = list::call_count(calls);
-    let mut clock = 0;
-    let mut k = 0;
-    while k < count {
-        let call = list::call_at(calls, k, clock);
-        let answer = table_act(records, words, settings, call);
-        clock = answer.clock;
-        k = k + 1;
-    }
-    Answer {
-        number: cause,
-        clock: clock,
-    }
 }

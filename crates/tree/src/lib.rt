@@ -3,9 +3,9 @@
 ghost use mathlib.Core.Path.{_≡_};
 ghost use Prim.Native.Nat.{_+_, _<_, _≤_};
 ghost use lib.ListN.{length, getD};
-ghost use Rattle.tree.specs.Tree.{parent, child, climb, leftmost, first, last, level, Node, size, left};
-ghost use Rattle.tree.specs.Lists.{ancestor, ancestors, notifyList, checkList};
-ghost use Rattle.tree.specs.Notify.{notifyLevel};
+ghost use Rattle.tree.specs.rules.Tree.{parent, child, climb, leftmost, first, last, level, Node, size, left};
+ghost use Rattle.tree.specs.rules.Lists.{ancestor, ancestors, notifyList, checkList};
+ghost use Rattle.tree.specs.laws.Notify.{notifyLevel};
 
 // One more than the place of the highest pair of bits of 3 * n - 2.
 pub fn level(n: u64) -> u64

@@ -10,8 +10,8 @@ use native.Mathlib.Omega.{arith}
 use lib.Pow.{pow-pos, pow-mono, split, high, low, shr-lt, mod-pow-add, ones-lt, add-lt-pow}
 use lib.Bits.{bitAnd, bitXor, and-mask, and-block, xor-block, and-zero-r, xor-zero-r, and-lt, xor-lt, and-le-r}
 use lib.Dec.{T, eqb, eqb→eq}
-use Rattle.base.specs.Every.{every, every-at}
-use Rattle.word.specs.Word.{addFields}
+use Rattle.base.specs.laws.Every.{every, every-at}
+use Rattle.word.specs.rules.Word.{addFields}
 
 -- the top bit of each field, and the bits below it; a field has at least one bit, and j is its width less one
 unfoldable pub tops : List ℕ → ℕ

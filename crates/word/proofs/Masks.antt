@@ -5,8 +5,8 @@ use native.Mathlib.Nat.{mod-lt, mod-eq-of-lt, add-mod-mod, lt-of-lt-of-le}
 use native.Mathlib.Omega.{arith}
 use lib.Pow.{pow-pos, pow-lt, pow-mono, split, mod-mod-pow, shr-mod, shl-lt, shl-exact, ones-lt, ones-split, high, add-lt-pow}
 use lib.Bits.{bitAnd, bitOr, and-mask, mask-lt, and-block, or-block, or-zero-r, or-shifted-r}
-use Rattle.word.specs.Word.{field, putField, addField, leafBits}
-use Rattle.word.specs.Leaf.{leaf-shl}
+use Rattle.word.specs.rules.Word.{field, putField, addField, leafBits}
+use Rattle.word.specs.laws.Leaf.{leaf-shl}
 
 -- `1 << k` is 2 ^ k
 pub one-shl : (k : ℕ) → k < 64 → (1 * 2 ^ k) % 2 ^ 64 ≡ 2 ^ k

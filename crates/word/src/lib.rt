@@ -1,7 +1,7 @@
 // The words of the tree by masks and shifts. What holds of a field holds at any place and width.
 ghost use mathlib.Core.Path.{_≡_};
 ghost use Prim.Native.Nat.{_+_, _^_, _≤_, _<_, min, max};
-ghost use Rattle.word.specs.Word.{Place, field, addField, occ, tcnt, tmax, dcnt, dmax, addOcc, addTcnt, addTmax, addDcnt, addDmax, layout, addFields, returnOcc, leafBits, wantedBits, maskedSwap, takeBits, giveBits};
+ghost use Rattle.word.specs.rules.Word.{Place, field, addField, occ, tcnt, tmax, dcnt, dmax, addOcc, addTcnt, addTmax, addDcnt, addDmax, layout, addFields, returnOcc, leafBits, wantedBits, maskedSwap, takeBits, giveBits};
 
 // An inner word: how many bits stand below each field.
 const OCC_SHIFT: u64 = 62;

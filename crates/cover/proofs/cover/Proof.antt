@@ -1,7 +1,7 @@
 -- `cover::cover` meets its contract. Assumes nothing.
 use mathlib.Core.Path.{_∙_}
 use native.Mathlib.Omega.{arith}
-use Rattle.cover.specs.Code.{levels-few, levels-many, window-empty, window-long, window-fine, units-code}
+use Rattle.cover.specs.laws.Code.{levels-few, levels-many, window-empty, window-long, window-fine, units-code}
 use borrow.Author.Needs.{needs}
 use Rattle.cover.proofs.cover.Statement.{statement}
 use Rattle.cover.proofs.cover.Tie as tie

@@ -1,7 +1,7 @@
 -- `cover::lowest` meets its contract. Assumes nothing.
 use native.Mathlib.Omega.{arith}
-use Rattle.cover.specs.Rise.{rise}
-use Rattle.cover.specs.Code.{levels-left, node-code, low-small, leaf-piece, inner-piece, window-le}
+use Rattle.cover.specs.laws.Rise.{rise}
+use Rattle.cover.specs.laws.Code.{levels-left, node-code, low-small, leaf-piece, inner-piece, window-le}
 use borrow.Author.Needs.{needs}
 use Rattle.cover.proofs.lowest.Statement.{statement}
 use Rattle.cover.proofs.lowest.Tie as tie

@@ -1,6 +1,6 @@
 -- `cover::one_piece` meets its contract. Assumes nothing.
-use Rattle.cover.specs.Lowest.{lowest}
-use Rattle.cover.specs.Code.{one-is}
+use Rattle.cover.specs.laws.Lowest.{lowest}
+use Rattle.cover.specs.laws.Code.{one-is}
 use borrow.Author.Needs.{needs}
 use Rattle.cover.proofs.one_piece.Statement.{statement}
 use Rattle.cover.proofs.one_piece.Tie as tie

@@ -3,9 +3,9 @@ use mathlib.Core.Path.{_∙_}
 use Prim.Native.Nat.{_+_, _*_, _<_}
 use native.Mathlib.Omega.{arith}
 use lib.Pow.{shr-le}
-use Rattle.cover.specs.Rise.{rise}
-use Rattle.cover.specs.Over.{units-small}
-use Rattle.cover.specs.Code.{levels-left, one-code, pair-code, halves-fit, leaf-apart, neighbours, not-neighbours, cut-code}
+use Rattle.cover.specs.laws.Rise.{rise}
+use Rattle.cover.specs.laws.Over.{units-small}
+use Rattle.cover.specs.laws.Code.{levels-left, one-code, pair-code, halves-fit, leaf-apart, neighbours, not-neighbours, cut-code}
 use borrow.Author.Needs.{needs}
 use Rattle.cover.proofs.pieces.Statement.{statement}
 use Rattle.cover.proofs.pieces.Tie as tie

@@ -1,6 +1,6 @@
 -- `cover::refuse` meets its contract. Assumes nothing.
 use mathlib.Core.Path.{refl}
-use Rattle.cover.specs.Answer.{refused}
+use Rattle.cover.specs.rules.Answer.{refused}
 use Rattle.cover.proofs.refuse.Statement.{statement}
 use Rattle.cover.proofs.refuse.Tie as tie
 

@@ -4,7 +4,7 @@ use Prim.Native.Nat.{_/_}
 use native.Mathlib.Omega.{arith}
 use lib.Bits.{bitXor}
 use lib.Count.{leading-le}
-use Rattle.cover.specs.Rise.{rise}
+use Rattle.cover.specs.laws.Rise.{rise}
 use borrow.Author.Needs.{needs}
 use Rattle.cover.proofs.rise.Statement.{statement}
 use Rattle.cover.proofs.rise.Tie as tie

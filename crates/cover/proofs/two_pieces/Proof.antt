@@ -1,6 +1,6 @@
 -- `cover::two_pieces` meets its contract. Assumes nothing.
-use Rattle.cover.specs.Lowest.{lowest}
-use Rattle.cover.specs.Code.{pair-is, sum-small}
+use Rattle.cover.specs.laws.Lowest.{lowest}
+use Rattle.cover.specs.laws.Code.{pair-is, sum-small}
 use borrow.Author.Needs.{needs}
 use Rattle.cover.proofs.two_pieces.Statement.{statement}
 use Rattle.cover.proofs.two_pieces.Tie as tie

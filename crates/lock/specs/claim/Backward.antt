@@ -6,12 +6,13 @@ use Prim.Native.Nat.{ℕ, suc, _+_, _-_, _≤_, _<_}
 use native.Mathlib.Omega.{arith}
 use lib.Dec.{eqb}
 use lib.ListN.{length, getD}
-use Rattle.base.specs.Choice.{choose, by-lt, by-eq}
-use Rattle.base.specs.Sum.{sumTo, to-same, to-one, to-zero}
-use Rattle.tree.specs.Lists.{notifyList}
+use Rattle.base.specs.rules.Choice.{choose}
+use Rattle.base.specs.laws.ChoiceLaws.{by-lt, by-eq}
+use Rattle.base.specs.laws.Sum.{sumTo, to-same, to-one, to-zero}
+use Rattle.tree.specs.rules.Lists.{notifyList}
 use Rattle.lock.specs.declared.Record.{Record}
 use Rattle.lock.specs.declared.Settings.{Settings}
-use Rattle.lock.specs.rules.Types.{pieces, pieceAt, givenPiece, gripOf, noticesOf, withPlace, withGiving, withGrip, idleWith}
+use Rattle.lock.specs.rules.Records.{pieces, pieceAt, givenPiece, gripOf, noticesOf, withPlace, withGiving, withGrip, idleWith}
 use Rattle.lock.specs.laws.Pieces.{grip-before, grip-current, grip-after, notices-current}
 use Rattle.lock.specs.rules.Steps.{wordReturned}
 use Rattle.lock.specs.laws.ReturnLaws.{piece-last, piece-next, word-more, word-last}
@@ -27,7 +28,7 @@ gripped-same : (s : Settings) (r q : Record) (i : ℕ) → returned s q i ≡ re
 unfolding gripped
 gripped-same s r q i e f = ap₂ (λ (x y : ℕ). choose (eqb x 0) y 0) e f
 
-module _ (s : Settings) (last : ℕ) (r : Record) (rd : Ready s last r) (v : Apart s r) (e : r .phase ≡ 10) where
+module _ (s : Settings) (r : Record) (last : ℕ) (rd : Ready s r last) (v : Apart s r) (e : r .phase ≡ 10) where
   abbrev g : ℕ
   g = r .giving
 

@@ -6,13 +6,14 @@ use Prim.Native.Nat.{ℕ, suc, _+_, _≤_, _<_}
 use native.Mathlib.Omega.{arith}
 use lib.Dec.{eqb, leb, ltb, eqb→eq}
 use lib.ListN.{length, getD}
-use Rattle.base.specs.Choice.{choose, on-choose, choose-eq, choose-ne, choose-le, choose-gt, choose-no, by-lt}
-use Rattle.base.specs.Sum.{sumTo, to-same, to-one}
-use Rattle.tree.specs.Tree.{leaf}
-use Rattle.tree.specs.Lists.{notifyList}
+use Rattle.base.specs.rules.Choice.{choose}
+use Rattle.base.specs.laws.ChoiceLaws.{on-choose, choose-eq, choose-ne, choose-le, choose-gt, choose-no, by-lt}
+use Rattle.base.specs.laws.Sum.{sumTo, to-same, to-one}
+use Rattle.tree.specs.rules.Tree.{leaf}
+use Rattle.tree.specs.rules.Lists.{notifyList}
 use Rattle.lock.specs.declared.Record.{Record}
 use Rattle.lock.specs.declared.Settings.{Settings}
-use Rattle.lock.specs.rules.Types.{pieces, pieceAt}
+use Rattle.lock.specs.rules.Records.{pieces, pieceAt}
 use Rattle.lock.specs.claim.Owned.{returned, gripped, noticed, reaches, owns, ownsUnit, outstanding, ownsNotice, reaches-yes, reaches-no, owns-same, notice-same}
 use Rattle.lock.specs.claim.Fit.{Apart, owns-here}
 use Rattle.lock.specs.claim.Effect.{inWindow, Same, Grips, Notices}

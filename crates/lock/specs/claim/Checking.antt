@@ -6,29 +6,30 @@ use Prim.Native.Nat.{ℕ, suc, _-_, _≤_, _<_}
 use native.Mathlib.Omega.{arith}
 use lib.Dec.{eqb, leb, ltb, eqb→eq, leb→le, nltb→le}
 use lib.ListN.{length, getD}
-use Rattle.base.specs.Choice.{choose, on-choose, by-lt}
-use Rattle.word.specs.Word.{dcnt, dmax}
-use Rattle.tree.specs.Tree.{level, Node}
-use Rattle.tree.specs.Lists.{checkList}
-use Rattle.tree.specs.Climb.{left-pos}
-use Rattle.tree.specs.Check.{checkCount, checkNode, check-count, check-place, check-is}
+use Rattle.base.specs.rules.Choice.{choose}
+use Rattle.base.specs.laws.ChoiceLaws.{on-choose, by-lt}
+use Rattle.word.specs.rules.Word.{dcnt, dmax}
+use Rattle.tree.specs.rules.Tree.{level, Node}
+use Rattle.tree.specs.rules.Lists.{checkList}
+use Rattle.tree.specs.laws.Climb.{left-pos}
+use Rattle.tree.specs.laws.Check.{checkCount, checkNode, check-count, check-place, check-is}
 use Rattle.lock.specs.declared.Record.{Record}
 use Rattle.lock.specs.declared.Settings.{Settings}
-use Rattle.lock.specs.rules.Types.{pieces, pieceAt, currentPiece, toPhase, withPlace}
+use Rattle.lock.specs.rules.Records.{pieces, pieceAt, currentPiece, toPhase, withPlace}
 use Rattle.lock.specs.rules.Steps.{taken, waited, checkPassed}
 use Rattle.lock.specs.laws.Active.{Settled}
 use Rattle.lock.specs.laws.Ready.{Ready}
 use Rattle.lock.specs.claim.Owned.{ownsNotice}
 use Rattle.lock.specs.claim.Fit.{Live, live-apart}
 use Rattle.lock.specs.claim.Effect.{quiet}
-use Rattle.lock.specs.claim.Kept.{nobody}
+use Rattle.lock.specs.claim.InnerWords.{nobody}
 use Rattle.lock.specs.claim.Stage.{checkedTo, stage-current, passing-none, checked-some, checked-all}
 use Rattle.lock.specs.claim.Forward.{kin, onward-unreturned}
 use Rattle.lock.specs.claim.Onward.{live-kin, onward}
-use Rattle.lock.specs.claim.Fine.{Fine, fine-stay, fine-quiet}
-use Rattle.lock.specs.claim.Taking.{taken-fine}
+use Rattle.lock.specs.claim.Keeps.{Keeps, keeps-stay, keeps-quiet}
+use Rattle.lock.specs.claim.Taking.{taken-keeps}
 
-module _ (s : Settings) (rs : List Record) (last now : ℕ) (later : last ≤ now) (r : Record) (g : Settled s) (rd : Ready s last r) (lv : Live s last r) (w : ℕ) where
+module _ (s : Settings) (rs : List Record) (r : Record) (last now : ℕ) (later : last ≤ now) (g : Settled s) (rd : Ready s r last) (lv : Live s r last) (w : ℕ) where
   abbrev n : ℕ
   n = currentPiece r
 
@@ -37,7 +38,7 @@ module _ (s : Settings) (rs : List Record) (last now : ℕ) (later : last ≤ no
 
   -- ---- 7 wait
 
-  over : r .phase ≡ 7 → s .wait ≤ now - r .t0 → Fine s rs now r 0 w w (toPhase 8 r)
+  over : r .phase ≡ 7 → s .wait ≤ now - r .t0 → Keeps s rs r 0 w w (toPhase 8 r) now
   unfolding pieces pieceAt
   over e b =
       let q = toPhase 8 r in
@@ -45,16 +46,16 @@ module _ (s : Settings) (rs : List Record) (last now : ℕ) (later : last ≤ no
       let ahead : r .phase ≢ 10 = λ f. omega arith in
       let aheadq : q .phase ≢ 10 = λ f. omega arith in
       let at = stage-current q (r .current) refl in
-      fine-quiet s rs now r q 0 w (λ d. absurd (d refl)) k refl ahead (onward-unreturned s q aheadq) refl refl refl
-      (live-kin s last now r q later lv k (lv .exists) (omega arith) (omega arith) (λ _ _. lv .claimed (omega arith) (omega arith)) (λ _ _. lv .all-noticed (omega arith) (omega arith)) (lv .listed) (λ f. absurd (omega arith)) t1-past)
-      (onward s rs nobody now r q k refl ahead aheadq (λ _ a. absurd (omega arith)) (λ _ _. inr (inl (omega arith, omega arith, b)))
+      keeps-quiet s rs r q 0 w now (λ d. absurd (d refl)) k refl ahead (onward-unreturned s q aheadq) refl refl refl
+      (live-kin s r q last now later lv k (lv .exists) (omega arith) (omega arith) (λ _ _. lv .claimed (omega arith) (omega arith)) (λ _ _. lv .all-noticed (omega arith) (omega arith)) (lv .listed) (λ f. absurd (omega arith)) t1-past)
+      (onward s rs nobody r now q k refl ahead aheadq (λ _ a. absurd (omega arith)) (λ _ _. inr (inl (omega arith, omega arith, b)))
       (λ l a. absurd (omega (arith, checked-some s q (r .current) at))) (inl (passing-none q (λ f. omega arith) (λ f. omega arith) (λ f. omega arith))) (λ _ _. inl (omega arith, omega arith)))
 
-  pub wait-fine : r .phase ≡ 7 → Fine s rs now r 0 w w (waited s r now)
+  pub wait-keeps : r .phase ≡ 7 → Keeps s rs r 0 w w (waited s r now) now
   unfolding waited
-  wait-fine e =
-      on-choose (λ q. Fine s rs now r 0 w w q) (leb (s .wait) (now - r .t0)) (toPhase 8 r) r
-      (λ t. over e (leb→le (s .wait) (now - r .t0) t)) (λ _. fine-stay s rs last now r 0 w later (inr lv) (λ d. absurd (d refl)))
+  wait-keeps e =
+      on-choose (λ q. Keeps s rs r 0 w w q now) (leb (s .wait) (now - r .t0)) (toPhase 8 r) r
+      (λ t. over e (leb→le (s .wait) (now - r .t0) t)) (λ _. keeps-stay s rs r 0 w last now later (inr lv) (λ d. absurd (d refl)))
 
   -- ---- 8 check
 
@@ -78,7 +79,7 @@ module _ (s : Settings) (rs : List Record) (last now : ℕ) (later : last ≤ no
     pub checked-node : Node h x × (level x ≢ h)
     unfolding checkNode
     checked-node =
-        let node = live-apart s last r lv .node (r .current) (lv .exists) in
+        let node = live-apart s r last lv .node (r .current) (lv .exists) in
         let c = check-is n (node .some) h m (g .distance-some) (r .place) listed in
         let l = ap level checked-is in
         (record { some = omega (arith, checked-is, left-pos (level (suc (r .place)) - 1) n (node .some)); inside = omega (arith, c .inner) }, λ f. omega (arith, c .inner))
@@ -98,35 +99,35 @@ module _ (s : Settings) (rs : List Record) (last now : ℕ) (later : last ≤ no
           (λ a. let f : checkNode n l ≡ x = ap (checkNode n) (let i : l ≡ r .place = omega arith in i) ∙ sym checked-is in
           inr (inl (λ d. ap (λ (y : ℕ). ownsNotice s y (getD rs d nobody)) f ∙ none d)))
 
-      more-fine : Fine s rs now r x w w (withPlace (suc (r .place)) r)
+      more-keeps : Keeps s rs r x w w (withPlace (suc (r .place)) r) now
       unfolding pieces pieceAt
-      more-fine =
+      more-keeps =
           let q = withPlace (suc (r .place)) r in
           let k = kin r q refl refl refl refl in
           let at = checked-some s q (r .current) (stage-current q (r .current) refl ∙ e) in
-          fine-quiet s rs now r q x w (λ _. checked-node .0) k refl ahead (onward-unreturned s q ahead) refl refl refl
-          (live-kin s last now r q later lv k (lv .exists) (lv .some) (lv .most) (lv .claimed) (lv .all-noticed) (lv .listed) (lv .whole) t1-past)
-          (onward s rs nobody now r q k refl ahead ahead (λ _ a. absurd (omega arith)) (λ a b. inl (a, b)) (λ l b. one-more l (omega arith))
+          keeps-quiet s rs r q x w now (λ _. checked-node .0) k refl ahead (onward-unreturned s q ahead) refl refl refl
+          (live-kin s r q last now later lv k (lv .exists) (lv .some) (lv .most) (lv .claimed) (lv .all-noticed) (lv .listed) (lv .whole) t1-past)
+          (onward s rs nobody r now q k refl ahead ahead (λ _ a. absurd (omega arith)) (λ a b. inl (a, b)) (λ l b. one-more l (omega arith))
           (inl (passing-none q (λ f. omega arith) (λ f. omega arith) (λ f. omega arith))) (λ a b. inl (a, b)))
 
-      last-fine : checkCount h m n ≤ suc (r .place) → Fine s rs now r x w w (taken s r)
+      last-keeps : checkCount h m n ≤ suc (r .place) → Keeps s rs r x w w (taken s r) now
       unfolding pieces pieceAt
-      last-fine b =
+      last-keeps b =
           let q = toPhase 9 r in
           let k = kin r q refl refl refl refl in
           let at = checked-all s q (r .current) (stage-current q (r .current) refl) in
-          taken-fine s rs last now later r r lv (record { pieces-same = refl; left-same = refl; right-same = refl }) refl ahead (lv .claimed (omega arith) (omega arith)) (lv .all-noticed (omega arith) (omega arith)) t1-past
+          taken-keeps s rs r r last now later lv (record { pieces-same = refl; left-same = refl; right-same = refl }) refl ahead (lv .claimed (omega arith) (omega arith)) (lv .all-noticed (omega arith) (omega arith)) t1-past
           x w w (λ _. checked-node .0) (λ p y. quiet refl y)
-          (onward s rs nobody now r q k refl ahead (λ f. omega arith) (λ _ a. absurd (omega arith)) (λ _ _. inl (omega arith, omega arith)) (λ l c. one-more l (omega arith))
+          (onward s rs nobody r now q k refl ahead (λ f. omega arith) (λ _ a. absurd (omega arith)) (λ _ _. inl (omega arith, omega arith)) (λ l c. one-more l (omega arith))
           (inl (passing-none q (λ f. omega arith) (λ f. omega arith) (λ f. omega arith))) (λ _ _. inl (omega arith, omega arith)))
 
-    pub check-fine : (dcnt w ≡ dmax w → (d : ℕ) → ownsNotice s x (getD rs d nobody) ≡ 0) → Fine s rs now r x w w (checkPassed s r w)
+    pub check-keeps : (dcnt w ≡ dmax w → (d : ℕ) → ownsNotice s x (getD rs d nobody) ≡ 0) → Keeps s rs r x w w (checkPassed s r w) now
     unfolding checkPassed
-    check-fine none =
+    check-keeps none =
         let count = length (checkList h m n) in
-        on-choose (λ q. Fine s rs now r x w w q) (eqb (dcnt w) (dmax w)) (choose (ltb (suc (r .place)) count) (withPlace (suc (r .place)) r) (taken s r)) r
+        on-choose (λ q. Keeps s rs r x w w q now) (eqb (dcnt w) (dmax w)) (choose (ltb (suc (r .place)) count) (withPlace (suc (r .place)) r) (taken s r)) r
         (λ t. let clear = none (eqb→eq (dcnt w) (dmax w) t) in
-        on-choose (λ q. Fine s rs now r x w w q) (ltb (suc (r .place)) count) (withPlace (suc (r .place)) r) (taken s r)
-        (λ _. more-fine clear)
-        (λ y. last-fine clear (omega (arith, nltb→le (suc (r .place)) count y, check-count h m n))))
-        (λ _. fine-stay s rs last now r x w later (inr lv) (λ _. checked-node .0))
+        on-choose (λ q. Keeps s rs r x w w q now) (ltb (suc (r .place)) count) (withPlace (suc (r .place)) r) (taken s r)
+        (λ _. more-keeps clear)
+        (λ y. last-keeps clear (omega (arith, nltb→le (suc (r .place)) count y, check-count h m n))))
+        (λ _. keeps-stay s rs r x w last now later (inr lv) (λ _. checked-node .0))

@@ -6,29 +6,29 @@ use mathlib.Core.List.{List}
 use Prim.Native.Nat.{ℕ, _+_, _≤_}
 use native.Mathlib.Omega.{arith}
 use lib.Dec.{T, eqb→eq}
-use Rattle.base.specs.Choice.{on-choose, neqb→ne}
-use Rattle.word.specs.Word.{addOcc, takeBits}
-use Rattle.word.specs.Leaf.{wanted-lt}
-use Rattle.word.specs.Swap.{take-failed}
-use Rattle.tree.specs.Tree.{left, level, Node}
-use Rattle.tree.specs.Level.{level-root}
-use Rattle.tree.specs.Notify.{notify-count}
-use Rattle.tree.specs.Code.{bounded, count-none}
+use Rattle.base.specs.laws.ChoiceLaws.{on-choose, neqb→ne}
+use Rattle.word.specs.rules.Word.{addOcc, takeBits}
+use Rattle.word.specs.laws.Leaf.{wanted-lt}
+use Rattle.word.specs.laws.Swap.{take-failed}
+use Rattle.tree.specs.rules.Tree.{left, level, Node}
+use Rattle.tree.specs.laws.Level.{level-root}
+use Rattle.tree.specs.laws.Notify.{notify-count}
+use Rattle.tree.specs.laws.Code.{bounded, count-none}
 use Rattle.lock.specs.declared.Moved.{Moved}
 use Rattle.lock.specs.declared.Record.{Record}
 use Rattle.lock.specs.declared.Settings.{Settings}
-use Rattle.lock.specs.rules.Types.{pieces, pieceAt, currentPiece, isLeaf, isRoot, toPhase, withGrip, withT0}
+use Rattle.lock.specs.rules.Records.{pieces, pieceAt, currentPiece, isLeaf, isRoot, toPhase, withGrip, withT0}
 use Rattle.lock.specs.rules.Steps.{bitsClaimed, occClaimed, wanted, leaves, claimPiece}
 use Rattle.lock.specs.laws.Active.{Settled}
 use Rattle.lock.specs.laws.Placed.{Clipped, clipped, widen}
 use Rattle.lock.specs.laws.Ready.{Ready}
 use Rattle.lock.specs.claim.Fit.{Live, live-apart}
 use Rattle.lock.specs.claim.Effect.{claimed, took}
-use Rattle.lock.specs.claim.Kept.{nobody}
+use Rattle.lock.specs.claim.InnerWords.{nobody}
 use Rattle.lock.specs.claim.Stage.{stage-current, passing-climb, passing-claim, passing-notify, passing-none, checked-none}
 use Rattle.lock.specs.claim.Forward.{kin, onward-unreturned, forward-grips}
 use Rattle.lock.specs.claim.Onward.{live-kin, onward, onward-low}
-use Rattle.lock.specs.claim.Fine.{Fine, fine-quiet}
+use Rattle.lock.specs.claim.Keeps.{Keeps, keeps-quiet}
 
 pub test-true : (b : Bool) → T b → b ≡ true
 test-true true t = refl
@@ -38,12 +38,12 @@ pub test-false : (b : Bool) → T (not b) → b ≡ false
 test-false true t = absurd t
 test-false false t = refl
 
-module _ (s : Settings) (rs : List Record) (last now : ℕ) (later : last ≤ now) (r : Record) (g : Settled s) (rd : Ready s last r) (lv : Live s last r) (w : ℕ) (e : r .phase ≡ 5) where
+module _ (s : Settings) (rs : List Record) (r : Record) (last now : ℕ) (later : last ≤ now) (g : Settled s) (rd : Ready s r last) (lv : Live s r last) (w : ℕ) (e : r .phase ≡ 5) where
   abbrev n : ℕ
   n = currentPiece r
 
   current-node : Node (s .levels) n
-  current-node = live-apart s last r lv .node (r .current) (lv .exists)
+  current-node = live-apart s r last lv .node (r .current) (lv .exists)
 
   ahead : r .phase ≢ 10
   ahead f = omega arith
@@ -57,7 +57,7 @@ module _ (s : Settings) (rs : List Record) (last now : ℕ) (later : last ≤ no
     meets : Clipped (left (s .levels) n) (r .left) (r .right)
     meets = clipped (s .levels) (r .left) (r .right) n (omega (arith, g .levels-some)) (g .levels-most) (rd .active .meets (r .current) (lv .exists)) leaf
 
-    won : takeBits (wanted s r n) w .done ≡ true → Fine s rs now r n w (takeBits (wanted s r n) w .word) (toPhase 6 (withGrip 3 r))
+    won : takeBits (wanted s r n) w .done ≡ true → Keeps s rs r n w (takeBits (wanted s r n) w .word) (toPhase 6 (withGrip 3 r)) now
     unfolding pieceAt pieces
     won done =
         let q = toPhase 6 (withGrip 3 r) in
@@ -67,29 +67,29 @@ module _ (s : Settings) (rs : List Record) (last now : ℕ) (later : last ≤ no
         record {
           node = λ _. current-node;
           effect = took leaf meets
-              (forward-grips s r q k refl (onward-unreturned s r ahead) (onward-unreturned s q aheadq) (live-apart s last r lv) (lv .exists) 0 3 (rd .grip-leaf (omega arith) (omega arith) leaf) refl refl (λ _ _ _ _. refl))
+              (forward-grips s r q k refl (onward-unreturned s r ahead) (onward-unreturned s q aheadq) (live-apart s r last lv) (lv .exists) 0 3 (rd .grip-leaf (omega arith) (omega arith) leaf) refl refl (λ _ _ _ _. refl))
               done refl;
-          fits = inr (live-kin s last now r q later lv k (lv .exists) (omega arith) (omega arith) (λ _ _. refl) (λ x _. absurd (omega arith)) (lv .listed) (λ z. absurd (omega arith)) t1-past);
-          time = onward s rs nobody now r q k refl ahead aheadq (λ _ _. inr (inr leaf)) (λ x _. absurd (omega arith))
+          fits = inr (live-kin s r q last now later lv k (lv .exists) (omega arith) (omega arith) (λ _ _. refl) (λ x _. absurd (omega arith)) (lv .listed) (λ z. absurd (omega arith)) t1-past);
+          time = onward s rs nobody r now q k refl ahead aheadq (λ _ _. inr (inr leaf)) (λ x _. absurd (omega arith))
               (λ l x. absurd (omega (arith, checked-none s q (r .current) (λ f. omega arith) (λ f. omega arith))))
               (inr (inl (omega (arith, passing-notify q refl, passing-claim r e), refl))) (λ x _. absurd (omega arith));
         }
 
-    lost : takeBits (wanted s r n) w .done ≡ false → Fine s rs now r n w (takeBits (wanted s r n) w .word) (toPhase 3 r)
+    lost : takeBits (wanted s r n) w .done ≡ false → Keeps s rs r n w (takeBits (wanted s r n) w .word) (toPhase 3 r) now
     unfolding pieceAt pieces
     lost failed =
         let q = toPhase 3 r in
         let k = kin r q refl refl refl refl in
         let aheadq : q .phase ≢ 10 = λ f. omega arith in
         let same = take-failed (wanted s r n) w (wanted-lt (left (s .levels) n) (r .left) (r .right) (meets .some) (meets .starts) (meets .ends)) failed in
-        subst (λ (v : ℕ). Fine s rs now r n w v q) (sym same)
-        (fine-quiet s rs now r q n w (λ _. current-node) k refl ahead (onward-unreturned s q aheadq) refl refl refl
-        (live-kin s last now r q later lv k (lv .exists) (omega arith) (omega arith) (λ x _. absurd (omega arith)) (λ x _. absurd (omega arith)) (lv .listed) (λ z. absurd (omega arith)) t1-past)
-        (onward-low s rs nobody now r q k refl ahead aheadq (omega arith) (inl (passing-climb q refl))))
+        subst (λ (v : ℕ). Keeps s rs r n w v q now) (sym same)
+        (keeps-quiet s rs r q n w now (λ _. current-node) k refl ahead (onward-unreturned s q aheadq) refl refl refl
+        (live-kin s r q last now later lv k (lv .exists) (omega arith) (omega arith) (λ x _. absurd (omega arith)) (λ x _. absurd (omega arith)) (lv .listed) (λ z. absurd (omega arith)) t1-past)
+        (onward-low s rs nobody r now q k refl ahead aheadq (omega arith) (inl (passing-climb q refl))))
 
   -- ---- "Inner: Occ + 1, note t0, to 6 (root: to 7)"
 
-  inner-to : level n ≢ s .levels → (p : ℕ) → (p ≡ 6) ⊎ ((p ≡ 7) × (n ≡ 1)) → Fine s rs now r n w (addOcc 1 w) (toPhase p (withT0 now (withGrip 3 r)))
+  inner-to : level n ≢ s .levels → (p : ℕ) → (p ≡ 6) ⊎ ((p ≡ 7) × (n ≡ 1)) → Keeps s rs r n w (addOcc 1 w) (toPhase p (withT0 now (withGrip 3 r))) now
   unfolding pieceAt pieces
   inner-to inner p o =
       let q = toPhase p (withT0 now (withGrip 3 r)) in
@@ -102,8 +102,8 @@ module _ (s : Settings) (rs : List Record) (last now : ℕ) (later : last ≤ no
       record {
         node = λ _. current-node;
         effect = claimed inner
-            (forward-grips s r q k refl (onward-unreturned s r ahead) (onward-unreturned s q aheadq) (live-apart s last r lv) (lv .exists) 2 3 grip refl refl (λ _ _ _ _. refl)) refl;
-        fits = inr (live-kin s last now r q later lv k (lv .exists) (omega (arith, b .0)) (omega (arith, b .1)) (λ _ _. refl)
+            (forward-grips s r q k refl (onward-unreturned s r ahead) (onward-unreturned s q aheadq) (live-apart s r last lv) (lv .exists) 2 3 grip refl refl (λ _ _ _ _. refl)) refl;
+        fits = inr (live-kin s r q last now later lv k (lv .exists) (omega (arith, b .0)) (omega (arith, b .1)) (λ _ _. refl)
             (λ x _. let z = root x in
             omega (
               arith,
@@ -112,21 +112,21 @@ module _ (s : Settings) (rs : List Record) (last now : ℕ) (later : last ≤ no
               count-none (s .distance) (level n) (omega (arith, level-root n (omega arith))),
             ))
             (lv .listed) (λ z. absurd (omega (arith, b .1))) t1-past);
-        time = onward s rs nobody now r q k refl ahead aheadq (λ _ _. inr (inl refl)) (λ x _. absurd (omega (arith, b .1)))
+        time = onward s rs nobody r now q k refl ahead aheadq (λ _ _. inr (inl refl)) (λ x _. absurd (omega (arith, b .1)))
             (λ l x. absurd (omega (arith, checked-none s q (r .current) (λ f. omega (arith, b .1)) (λ f. omega (arith, b .1)))))
             (⊎-elim (λ z. inr (inl (omega (arith, passing-notify q z, passing-claim r e), refl))) (λ z. inl (passing-none q (λ f. omega (arith, z .0)) (λ f. omega (arith, z .0)) (λ f. omega (arith, z .0)))) o)
             (λ x _. inr (inr (root x)));
       }
 
-  pub claim-fine : Fine s rs now r n w (claimPiece s r w now .word) (claimPiece s r w now .next)
+  pub claim-keeps : Keeps s rs r n w (claimPiece s r w now .word) (claimPiece s r w now .next) now
   unfolding claimPiece bitsClaimed occClaimed isLeaf
-  claim-fine =
+  claim-keeps =
       let bits = wanted s r n in
       let swap = takeBits bits w in
-      on-choose (λ (m : Moved). Fine s rs now r n w (m .word) (m .next)) (isLeaf s n) (leaves (swap .word) (bitsClaimed r (swap .done))) (leaves (addOcc 1 w) (occClaimed r now))
+      on-choose (λ (m : Moved). Keeps s rs r n w (m .word) (m .next) now) (isLeaf s n) (leaves (swap .word) (bitsClaimed r (swap .done))) (leaves (addOcc 1 w) (occClaimed r now))
       (λ t. let leaf = eqb→eq (level n) (s .levels) t in
-      on-choose (λ q. Fine s rs now r n w (swap .word) q) (swap .done) (toPhase 6 (withGrip 3 r)) (toPhase 3 r)
+      on-choose (λ q. Keeps s rs r n w (swap .word) q now) (swap .done) (toPhase 6 (withGrip 3 r)) (toPhase 3 r)
       (λ d. won leaf (test-true (swap .done) d)) (λ d. lost leaf (test-false (swap .done) d)))
       (λ t. let inner = neqb→ne (level n) (s .levels) t in
-      on-choose (λ (p : ℕ). Fine s rs now r n w (addOcc 1 w) (toPhase p (withT0 now (withGrip 3 r)))) (isRoot n) 7 6
+      on-choose (λ (p : ℕ). Keeps s rs r n w (addOcc 1 w) (toPhase p (withT0 now (withGrip 3 r))) now) (isRoot n) 7 6
       (λ y. inner-to inner 7 (inr (refl, eqb→eq n 1 y))) (λ y. inner-to inner 6 (inl refl)))

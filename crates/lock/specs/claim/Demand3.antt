@@ -6,32 +6,32 @@ use mathlib.Core.List.{List, [], _∷_}
 use Prim.Native.Nat.{ℕ, suc, _+_, _-_, _*_, _%_, _^_, _≤_, _<_}
 use native.Mathlib.Omega.{arith}
 use lib.ListN.{length, getD}
-use Rattle.base.specs.Choice.{by-lt, by-eq, choose-eq}
-use Rattle.base.specs.Sum.{sumBy, sum-two, sum-zero, getD-past, getD-fresh}
-use Rattle.base.specs.Tickets.{none-own}
-use Rattle.word.specs.Word.{bit}
-use Rattle.word.specs.Fields.{field-lt}
-use Rattle.word.specs.Bits.{bit-lt, bit-zero, bits-ext}
-use Rattle.tree.specs.Tree.{climb, first, leaf, level, units, holder, Node, Holds, Above}
-use Rattle.tree.specs.Climb.{first-width}
-use Rattle.tree.specs.Level.{level-range}
-use Rattle.tree.specs.Range.{holds-holder}
-use Rattle.tree.specs.Notify.{notifyNode}
-use Rattle.tree.specs.Check.{checkPlace, check-all}
-use Rattle.tree.specs.Meeting.{meeting}
-use Rattle.cover.specs.Cover.{In}
-use Rattle.cover.specs.Overlap.{overlap}
+use Rattle.base.specs.laws.ChoiceLaws.{by-lt, by-eq, choose-eq}
+use Rattle.base.specs.laws.Sum.{sumBy, sum-two, sum-zero, getD-past, getD-fresh}
+use Rattle.base.specs.laws.Tickets.{none-own}
+use Rattle.word.specs.rules.Word.{bit}
+use Rattle.word.specs.laws.Fields.{field-lt}
+use Rattle.word.specs.laws.Bits.{bit-lt, bit-zero, bits-ext}
+use Rattle.tree.specs.rules.Tree.{climb, first, leaf, level, units, holder, Node, Holds, Above}
+use Rattle.tree.specs.laws.Climb.{first-width}
+use Rattle.tree.specs.laws.Level.{level-range}
+use Rattle.tree.specs.laws.Range.{holds-holder}
+use Rattle.tree.specs.laws.Notify.{notifyNode}
+use Rattle.tree.specs.laws.Check.{checkPlace, check-all}
+use Rattle.tree.specs.laws.Meeting.{meeting}
+use Rattle.cover.specs.rules.Cover.{In}
+use Rattle.cover.specs.laws.Overlap.{overlap}
 use Rattle.lock.specs.declared.Record.{Record}
 use Rattle.lock.specs.declared.Settings.{Settings}
-use Rattle.lock.specs.rules.Types.{pieces, pieceAt, wordAt}
+use Rattle.lock.specs.rules.Records.{pieces, pieceAt, wordAt}
 use Rattle.lock.specs.rules.Table.{State, Call, recordAt, openingNumber, opened, opening}
 use Rattle.lock.specs.rules.History.{run, CleanInner, Clean, Demand3}
-use Rattle.lock.specs.claim.Told.{holds-record, all-idle}
+use Rattle.lock.specs.claim.HistoryRecord.{holds-record, all-idle}
 use Rattle.lock.specs.claim.Owned.{owns, ownsUnit, ownsNotice}
 use Rattle.lock.specs.claim.Fit.{Live, covers, live-apart}
 use Rattle.lock.specs.claim.Effect.{inWindow}
-use Rattle.lock.specs.claim.Kept.{nobody, ticketOf}
-use Rattle.lock.specs.claim.Bits.{in-window}
+use Rattle.lock.specs.claim.InnerWords.{nobody, ticketOf}
+use Rattle.lock.specs.claim.LeafWords.{in-window}
 use Rattle.lock.specs.claim.Stage.{phaseAt, stage-before, stage-current, checked-all, stage-owns}
 use Rattle.lock.specs.claim.Invariant.{Invariant}
 use Rattle.lock.specs.claim.Forward.{Empty, empty-owns, empty-unit, empty-notice, fresh-empty}
@@ -53,7 +53,7 @@ module _ (s : Settings) (st : State) (inv : Invariant s st) where
 
   -- a client that holds
   record Held (c u : ℕ) : Type 0 where
-    live : Live s (st .clock) (recordAt st c)
+    live : Live s (recordAt st c) (st .clock)
     phase : recordAt st c .phase ≡ 9
     low : recordAt st c .left ≤ u
     high : u < recordAt st c .right
@@ -92,8 +92,8 @@ module _ (s : Settings) (st : State) (inv : Invariant s st) where
       let a = pieceAt (recordAt st c) i in
       let b = pieceAt (recordAt st d) j in
       let g = inv .settled in
-      let na = live-apart s (st .clock) (recordAt st c) (v .live) .node i bi in
-      let nb = live-apart s (st .clock) (recordAt st d) (w .live) .node j bj in
+      let na = live-apart s (recordAt st c) (st .clock) (v .live) .node i bi in
+      let nb = live-apart s (recordAt st d) (st .clock) (w .live) .node j bj in
       let meet = meeting h m a b (g .levels-most) (g .distance-some) (g .distance-most) nb (na .some) above in
       let place = check-all a (na .some) h m (g .distance-some) (notifyNode m b (meet .place)) (meet .checked) in
       let ti = taken c u v i bi in
@@ -109,9 +109,9 @@ module _ (s : Settings) (st : State) (inv : Invariant s st) where
       let a = pieceAt (recordAt st c) i in
       let ti = taken c u v i bi in
       let tj = taken d u w j bj in
-      let mine : owns s 3 a (recordAt st c) ≡ 1 = stage-owns s (st .clock) (recordAt st c) (v .live) i (omega arith) (omega arith) in
-      let other : owns s 3 a (recordAt st d) ≡ 1 = ap (λ (x : ℕ). owns s 3 x (recordAt st d)) e ∙ stage-owns s (st .clock) (recordAt st d) (w .live) j (omega arith) (omega arith) in
-      let node = live-apart s (st .clock) (recordAt st c) (v .live) .node i bi in
+      let mine : owns s 3 a (recordAt st c) ≡ 1 = stage-owns s (recordAt st c) (st .clock) (v .live) i (omega arith) (omega arith) in
+      let other : owns s 3 a (recordAt st d) ≡ 1 = ap (λ (x : ℕ). owns s 3 x (recordAt st d)) e ∙ stage-owns s (recordAt st d) (st .clock) (w .live) j (omega arith) (omega arith) in
+      let node = live-apart s (recordAt st c) (st .clock) (v .live) .node i bi in
       by-eq (level a) h
       (λ l. let is : leaf h u ≡ a = ap (λ (x : ℕ). climb x (leaf h u)) (let z : 0 ≡ h - level a = omega arith in z) ∙ holds-holder h a node u hold in
       let unit : (r : Record) → r .left ≤ u → u < r .right → owns s 3 a r ≡ 1 → ownsUnit s u r ≡ 1 = λ r x y o. in-window r u (owns s 3 (leaf h u) r) x y ∙ ap (λ (k : ℕ). owns s 3 k r) is ∙ o in

@@ -6,9 +6,9 @@ use mathlib.Core.Bool.{true}
 use Prim.Native.Nat.{ℕ, suc, _≤_}
 use native.Mathlib.Omega.{arith}
 use lib.Dec.{leb, ltb}
-use Rattle.base.specs.Choice.{choose}
-use Rattle.word.specs.Word.{tcnt, tmax, addOcc, addTcnt, addTmax, addDcnt, addDmax, takeBits, giveBits, returnOcc}
-use Rattle.tree.specs.Tree.{leaf, level, left}
+use Rattle.base.specs.rules.Choice.{choose}
+use Rattle.word.specs.rules.Word.{tcnt, tmax, addOcc, addTcnt, addTmax, addDcnt, addDmax, takeBits, giveBits, returnOcc}
+use Rattle.tree.specs.rules.Tree.{leaf, level, left}
 use Rattle.lock.specs.declared.Record.{Record}
 use Rattle.lock.specs.declared.Settings.{Settings}
 use Rattle.lock.specs.rules.Steps.{wanted}

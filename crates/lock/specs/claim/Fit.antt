@@ -7,26 +7,27 @@ use Prim.Native.Nat.{ℕ, zero, suc, _≤_, _<_}
 use native.Mathlib.Omega.{arith}
 use lib.Dec.{eqb, leb, eqb→eq}
 use lib.ListN.{length, getD}
-use Rattle.base.specs.Choice.{choose, on-choose, choose-eq, choose-ne, by-lt}
-use Rattle.base.specs.Sum.{sumTo, to-only, to-le, to-once}
-use Rattle.tree.specs.Tree.{level, left, Node}
-use Rattle.tree.specs.Lists.{notifyList}
-use Rattle.tree.specs.Level.{level-pos}
-use Rattle.tree.specs.Notify.{notifyCount, Bounded, notify-count, notify-place, notify-once}
-use Rattle.cover.specs.Cover.{Covers, Rising}
-use Rattle.cover.specs.Search.{leastCover}
-use Rattle.cover.specs.Lowest.{Window}
-use Rattle.cover.specs.Least.{least-cover}
+use Rattle.base.specs.rules.Choice.{choose}
+use Rattle.base.specs.laws.ChoiceLaws.{on-choose, choose-eq, choose-ne, by-lt}
+use Rattle.base.specs.laws.Sum.{sumTo, to-only, to-le, to-once}
+use Rattle.tree.specs.rules.Tree.{level, left, Node}
+use Rattle.tree.specs.rules.Lists.{notifyList}
+use Rattle.tree.specs.laws.Level.{level-pos}
+use Rattle.tree.specs.laws.Notify.{notifyCount, Bounded, notify-count, notify-place, notify-once}
+use Rattle.cover.specs.rules.Cover.{Covers, Rising}
+use Rattle.cover.specs.rules.Search.{leastCover}
+use Rattle.cover.specs.laws.Lowest.{Window}
+use Rattle.cover.specs.laws.Least.{least-cover}
 use Rattle.lock.specs.declared.Record.{Record}
 use Rattle.lock.specs.declared.Settings.{Settings}
-use Rattle.lock.specs.rules.Types.{pieces, pieceAt, currentPiece, idleWith}
+use Rattle.lock.specs.rules.Records.{pieces, pieceAt, currentPiece, idleWith}
 use Rattle.lock.specs.laws.Pieces.{notices-before, notices-current}
 use Rattle.lock.specs.laws.Active.{Settled}
 use Rattle.lock.specs.laws.ActiveLaws.{in-at}
 use Rattle.lock.specs.claim.Owned.{returned, gripped, noticed, reaches, owns, outstanding, ownsNotice, noticed-begun, noticed-none}
 
 -- a record that is not idle
-pub record Live (s : Settings) (last : ℕ) (r : Record) : Type 0 where
+pub record Live (s : Settings) (r : Record) (last : ℕ) : Type 0 where
   pub window : Window (s .levels) (r .left) (r .right)
   pub cover : pieces r ≡ leastCover 2 (s .levels) (r .left) (r .right)
   pub exists : r .current < length (pieces r)
@@ -38,8 +39,8 @@ pub record Live (s : Settings) (last : ℕ) (r : Record) : Type 0 where
   pub whole : r .phase ≡ 9 → length (pieces r) ≤ suc (r .current)
   pub t1-past : r .t1 ≤ last
 
-abbrev pub Fit : Settings → ℕ → Record → Type 0
-Fit s last r = (r ≡ idleWith (r .outcome)) ⊎ Live s last r
+abbrev pub Fit : Settings → Record → ℕ → Type 0
+Fit s r last = (r ≡ idleWith (r .outcome)) ⊎ Live s r last
 
 -- ---- the pieces of a cover
 
@@ -127,7 +128,7 @@ module _ (s : Settings) (r : Record) (v : Apart s r) where
 
 -- ---- a record that fits
 
-module _ (s : Settings) (last : ℕ) (r : Record) (v : Live s last r) where
+module _ (s : Settings) (r : Record) (last : ℕ) (v : Live s r last) where
   pub live-apart : Apart s r
   live-apart = covered-apart s r (v .window) (v .cover)
 
@@ -141,11 +142,11 @@ module _ (s : Settings) (last : ℕ) (r : Record) (v : Live s last r) where
       let f : length (notifyList (s .distance) (pieceAt r i)) ≡ length (notifyList (s .distance) (currentPiece r)) = ap (λ (j : ℕ). length (notifyList (s .distance) (pieceAt r j))) e in
       omega (arith, noticed-begun s r i q, notices-current r i s l, v .listed)))
 
-pub fit-past : (s : Settings) (last : ℕ) (r : Record) → Fit s last r → r .t1 ≤ last
-fit-past s last r v = ⊎-elim (λ e. omega (arith, ap (λ x. x .t1) e)) (λ l. l .t1-past) v
+pub fit-past : (s : Settings) (r : Record) (last : ℕ) → Fit s r last → r .t1 ≤ last
+fit-past s r last v = ⊎-elim (λ e. omega (arith, ap (λ x. x .t1) e)) (λ l. l .t1-past) v
 
-pub fit-later : (s : Settings) (last now : ℕ) (r : Record) → last ≤ now → Fit s last r → Fit s now r
-fit-later s last now r b v =
+pub fit-later : (s : Settings) (r : Record) (last now : ℕ) → last ≤ now → Fit s r last → Fit s r now
+fit-later s r last now b v =
     ⊎-elim inl
     (λ l. inr (record {
       window = l .window;

@@ -6,12 +6,13 @@ use Prim.Native.Nat.{ℕ, suc, _+_, _≤_, _<_}
 use native.Mathlib.Omega.{arith}
 use lib.Dec.{eqb, leb, ltb}
 use lib.ListN.{length, getD}
-use Rattle.base.specs.Choice.{choose, on-choose, by-lt, by-eq}
-use Rattle.base.specs.Sum.{sumTo, to-same, to-zero}
-use Rattle.tree.specs.Lists.{notifyList}
+use Rattle.base.specs.rules.Choice.{choose}
+use Rattle.base.specs.laws.ChoiceLaws.{on-choose, by-lt, by-eq}
+use Rattle.base.specs.laws.Sum.{sumTo, to-same, to-zero}
+use Rattle.tree.specs.rules.Lists.{notifyList}
 use Rattle.lock.specs.declared.Record.{Record}
 use Rattle.lock.specs.declared.Settings.{Settings}
-use Rattle.lock.specs.rules.Types.{pieces, pieceAt, currentPiece}
+use Rattle.lock.specs.rules.Records.{pieces, pieceAt, currentPiece}
 use Rattle.lock.specs.laws.Pieces.{grip-before, grip-current, grip-after, notices-before, notices-current}
 use Rattle.lock.specs.claim.Owned.{returned, gripped, noticed, owns, ownsUnit, outstanding, ownsNotice, reaches-no, returned-none, returned-here, returned-after, gripped-kept, noticed-begun, noticed-none}
 use Rattle.lock.specs.claim.Fit.{Apart}

@@ -7,24 +7,24 @@ use native.Mathlib.Decide.{ℕ-discrete}
 use native.Mathlib.Omega.{arith}
 use lib.ListN.{length, getD, set, length-set}
 use lib.Seq.{getD-set-same, getD-set-other}
-use Rattle.base.specs.Sum.{on-set}
-use Rattle.word.specs.Word.{takeBits, giveBits}
-use Rattle.word.specs.Leaf.{wanted-lt}
-use Rattle.word.specs.Swap.{take-lt, give-lt}
-use Rattle.tree.specs.Tree.{level, left, leaf, units, wordCount, Node}
-use Rattle.tree.specs.Level.{node-counted}
-use Rattle.tree.specs.Range.{leaf-level, leaf-some}
+use Rattle.base.specs.laws.Sum.{on-set}
+use Rattle.word.specs.rules.Word.{takeBits, giveBits}
+use Rattle.word.specs.laws.Leaf.{wanted-lt}
+use Rattle.word.specs.laws.Swap.{take-lt, give-lt}
+use Rattle.tree.specs.rules.Tree.{level, left, leaf, units, wordCount, Node}
+use Rattle.tree.specs.laws.Level.{node-counted}
+use Rattle.tree.specs.laws.Range.{leaf-level, leaf-some}
 use Rattle.lock.specs.declared.Record.{Record}
 use Rattle.lock.specs.declared.Settings.{Settings}
-use Rattle.lock.specs.rules.Types.{wordAt, written}
+use Rattle.lock.specs.rules.Records.{wordAt, written}
 use Rattle.lock.specs.rules.Table.{State, recordAt}
 use Rattle.lock.specs.laws.Active.{Settled}
 use Rattle.lock.specs.rules.Steps.{wanted}
 use Rattle.lock.specs.claim.Owned.{owns-falls}
 use Rattle.lock.specs.claim.Fit.{Fit, fit-past, fit-later}
 use Rattle.lock.specs.claim.Effect.{Grips, Notices, Effect, quiet, drew, turned, claimed, freed, passed, notified, unnotified, took, gave}
-use Rattle.lock.specs.claim.Kept.{nobody, Kept, kept-same, kept-drew, kept-turned, kept-claimed, kept-freed, kept-passed, kept-notified, kept-unnotified}
-use Rattle.lock.specs.claim.Bits.{Bit, bit-same, bit-took, bit-gave}
+use Rattle.lock.specs.claim.InnerWords.{nobody, InnerWord, inner-same, inner-drew, inner-turned, inner-claimed, inner-freed, inner-passed, inner-notified, inner-unnotified}
+use Rattle.lock.specs.claim.LeafWords.{LeafBit, leaf-same, leaf-took, leaf-gave}
 use Rattle.lock.specs.claim.Timed.{Timed, Timely, timed-later, timed-above, timed-below}
 
 pub record Invariant (s : Settings) (st : State) : Type 0 where
@@ -32,14 +32,14 @@ pub record Invariant (s : Settings) (st : State) : Type 0 where
   pub count : length (st .words) ≡ wordCount (s .levels)
   pub few : length (st .records) ≤ 32767
   -- every record is idle or fits its phase
-  pub fit : (c : ℕ) → Fit s (st .clock) (recordAt st c)
+  pub fit : (c : ℕ) → Fit s (recordAt st c) (st .clock)
   -- every inner word holds what the records own of it
-  pub inner : (n : ℕ) → Node (s .levels) n → level n ≢ s .levels → Kept s n (wordAt (st .words) n) (st .records)
+  pub inner : (n : ℕ) → Node (s .levels) n → level n ≢ s .levels → InnerWord s (st .records) n (wordAt (st .words) n)
   -- so does every leaf word, which has 64 bits
   pub small : (n : ℕ) → Node (s .levels) n → level n ≡ s .levels → wordAt (st .words) n < 2 ^ 64
-  pub bits : (u : ℕ) → u < units (s .levels) → Bit s u (wordAt (st .words) (leaf (s .levels) u)) (st .records)
+  pub bits : (u : ℕ) → u < units (s .levels) → LeafBit s (st .records) u (wordAt (st .words) (leaf (s .levels) u))
   -- and what is known of two different clients
-  pub timed : (c d : ℕ) → c ≢ d → Timed s (st .clock) (recordAt st c) (recordAt st d)
+  pub timed : (c d : ℕ) → c ≢ d → Timed s (recordAt st c) (recordAt st d) (st .clock)
 
 -- ---- one word written
 
@@ -70,17 +70,17 @@ module _ (s : Settings) (st : State) (inv : Invariant s st) (c : ℕ) (client : 
   r = recordAt st c
 
   -- an inner word that is not touched
-  else-kept : (n : ℕ) → Node (s .levels) n → level n ≢ s .levels → n ≢ x → Kept s n (wordAt (st .words) n) (set rs c q)
+  else-kept : (n : ℕ) → Node (s .levels) n → level n ≢ s .levels → n ≢ x → InnerWord s (set rs c q) n (wordAt (st .words) n)
   unfolding recordAt
   else-kept n a b d =
       let w = wordAt (st .words) n in
       let k = inv .inner n a b in
-      let grips : (from to : ℕ) → Grips s r q x from to → Kept s n w (set rs c q)
-      = λ from to g. kept-same s n (a .some) w rs k c q client (g .else 1 n (omega arith) (a .some) d) (g .else 2 n (omega arith) (a .some) d) (g .else 3 n (omega arith) (a .some) d) (g .notices n (a .some)) (g .drawn n (a .some) d) in
-      let notes : Notices s r q x → Kept s n w (set rs c q)
-      = λ g. kept-same s n (a .some) w rs k c q client (g .owned 1 n (omega arith) (a .some)) (g .owned 2 n (omega arith) (a .some)) (g .owned 3 n (omega arith) (a .some)) (g .else n (a .some) d) (g .drawn n (a .some)) in
+      let grips : (from to : ℕ) → Grips s r q x from to → InnerWord s (set rs c q) n w
+      = λ from to g. inner-same s n (a .some) w rs k c q client (g .else 1 n (omega arith) (a .some) d) (g .else 2 n (omega arith) (a .some) d) (g .else 3 n (omega arith) (a .some) d) (g .notices n (a .some)) (g .drawn n (a .some) d) in
+      let notes : Notices s r q x → InnerWord s (set rs c q) n w
+      = λ g. inner-same s n (a .some) w rs k c q client (g .owned 1 n (omega arith) (a .some)) (g .owned 2 n (omega arith) (a .some)) (g .owned 3 n (omega arith) (a .some)) (g .else n (a .some) d) (g .drawn n (a .some)) in
       elim e [
-        | quiet i g ↦ kept-same s n (a .some) w rs k c q client (g .owned 1 n (omega arith) (a .some)) (g .owned 2 n (omega arith) (a .some)) (g .owned 3 n (omega arith) (a .some)) (g .notices n (a .some)) (g .drawn n (a .some))
+        | quiet i g ↦ inner-same s n (a .some) w rs k c q client (g .owned 1 n (omega arith) (a .some)) (g .owned 2 n (omega arith) (a .some)) (g .owned 3 n (omega arith) (a .some)) (g .notices n (a .some)) (g .drawn n (a .some))
         | drew i g t j ↦ grips 0 1 g
         | turned i g t j ↦ grips 1 2 g
         | claimed i g j ↦ grips 2 3 g
@@ -93,20 +93,20 @@ module _ (s : Settings) (st : State) (inv : Invariant s st) (c : ℕ) (client : 
       ]
 
   -- the inner word that is touched
-  here-kept : Node (s .levels) x → level x ≢ s .levels → Kept s x v (set rs c q)
+  here-kept : Node (s .levels) x → level x ≢ s .levels → InnerWord s (set rs c q) x v
   unfolding recordAt
   here-kept a b =
       let w = wordAt (st .words) x in
       let k = inv .inner x a b in
       elim e [
-        | quiet i g ↦ rw i (kept-same s x (a .some) w rs k c q client (g .owned 1 x (omega arith) (a .some)) (g .owned 2 x (omega arith) (a .some)) (g .owned 3 x (omega arith) (a .some)) (g .notices x (a .some)) (g .drawn x (a .some)))
-        | drew i g t j ↦ rw j (kept-drew s x (a .some) w rs k c q client 0 1 g (inv .few) refl refl t)
-        | turned i g t j ↦ rw j (kept-turned s x (a .some) w rs k c q client 1 2 g refl refl t)
-        | claimed i g j ↦ rw j (kept-claimed s x (a .some) w rs k c q client 2 3 g (λ d. owns-falls s 2 x (getD rs d nobody)) (λ d. owns-falls s 1 x (getD rs d nobody)) refl refl)
-        | freed i g j ↦ rw j (kept-freed s x (a .some) w rs k c q client 3 0 g refl refl)
-        | passed i g j ↦ rw j (kept-passed s x (a .some) w rs k c q client 2 0 g refl refl)
-        | notified i g t j ↦ rw j (kept-notified s x (a .some) w rs k c q client g t)
-        | unnotified i g t j ↦ rw j (kept-unnotified s x (a .some) w rs k c q client g t)
+        | quiet i g ↦ rw i (inner-same s x (a .some) w rs k c q client (g .owned 1 x (omega arith) (a .some)) (g .owned 2 x (omega arith) (a .some)) (g .owned 3 x (omega arith) (a .some)) (g .notices x (a .some)) (g .drawn x (a .some)))
+        | drew i g t j ↦ rw j (inner-drew s x (a .some) w rs k c q client 0 1 g (inv .few) refl refl t)
+        | turned i g t j ↦ rw j (inner-turned s x (a .some) w rs k c q client 1 2 g refl refl t)
+        | claimed i g j ↦ rw j (inner-claimed s x (a .some) w rs k c q client 2 3 g (λ d. owns-falls s 2 x (getD rs d nobody)) (λ d. owns-falls s 1 x (getD rs d nobody)) refl refl)
+        | freed i g j ↦ rw j (inner-freed s x (a .some) w rs k c q client 3 0 g refl refl)
+        | passed i g j ↦ rw j (inner-passed s x (a .some) w rs k c q client 2 0 g refl refl)
+        | notified i g t j ↦ rw j (inner-notified s x (a .some) w rs k c q client g t)
+        | unnotified i g t j ↦ rw j (inner-unnotified s x (a .some) w rs k c q client g t)
         | took i p g t j ↦ absurd (b i)
         | gave i p g t j ↦ absurd (b i)
       ]
@@ -115,10 +115,10 @@ module _ (s : Settings) (st : State) (inv : Invariant s st) (c : ℕ) (client : 
   levels-some = omega (arith, inv .settled .levels-some)
 
   -- a unit of a leaf that is not touched
-  else-bit : (u : ℕ) → u < units (s .levels) → leaf (s .levels) u ≢ x → Bit s u (wordAt (st .words) (leaf (s .levels) u)) (set rs c q)
+  else-bit : (u : ℕ) → u < units (s .levels) → leaf (s .levels) u ≢ x → LeafBit s (set rs c q) u (wordAt (st .words) (leaf (s .levels) u))
   unfolding recordAt
   else-bit u f d =
-      let same = bit-same s u levels-some f (wordAt (st .words) (leaf (s .levels) u)) rs (inv .bits u f) c q client in
+      let same = leaf-same s u levels-some f (wordAt (st .words) (leaf (s .levels) u)) rs (inv .bits u f) c q client in
       elim e [
         | quiet i g ↦ same (g .units u)
         | drew i g t j ↦ same (g .units u d)
@@ -133,14 +133,14 @@ module _ (s : Settings) (st : State) (inv : Invariant s st) (c : ℕ) (client : 
       ]
 
   -- a unit of the leaf that is touched
-  here-bit : (u : ℕ) → u < units (s .levels) → leaf (s .levels) u ≡ x → Bit s u v (set rs c q)
+  here-bit : (u : ℕ) → u < units (s .levels) → leaf (s .levels) u ≡ x → LeafBit s (set rs c q) u v
   unfolding recordAt
   here-bit u f z =
       let w = wordAt (st .words) x in
-      let k : Bit s u w rs = subst (λ (n : ℕ). Bit s u (wordAt (st .words) n) rs) z (inv .bits u f) in
-      let inner : level x ≢ s .levels → Bit s u v (set rs c q) = λ d. absurd (d (ap level (sym z) ∙ leaf-level (s .levels) u levels-some f)) in
+      let k : LeafBit s rs u w = subst (λ (n : ℕ). LeafBit s rs u (wordAt (st .words) n)) z (inv .bits u f) in
+      let inner : level x ≢ s .levels → LeafBit s (set rs c q) u v = λ d. absurd (d (ap level (sym z) ∙ leaf-level (s .levels) u levels-some f)) in
       elim e [
-        | quiet i g ↦ rw i (bit-same s u levels-some f w rs k c q client (g .units u))
+        | quiet i g ↦ rw i (leaf-same s u levels-some f w rs k c q client (g .units u))
         | drew i g t j ↦ inner i
         | turned i g t j ↦ inner i
         | claimed i g j ↦ inner i
@@ -148,8 +148,8 @@ module _ (s : Settings) (st : State) (inv : Invariant s st) (c : ℕ) (client : 
         | passed i g j ↦ inner i
         | notified i g t j ↦ inner i
         | unnotified i g t j ↦ inner i
-        | took i p g t j ↦ rw j (subst (λ (n : ℕ). Bit s u (takeBits (wanted s r n) w .word) (set rs c q)) z (bit-took s u levels-some f w rs k c q client (rw z p) (rw z g) (rw z t)))
-        | gave i p g t j ↦ rw j (subst (λ (n : ℕ). Bit s u (giveBits (wanted s r n) w .word) (set rs c q)) z (bit-gave s u levels-some f w rs k c q client (rw z p) (rw z g) (rw z t)))
+        | took i p g t j ↦ rw j (subst (λ (n : ℕ). LeafBit s (set rs c q) u (takeBits (wanted s r n) w .word)) z (leaf-took s u levels-some f w rs k c q client (rw z p) (rw z g) (rw z t)))
+        | gave i p g t j ↦ rw j (subst (λ (n : ℕ). LeafBit s (set rs c q) u (giveBits (wanted s r n) w .word)) z (leaf-gave s u levels-some f w rs k c q client (rw z p) (rw z g) (rw z t)))
       ]
 
   -- a leaf word that is touched still has 64 bits
@@ -180,20 +180,20 @@ module _ (s : Settings) (st : State) (inv : Invariant s st) (c : ℕ) (client : 
         | no d ↦ subst P (sym (written-other (st .words) x v n d)) (g d)
       ]
 
-  module _ (now : ℕ) (later : st .clock ≤ now) (fits : Fit s now q) (time : Timely s rs nobody now r q) where
+  module _ (now : ℕ) (later : st .clock ≤ now) (fits : Fit s q now) (time : Timely s rs nobody r q now) where
     abbrev after : State
     after = record { words = written (st .words) x v; records = set rs c q; clock = now }
 
-    two-timed : (a b : ℕ) → a ≢ b → Timed s now (recordAt after a) (recordAt after b)
+    two-timed : (a b : ℕ) → a ≢ b → Timed s (recordAt after a) (recordAt after b) now
     unfolding recordAt
     two-timed a b d =
-        on-set (λ y. Timed s now y (getD (set rs c q) b nobody)) rs c a q nobody client
-        (λ i. on-set (λ y. Timed s now q y) rs c b q nobody client
+        on-set (λ y. Timed s y (getD (set rs c q) b nobody) now) rs c a q nobody client
+        (λ i. on-set (λ y. Timed s q y now) rs c b q nobody client
         (λ j. absurd (d (i ∙ sym j)))
-        (λ j. timed-above s (inv .settled) rs nobody (st .clock) now later r q time (getD rs b nobody) (inv .fit b) (fit-past s (st .clock) (getD rs b nobody) (inv .fit b)) (λ n z. z b) (inv .timed c b (λ k. j (sym k)))))
-        (λ i. on-set (λ y. Timed s now (getD rs a nobody) y) rs c b q nobody client
-        (λ j. timed-below s (inv .settled) rs nobody (st .clock) now later r q time (getD rs a nobody) (inv .fit a) (λ n z. z a) (inv .timed a c i))
-        (λ j. timed-later s (st .clock) now (getD rs a nobody) (getD rs b nobody) later (inv .timed a b d)))
+        (λ j. timed-above s (inv .settled) rs nobody r q (st .clock) now later time (getD rs b nobody) (inv .fit b) (fit-past s (getD rs b nobody) (st .clock) (inv .fit b)) (λ n z. z b) (inv .timed c b (λ k. j (sym k)))))
+        (λ i. on-set (λ y. Timed s (getD rs a nobody) y now) rs c b q nobody client
+        (λ j. timed-below s (inv .settled) rs nobody r q (st .clock) now later time (getD rs a nobody) (inv .fit a) (λ n z. z a) (inv .timed a c i))
+        (λ j. timed-later s (getD rs a nobody) (getD rs b nobody) (st .clock) now later (inv .timed a b d)))
 
     pub effect-keeps : Invariant s after
     unfolding recordAt
@@ -201,10 +201,10 @@ module _ (s : Settings) (st : State) (inv : Invariant s st) (c : ℕ) (client : 
       settled = inv .settled;
       count = written-length (st .words) x v ∙ inv .count;
       few = rw (length-set rs c q) (inv .few);
-      fit = λ d. on-set (Fit s now) rs c d q nobody client (λ _. fits) (λ _. fit-later s (st .clock) now (getD rs d nobody) later (inv .fit d));
-      inner = λ n a b. on-word (λ w. Kept s n w (set rs c q)) n a (λ i. rw i (here-kept (rw (sym i) a) (rw (sym i) b))) (else-kept n a b);
+      fit = λ d. on-set (λ (z : Record). Fit s z now) rs c d q nobody client (λ _. fits) (λ _. fit-later s (getD rs d nobody) (st .clock) now later (inv .fit d));
+      inner = λ n a b. on-word (λ w. InnerWord s (set rs c q) n w) n a (λ i. rw i (here-kept (rw (sym i) a) (rw (sym i) b))) (else-kept n a b);
       small = λ n a b. on-word (λ w. w < 2 ^ 64) n a (λ i. here-small (rw (sym i) a) (rw (sym i) b)) (λ _. inv .small n a b);
-      bits = λ u f. on-word (λ w. Bit s u w (set rs c q)) (leaf (s .levels) u)
+      bits = λ u f. on-word (λ w. LeafBit s (set rs c q) u w) (leaf (s .levels) u)
           (record { some = leaf-some (s .levels) u levels-some f; inside = omega (arith, leaf-level (s .levels) u levels-some f) }) (here-bit u f) (else-bit u f);
       timed = two-timed;
     }

@@ -8,40 +8,41 @@ use native.Mathlib.Omega.{arith}
 use borrow.Author.Tests.{ltb-false, leb-false}
 use lib.Dec.{eqb, leb, ltb, eqb→eq}
 use lib.ListN.{length, getD}
-use Rattle.base.specs.Choice.{on-choose, by-lt}
-use Rattle.tree.specs.Tree.{units}
-use Rattle.cover.specs.Cover.{In}
-use Rattle.cover.specs.Search.{leastCover}
-use Rattle.cover.specs.Answer.{windowOutside}
-use Rattle.cover.specs.Lowest.{Window}
-use Rattle.cover.specs.Least.{least-cover}
+use Rattle.base.specs.laws.ChoiceLaws.{on-choose, by-lt}
+use Rattle.tree.specs.rules.Tree.{units}
+use Rattle.cover.specs.rules.Cover.{In}
+use Rattle.cover.specs.rules.Search.{leastCover}
+use Rattle.cover.specs.rules.Answer.{windowOutside}
+use Rattle.cover.specs.laws.Lowest.{Window}
+use Rattle.cover.specs.laws.Least.{least-cover}
 use Rattle.lock.specs.declared.Record.{Record}
 use Rattle.lock.specs.declared.Settings.{Settings}
-use Rattle.lock.specs.rules.Types.{Phase, phaseOf, pieces, pieceAt, gripOf, wordAt, written, toPhase, withOutcome, idleWith}
+use Rattle.lock.specs.rules.Records.{Phase, phaseOf, pieces, pieceAt, gripOf, wordAt, written, toPhase, withOutcome, idleWith}
 use Rattle.lock.specs.laws.Phases.{on-phase}
 use Rattle.lock.specs.laws.Pieces.{grip-before, grip-current}
-use Rattle.lock.specs.rules.Readable.{unreadable}
+use Rattle.lock.specs.rules.Unreadable.{unreadable}
 use Rattle.lock.specs.rules.Steps.{touchedIn, movedIn}
 use Rattle.lock.specs.rules.Calls.{requested, released, cancelled}
 use Rattle.lock.specs.rules.Table.{State, Call, request, step, release, cancel, clientOf, recordAt, numberOf, after, call}
 use Rattle.lock.specs.rules.History.{run}
 use Rattle.lock.specs.laws.Active.{Settled}
-use Rattle.lock.specs.laws.ActiveLaws.{both-false, pieces-are}
+use Rattle.base.specs.laws.TestLaws.{both-false}
+use Rattle.lock.specs.laws.ActiveLaws.{pieces-are}
 use Rattle.lock.specs.laws.Accepted.{accepted, request-tested, step-tested, release-tested, cancel-tested}
 use Rattle.lock.specs.laws.Ready.{Ready, ready}
 use Rattle.lock.specs.claim.Fit.{Live}
 use Rattle.lock.specs.claim.Effect.{quiet}
-use Rattle.lock.specs.claim.Kept.{nobody}
+use Rattle.lock.specs.claim.InnerWords.{nobody}
 use Rattle.lock.specs.claim.Invariant.{Invariant}
 use Rattle.lock.specs.claim.Forward.{kin, entering-unreturned, Empty, empty-same, fresh-empty}
 use Rattle.lock.specs.claim.Onward.{live-kin, timely-returning, timely-first}
-use Rattle.lock.specs.claim.Fine.{Fine, fine-keeps, fine-stay, fine-quiet, occ-none, notice-none}
+use Rattle.lock.specs.claim.Keeps.{Keeps, keeps-invariant, keeps-stay, keeps-quiet, occ-none, notice-none}
 use Rattle.lock.specs.claim.Taking.{start-low}
-use Rattle.lock.specs.claim.Climbing.{ticket-fine, turn-fine, ancestor-node, blocked-fine, climb-fine}
-use Rattle.lock.specs.claim.Claiming.{claim-fine}
-use Rattle.lock.specs.claim.Notifying.{notify-fine}
-use Rattle.lock.specs.claim.Checking.{wait-fine, checked-node, check-fine}
-use Rattle.lock.specs.claim.Returning.{returning-fine}
+use Rattle.lock.specs.claim.Climbing.{ticket-keeps, turn-keeps, ancestor-node, blocked-keeps, climb-keeps}
+use Rattle.lock.specs.claim.Claiming.{claim-keeps}
+use Rattle.lock.specs.claim.Notifying.{notify-keeps}
+use Rattle.lock.specs.claim.Checking.{wait-keeps, checked-node, check-keeps}
+use Rattle.lock.specs.claim.Returning.{returning-keeps}
 
 -- ---- request: an idle record gets a window
 
@@ -57,7 +58,7 @@ module _ (s : Settings) (g : Settled s) (l r : ℕ) (inside : windowOutside (s .
   some-piece n [] i = absurd i
   some-piece n (m ∷ c) i = omega arith
 
-  requested-live : (now : ℕ) → Live s now (requested s l r)
+  requested-live : (now : ℕ) → Live s (requested s l r) now
   unfolding requested
   requested-live now =
       let q = requested s l r in
@@ -80,38 +81,38 @@ module _ (s : Settings) (g : Settled s) (l r : ℕ) (inside : windowOutside (s .
         t1-past = omega arith;
       }
 
-  pub request-fine : (rs : List Record) (now : ℕ) (r′ : Record) → Empty s r′ → (w : ℕ) → Fine s rs now r′ 0 w w (requested s l r)
+  pub request-keeps : (rs : List Record) (r′ : Record) (now : ℕ) → Empty s r′ → (w : ℕ) → Keeps s rs r′ 0 w w (requested s l r) now
   unfolding requested
-  request-fine rs now r′ v w =
+  request-keeps rs r′ now v w =
       let q = requested s l r in
       let low = start-low s (getD (leastCover 2 (s .levels) l r) 0 0) in
       record {
         node = λ d. absurd (d refl);
         effect = quiet refl (empty-same s r′ q v (fresh-empty s q (λ e. omega (arith, low .1)) refl refl refl));
         fits = inr (requested-live now);
-        time = timely-first s rs nobody now r′ q refl (low .1) (λ _. refl);
+        time = timely-first s rs nobody r′ now q refl (low .1) (λ _. refl);
       }
 
 -- ---- release and cancel: a record begins to return
 
-module _ (s : Settings) (rs : List Record) (now : ℕ) (r : Record) (rd : Ready s now r) (lv : Live s now r) (ahead : r .phase ≢ 10) (w : ℕ) where
-  returns : (o : ℕ) → Fine s rs now r 0 w w (toPhase 10 (withOutcome o r))
+module _ (s : Settings) (rs : List Record) (r : Record) (now : ℕ) (rd : Ready s r now) (lv : Live s r now) (ahead : r .phase ≢ 10) (w : ℕ) where
+  returns : (o : ℕ) → Keeps s rs r 0 w w (toPhase 10 (withOutcome o r)) now
   unfolding pieces pieceAt
   returns o =
       let q = toPhase 10 (withOutcome o r) in
       let k = kin r q refl refl refl refl in
-      fine-quiet s rs now r q 0 w (λ d. absurd (d refl)) k refl ahead (entering-unreturned s q refl (rd .no-giving ahead) refl) refl refl refl
-      (live-kin s now now r q (omega arith) lv k (lv .exists) (omega arith) (omega arith) (λ _ a. absurd (omega arith)) (λ _ a. absurd (omega arith)) (lv .listed) (λ f. absurd (omega arith)) (lv .t1-past))
-      (timely-returning s rs nobody now r q refl)
+      keeps-quiet s rs r q 0 w now (λ d. absurd (d refl)) k refl ahead (entering-unreturned s q refl (rd .no-giving ahead) refl) refl refl refl
+      (live-kin s r q now now (omega arith) lv k (lv .exists) (omega arith) (omega arith) (λ _ a. absurd (omega arith)) (λ _ a. absurd (omega arith)) (lv .listed) (λ f. absurd (omega arith)) (lv .t1-past))
+      (timely-returning s rs nobody r now q refl)
 
-  pub release-fine : Fine s rs now r 0 w w (released r)
+  pub release-keeps : Keeps s rs r 0 w w (released r) now
   unfolding released
-  release-fine = returns 1
+  release-keeps = returns 1
 
-  pub cancel-fine : Fine s rs now r 0 w w (cancelled r)
+  pub cancel-keeps : Keeps s rs r 0 w w (cancelled r) now
   unfolding cancelled
-  cancel-fine =
-      on-choose (λ q. Fine s rs now r 0 w w q) (eqb (gripOf r 0) 0) (idleWith 3) (toPhase 10 (withOutcome 3 r))
+  cancel-keeps =
+      on-choose (λ q. Keeps s rs r 0 w w q now) (eqb (gripOf r 0) 0) (idleWith 3) (toPhase 10 (withOutcome 3 r))
       (λ t. let z = eqb→eq (gripOf r 0) 0 t in
       let first : r .current ≡ 0 = by-lt 0 (r .current) (λ b. absurd (omega (arith, grip-before r 0 b))) (λ b. omega arith) in
       let none : r .grip ≡ 0 = sym (grip-current r 0 (sym first)) ∙ z in
@@ -119,7 +120,7 @@ module _ (s : Settings) (rs : List Record) (now : ℕ) (r : Record) (rd : Ready 
         node = λ d. absurd (d refl);
         effect = quiet refl (empty-same s r (idleWith 3) (fresh-empty s r ahead first none (rd .no-notices (omega arith))) (fresh-empty s (idleWith 3) (λ e. omega arith) refl refl refl));
         fits = inl refl;
-        time = timely-first s rs nobody now r (idleWith 3) refl (omega arith) (λ _. refl);
+        time = timely-first s rs nobody r now (idleWith 3) refl (omega arith) (λ _. refl);
       })
       (λ _. returns 3)
 
@@ -129,7 +130,7 @@ module _ (s : Settings) (st : State) (inv : Invariant s st) (c : ℕ) where
   abbrev r : Record
   r = recordAt st c
 
-  live : r .phase ≢ 0 → Live s (st .clock) r
+  live : r .phase ≢ 0 → Live s r (st .clock)
   live d = ⊎-elim (λ e. absurd (d (ap (λ x. x .phase) e))) (λ l. l) (inv .fit c)
 
   idle-empty : r .phase ≡ 0 → Empty s r
@@ -139,7 +140,7 @@ module _ (s : Settings) (st : State) (inv : Invariant s st) (c : ℕ) where
       (λ l. absurd (omega (arith, l .some))) (inv .fit c)
 
   -- the work of an accepted step, phase by phase
-  module _ (t : ℕ) (later : st .clock ≤ t) (u : unreadable s (st .clock) r ≡ false) where
+  module _ (t : ℕ) (later : st .clock ≤ t) (u : unreadable s r (st .clock) ≡ false) where
     abbrev rs : List Record
     rs = st .records
 
@@ -150,38 +151,38 @@ module _ (s : Settings) (st : State) (inv : Invariant s st) (c : ℕ) where
     found p = wordAt (st .words) (at p)
 
     abbrev Owed : Phase → Type 0
-    Owed p = movedIn s r (found p) t p .number ≡ 0 → Fine s rs t r (at p) (found p) (movedIn s r (found p) t p .word) (movedIn s r (found p) t p .next)
+    Owed p = movedIn s r (found p) t p .number ≡ 0 → Keeps s rs r (at p) (found p) (movedIn s r (found p) t p .word) (movedIn s r (found p) t p .next) t
 
-    prepared : r .phase ≢ 0 → Ready s (st .clock) r
-    prepared d = ready s (st .clock) r (inv .settled) u d
+    prepared : r .phase ≢ 0 → Ready s r (st .clock)
+    prepared d = ready s r (st .clock) (inv .settled) u d
 
-    stays : (w : ℕ) → Fine s rs t r 0 w w r
-    stays w = fine-stay s rs (st .clock) t r 0 w later (inv .fit c) (λ d. absurd (d refl))
+    stays : (w : ℕ) → Keeps s rs r 0 w w r t
+    stays w = keeps-stay s rs r 0 w (st .clock) t later (inv .fit c) (λ d. absurd (d refl))
 
-    step-fine : Owed (phaseOf (r .phase))
+    step-keeps : Owed (phaseOf (r .phase))
     unfolding touchedIn movedIn
-    step-fine =
+    step-keeps =
         let g = inv .settled in
         on-phase (r .phase) Owed
         (λ e _. stays _)
-        (λ e _. let d : r .phase ≢ 0 = λ z. omega arith in ticket-fine s rs (st .clock) t later r g (prepared d) (live d) _ e)
-        (λ e _. let d : r .phase ≢ 0 = λ z. omega arith in turn-fine s rs (st .clock) t later r g (prepared d) (live d) _ e)
+        (λ e _. let d : r .phase ≢ 0 = λ z. omega arith in ticket-keeps s rs r (st .clock) t later g (prepared d) (live d) _ e)
+        (λ e _. let d : r .phase ≢ 0 = λ z. omega arith in turn-keeps s rs r (st .clock) t later g (prepared d) (live d) _ e)
         (λ e _. let d : r .phase ≢ 0 = λ z. omega arith in
         let rd = prepared d in
         let b = rd .active .climbing (inl e) in
-        let n = ancestor-node s rs (st .clock) t later r g rd (live d) 0 b in
-        climb-fine s rs (st .clock) t later r g rd (live d) _ b e (λ z. occ-none s st inv _ (n .0) (n .1) z))
+        let n = ancestor-node s rs r (st .clock) t later g rd (live d) 0 b in
+        climb-keeps s rs r (st .clock) t later g rd (live d) _ b e (λ z. occ-none s st inv _ (n .0) (n .1) z))
         (λ e _. let d : r .phase ≢ 0 = λ z. omega arith in
         let rd = prepared d in
-        blocked-fine s rs (st .clock) t later r g rd (live d) _ (rd .active .climbing (inr e)) e)
-        (λ e _. let d : r .phase ≢ 0 = λ z. omega arith in claim-fine s rs (st .clock) t later r g (prepared d) (live d) _ e)
-        (λ e _. let d : r .phase ≢ 0 = λ z. omega arith in notify-fine s rs (st .clock) t later r g (prepared d) (live d) _ e)
-        (λ e _. let d : r .phase ≢ 0 = λ z. omega arith in wait-fine s rs (st .clock) t later r g (prepared d) (live d) _ e)
+        blocked-keeps s rs r (st .clock) t later g rd (live d) _ (rd .active .climbing (inr e)) e)
+        (λ e _. let d : r .phase ≢ 0 = λ z. omega arith in claim-keeps s rs r (st .clock) t later g (prepared d) (live d) _ e)
+        (λ e _. let d : r .phase ≢ 0 = λ z. omega arith in notify-keeps s rs r (st .clock) t later g (prepared d) (live d) _ e)
+        (λ e _. let d : r .phase ≢ 0 = λ z. omega arith in wait-keeps s rs r (st .clock) t later g (prepared d) (live d) _ e)
         (λ e _. let d : r .phase ≢ 0 = λ z. omega arith in
-        let n = checked-node s rs (st .clock) t later r g (prepared d) (live d) 0 e in
-        check-fine s rs (st .clock) t later r g (prepared d) (live d) _ e (λ z. notice-none s st inv _ (n .0) (n .1) z))
+        let n = checked-node s rs r (st .clock) t later g (prepared d) (live d) 0 e in
+        check-keeps s rs r (st .clock) t later g (prepared d) (live d) _ e (λ z. notice-none s st inv _ (n .0) (n .1) z))
         (λ e _. stays _)
-        (λ e. let d : r .phase ≢ 0 = λ z. omega arith in returning-fine s rs (st .clock) t later r g (prepared d) (live d) e (wordAt (st .words)))
+        (λ e. let d : r .phase ≢ 0 = λ z. omega arith in returning-keeps s rs r (st .clock) t later g (prepared d) (live d) e (wordAt (st .words)))
         (λ b _. stays _)
 
 -- what an accepted call leaves has the invariant
@@ -190,23 +191,23 @@ unfolding after written clientOf
 accepted-keeps s st inv (request c l r) e =
     let a = accepted s st (request c l r) e in
     let b = request-tested s st c l r (a .own) in
-    fine-keeps s st c (st .clock) 0 (wordAt (st .words) 0) (requested s l r) inv (a .client) (omega arith)
-    (request-fine s (inv .settled) l r (b .1) (st .records) (st .clock) (recordAt st c) (idle-empty s st inv c (b .2)) (wordAt (st .words) 0))
+    keeps-invariant s st c 0 (wordAt (st .words) 0) (requested s l r) (st .clock) inv (a .client) (omega arith)
+    (request-keeps s (inv .settled) l r (b .1) (st .records) (recordAt st c) (st .clock) (idle-empty s st inv c (b .2)) (wordAt (st .words) 0))
 accepted-keeps s st inv (step c t) e =
     let a = accepted s st (step c t) e in
     let b = step-tested s st c t (a .own) in
-    fine-keeps s st c t _ _ _ inv (a .client) (b .0) (step-fine s st inv c t (b .0) (b .1) (b .2))
+    keeps-invariant s st c _ _ _ t inv (a .client) (b .0) (step-keeps s st inv c t (b .0) (b .1) (b .2))
 accepted-keeps s st inv (release c) e =
     let a = accepted s st (release c) e in
     let b = release-tested s st c (a .own) in
     let d : recordAt st c .phase ≢ 0 = λ z. omega (arith, b .1) in
-    fine-keeps s st c (st .clock) 0 (wordAt (st .words) 0) (released (recordAt st c)) inv (a .client) (omega arith)
-    (release-fine s (st .records) (st .clock) (recordAt st c) (ready s (st .clock) (recordAt st c) (inv .settled) (b .0) d) (live s st inv c d) (λ z. omega (arith, b .1)) (wordAt (st .words) 0))
+    keeps-invariant s st c 0 (wordAt (st .words) 0) (released (recordAt st c)) (st .clock) inv (a .client) (omega arith)
+    (release-keeps s (st .records) (recordAt st c) (st .clock) (ready s (recordAt st c) (st .clock) (inv .settled) (b .0) d) (live s st inv c d) (λ z. omega (arith, b .1)) (wordAt (st .words) 0))
 accepted-keeps s st inv (cancel c) e =
     let a = accepted s st (cancel c) e in
     let b = cancel-tested s st c (a .own) in
-    fine-keeps s st c (st .clock) 0 (wordAt (st .words) 0) (cancelled (recordAt st c)) inv (a .client) (omega arith)
-    (cancel-fine s (st .records) (st .clock) (recordAt st c) (ready s (st .clock) (recordAt st c) (inv .settled) (b .0) (b .1)) (live s st inv c (b .1)) (b .3) (wordAt (st .words) 0))
+    keeps-invariant s st c 0 (wordAt (st .words) 0) (cancelled (recordAt st c)) (st .clock) inv (a .client) (omega arith)
+    (cancel-keeps s (st .records) (recordAt st c) (st .clock) (ready s (recordAt st c) (st .clock) (inv .settled) (b .0) (b .1)) (live s st inv c (b .1)) (b .3) (wordAt (st .words) 0))
 
 pub call-keeps : (s : Settings) (st : State) → Invariant s st → (k : Call) → Invariant s (call s st k .state)
 unfolding call

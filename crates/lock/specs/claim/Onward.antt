@@ -5,13 +5,13 @@ use mathlib.Core.List.{List}
 use Prim.Native.Nat.{ℕ, suc, _-_, _≤_, _<_}
 use native.Mathlib.Omega.{arith}
 use lib.ListN.{length, getD}
-use Rattle.base.specs.Choice.{by-lt, by-eq}
-use Rattle.tree.specs.Tree.{climb, level}
-use Rattle.tree.specs.Check.{checkCount, checkNode}
-use Rattle.tree.specs.Lists.{notifyList}
+use Rattle.base.specs.laws.ChoiceLaws.{by-lt, by-eq}
+use Rattle.tree.specs.rules.Tree.{climb, level}
+use Rattle.tree.specs.laws.Check.{checkCount, checkNode}
+use Rattle.tree.specs.rules.Lists.{notifyList}
 use Rattle.lock.specs.declared.Record.{Record}
 use Rattle.lock.specs.declared.Settings.{Settings}
-use Rattle.lock.specs.rules.Types.{pieces, pieceAt, currentPiece}
+use Rattle.lock.specs.rules.Records.{pieces, pieceAt, currentPiece}
 use Rattle.lock.specs.claim.Owned.{owns, ownsNotice}
 use Rattle.lock.specs.claim.Fit.{Live}
 use Rattle.lock.specs.claim.Forward.{Kin}
@@ -24,10 +24,10 @@ kin-piece r q k i = ap (λ l. getD l i 0) (k .pieces-same)
 
 -- ---- a record that fits its phase still does
 
-module _ (s : Settings) (last now : ℕ) (r q : Record) (later : last ≤ now) (v : Live s last r) (k : Kin r q) where
+module _ (s : Settings) (r q : Record) (last now : ℕ) (later : last ≤ now) (v : Live s r last) (k : Kin r q) where
   pub live-kin : q .current < length (pieces r) → 1 ≤ q .phase → q .phase ≤ 10 → (6 ≤ q .phase → q .phase ≤ 9 → q .grip ≡ 3)
       → (7 ≤ q .phase → q .phase ≤ 9 → q .notices ≡ length (notifyList (s .distance) (currentPiece q)))
-      → q .notices ≤ length (notifyList (s .distance) (currentPiece q)) → (q .phase ≡ 9 → length (pieces r) ≤ suc (q .current)) → q .t1 ≤ now → Live s now q
+      → q .notices ≤ length (notifyList (s .distance) (currentPiece q)) → (q .phase ≡ 9 → length (pieces r) ≤ suc (q .current)) → q .t1 ≤ now → Live s q now
   live-kin e a b c d f g h = record {
     window = rw (k .left-same, k .right-same) (v .window);
     cover = rw (k .pieces-same, k .left-same, k .right-same) (v .cover);
@@ -43,8 +43,8 @@ module _ (s : Settings) (last now : ℕ) (r q : Record) (later : last ≤ now) (
 
 -- ---- how far it has come
 
-module _ (s : Settings) (rs : List Record) (nobody : Record) (now : ℕ) (r : Record) where
-  pub timely-stay : Timely s rs nobody now r r
+module _ (s : Settings) (rs : List Record) (nobody r : Record) (now : ℕ) where
+  pub timely-stay : Timely s rs nobody r r now
   timely-stay = record {
     claims = λ x y. inl (x, y, refl, refl);
     waits = λ i x y. (refl, inl (x, y));
@@ -55,7 +55,7 @@ module _ (s : Settings) (rs : List Record) (nobody : Record) (now : ℕ) (r : Re
 
   module _ (q : Record) where
     -- no piece has claimed, and none has passed an ancestor
-    pub timely-none : (6 ≤ q .phase → 10 ≤ q .phase) → ((i : ℕ) → 6 ≤ phaseAt q i → 10 ≤ phaseAt q i) → passing q ≡ 0 → Timely s rs nobody now r q
+    pub timely-none : (6 ≤ q .phase → 10 ≤ q .phase) → ((i : ℕ) → 6 ≤ phaseAt q i → 10 ≤ phaseAt q i) → passing q ≡ 0 → Timely s rs nobody r q now
     timely-none a b c = record {
       claims = λ x y. absurd (omega (arith, a x));
       waits = λ i x y. absurd (omega (arith, b i (omega arith)));
@@ -65,14 +65,14 @@ module _ (s : Settings) (rs : List Record) (nobody : Record) (now : ℕ) (r : Re
     }
 
     -- a record that returns
-    pub timely-returning : q .phase ≡ 10 → Timely s rs nobody now r q
+    pub timely-returning : q .phase ≡ 10 → Timely s rs nobody r q now
     timely-returning e =
         timely-none (λ _. omega arith)
         (λ i x. by-lt i (q .current) (λ b. omega (arith, stage-returning q i b e)) (λ b. by-eq i (q .current) (λ f. omega (arith, stage-current q i f)) (λ d. absurd (omega (arith, stage-after q i (omega arith))))))
         (passing-none q (λ f. omega arith) (λ f. omega arith) (λ f. omega arith))
 
     -- a record that begins its first piece, or is idle
-    pub timely-first : q .current ≡ 0 → q .phase ≤ 4 → (q .phase ≡ 3 → q .place ≡ 0) → Timely s rs nobody now r q
+    pub timely-first : q .current ≡ 0 → q .phase ≤ 4 → (q .phase ≡ 3 → q .place ≡ 0) → Timely s rs nobody r q now
     timely-first c b p =
         timely-none (λ x. absurd (omega arith))
         (λ i x. by-eq i 0 (λ e. absurd (omega (arith, stage-current q i (e ∙ sym c)))) (λ d. absurd (omega (arith, stage-after q i (omega arith)))))
@@ -107,7 +107,7 @@ module _ (s : Settings) (rs : List Record) (nobody : Record) (now : ℕ) (r : Re
           → (passing q ≡ 0) ⊎ (((passing q ≤ passing r) × (q .t1 ≡ r .t1))
           ⊎ ((passing q ≡ suc (passing r)) × ((q .t1 ≡ r .t1) ⊎ (passing r ≡ 0)) × ((d : ℕ) → owns s 3 (climb (suc (passing r)) (currentPiece r)) (getD rs d nobody) ≡ 0)))
           → (7 ≤ q .phase → q .phase ≤ 9 → ((7 ≤ r .phase) × (r .phase ≤ 9)) ⊎ (((level (currentPiece r) ≤ suc (passing r)) × (now - r .t1 < s .wait)) ⊎ (currentPiece r ≡ 1)))
-          → Timely s rs nobody now r q
+          → Timely s rs nobody r q now
       onward claims waits checks passes notifies = record {
         claims = λ x y. ⊎-elim (λ z. inl (z .0, z .1, z .2, current-same)) (λ z. inr (⊎-elim inl (λ l. inr (ap level current-same ∙ l)) z)) (claims x y);
         waits = λ i x y. on-piece (λ j. 8 ≤ phaseAt q j → phaseAt q j ≤ 9 → (pieceAt q j ≡ pieceAt r j) × (((8 ≤ phaseAt r j) × (phaseAt r j ≤ 9))
@@ -138,7 +138,7 @@ module _ (s : Settings) (rs : List Record) (nobody : Record) (now : ℕ) (r : Re
       pub onward-low : q .phase ≤ 5
           → (passing q ≡ 0) ⊎ (((passing q ≤ passing r) × (q .t1 ≡ r .t1))
           ⊎ ((passing q ≡ suc (passing r)) × ((q .t1 ≡ r .t1) ⊎ (passing r ≡ 0)) × ((d : ℕ) → owns s 3 (climb (suc (passing r)) (currentPiece r)) (getD rs d nobody) ≡ 0)))
-          → Timely s rs nobody now r q
+          → Timely s rs nobody r q now
       onward-low l passes =
           let at = stage-current q (r .current) (sym c) in
           onward (λ x y. absurd (omega arith)) (λ x y. absurd (omega arith))
@@ -146,7 +146,7 @@ module _ (s : Settings) (rs : List Record) (nobody : Record) (now : ℕ) (r : Re
 
     -- ---- the piece is taken, and the next begins
 
-    module _ (p : Record) (time : Timely s rs nobody now r p) (k : Kin p q) (held : p .phase ≡ 9) (c : q .current ≡ suc (p .current)) (low : q .phase ≤ 4) (first : q .place ≡ 0) where
+    module _ (p : Record) (time : Timely s rs nobody r p now) (k : Kin p q) (held : p .phase ≡ 9) (c : q .current ≡ suc (p .current)) (low : q .phase ≤ 4) (first : q .place ≡ 0) where
       was-taken : (i : ℕ) → 6 ≤ phaseAt q i → phaseAt q i ≤ 9 → (phaseAt p i ≡ 9) × (phaseAt q i ≡ 9)
       was-taken i x y =
           ⊎-elim
@@ -154,7 +154,7 @@ module _ (s : Settings) (rs : List Record) (nobody : Record) (now : ℕ) (r : Re
           (λ z. absurd (omega (arith, z .1)))
           (stage-cases q i (omega arith) y)
 
-      pub timely-begin : Timely s rs nobody now r q
+      pub timely-begin : Timely s rs nobody r q now
       timely-begin =
           let piece = kin-piece p q k in
           record {

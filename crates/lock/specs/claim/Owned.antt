@@ -5,13 +5,14 @@ use Prim.Native.Nat.{ℕ, suc, _≤_, _<_}
 use native.Mathlib.Omega.{arith}
 use lib.Dec.{eqb, leb, ltb, eqb→eq}
 use lib.ListN.{length, getD}
-use Rattle.base.specs.Choice.{choose, on-choose, choose-yes, choose-no, choose-eq, choose-ne, choose-lt, choose-ge, choose-le, choose-gt, by-lt}
-use Rattle.base.specs.Sum.{sumTo, to-same, to-mono}
-use Rattle.tree.specs.Tree.{leaf}
-use Rattle.tree.specs.Lists.{notifyList}
+use Rattle.base.specs.rules.Choice.{choose}
+use Rattle.base.specs.laws.ChoiceLaws.{on-choose, choose-yes, choose-no, choose-eq, choose-ne, choose-lt, choose-ge, choose-le, choose-gt, by-lt}
+use Rattle.base.specs.laws.Sum.{sumTo, to-same, to-mono}
+use Rattle.tree.specs.rules.Tree.{leaf}
+use Rattle.tree.specs.rules.Lists.{notifyList}
 use Rattle.lock.specs.declared.Record.{Record}
 use Rattle.lock.specs.declared.Settings.{Settings}
-use Rattle.lock.specs.rules.Types.{pieces, pieceAt, gripOf, noticesOf}
+use Rattle.lock.specs.rules.Records.{pieces, pieceAt, gripOf, noticesOf}
 
 -- how many words of piece i are given back: "each with its own word at place 0 and its notices after it"
 unfoldable pub returned : Settings → Record → ℕ → ℕ

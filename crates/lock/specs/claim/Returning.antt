@@ -8,14 +8,14 @@ use native.Mathlib.Omega.{arith}
 use borrow.Author.Tests.{eq-eqb, ne-eqb}
 use lib.Dec.{eqb, ltb, eqb→eq}
 use lib.ListN.{length, getD}
-use Rattle.base.specs.Choice.{on-choose, by-lt, by-eq}
-use Rattle.word.specs.Word.{tcnt, addTcnt, addDcnt, giveBits, returnOcc}
-use Rattle.tree.specs.Tree.{left, level, Node}
-use Rattle.tree.specs.Lists.{notifyList}
+use Rattle.base.specs.laws.ChoiceLaws.{on-choose, by-lt, by-eq}
+use Rattle.word.specs.rules.Word.{tcnt, addTcnt, addDcnt, giveBits, returnOcc}
+use Rattle.tree.specs.rules.Tree.{left, level, Node}
+use Rattle.tree.specs.rules.Lists.{notifyList}
 use Rattle.lock.specs.declared.Moved.{Moved}
 use Rattle.lock.specs.declared.Record.{Record}
 use Rattle.lock.specs.declared.Settings.{Settings}
-use Rattle.lock.specs.rules.Types.{returning, pieces, pieceAt, givenPiece, isLeaf, gripOf, noticesOf, withGiving, withGrip, withPlace, idleWith}
+use Rattle.lock.specs.rules.Records.{returning, pieces, pieceAt, givenPiece, isLeaf, gripOf, noticesOf, withGiving, withGrip, withPlace, idleWith}
 use Rattle.lock.specs.rules.Steps.{touchedIn, wordReturned, pieceReturned, turnReturned, wanted, leaves, returnBits, returnInner, giveBack}
 use Rattle.lock.specs.laws.Active.{Settled}
 use Rattle.lock.specs.laws.Placed.{clipped, placed, given-notices}
@@ -25,15 +25,15 @@ use Rattle.lock.specs.laws.ReturnLaws.{own-leaf, own-inner, own-notice, 
 use Rattle.lock.specs.laws.Ready.{Ready}
 use Rattle.lock.specs.claim.Fit.{Live, Fit, live-apart}
 use Rattle.lock.specs.claim.Effect.{Grips, Effect, turned, freed, passed, unnotified, gave, grips-then, notices-then}
-use Rattle.lock.specs.claim.Kept.{nobody}
+use Rattle.lock.specs.claim.InnerWords.{nobody}
 use Rattle.lock.specs.claim.Timed.{Timely}
 use Rattle.lock.specs.claim.Forward.{kin}
 use Rattle.lock.specs.claim.Backward.{own-returned, notice-returned, notice-back, word-returned-same, turn-returned}
 use Rattle.lock.specs.claim.Onward.{live-kin, timely-returning, timely-first}
 use Rattle.lock.specs.claim.Claiming.{test-true}
-use Rattle.lock.specs.claim.Fine.{Fine, fine-stay, notified-inner}
+use Rattle.lock.specs.claim.Keeps.{Keeps, keeps-stay, notified-inner}
 
-module _ (s : Settings) (rs : List Record) (last now : ℕ) (later : last ≤ now) (r : Record) (g : Settled s) (rd : Ready s last r) (lv : Live s last r) (w : ℕ) (e : r .phase ≡ 10) where
+module _ (s : Settings) (rs : List Record) (r : Record) (last now : ℕ) (later : last ≤ now) (g : Settled s) (rd : Ready s r last) (lv : Live s r last) (w : ℕ) (e : r .phase ≡ 10) where
   abbrev n : ℕ
   n = givenPiece r
 
@@ -44,38 +44,38 @@ module _ (s : Settings) (rs : List Record) (last now : ℕ) (later : last ≤ no
   begun = omega (arith, rd .active .giving-begun, lv .exists)
 
   node : Node (s .levels) n
-  node = live-apart s last r lv .node (r .giving) begun
+  node = live-apart s r last lv .node (r .giving) begun
 
   -- a record that goes on returning
   still : (q : Record) → (gv gp pl : ℕ) → q ≡ withGiving gv (withGrip gp (withPlace pl r))
-      → Fit s now q × Timely s rs nobody now r q
+      → Fit s q now × Timely s rs nobody r q now
   unfolding pieces pieceAt
   still q gv gp pl f =
       let z = withGiving gv (withGrip gp (withPlace pl r)) in
-      subst (λ y. Fit s now y × Timely s rs nobody now r y) (sym f) (
-        inr (live-kin s last now r z later lv (kin r z refl refl refl refl) (lv .exists) (lv .some) (lv .most)
+      subst (λ y. Fit s y now × Timely s rs nobody r y now) (sym f) (
+        inr (live-kin s r z last now later lv (kin r z refl refl refl refl) (lv .exists) (lv .some) (lv .most)
             (λ _ a. absurd (omega arith)) (λ _ a. absurd (omega arith)) (lv .listed) (λ h. absurd (omega arith)) (omega (arith, lv .t1-past))),
-        timely-returning s rs nobody now r z e,
+        timely-returning s rs nobody r now z e,
       )
 
   -- after a word is given back
-  after-word : Fit s now (wordReturned s r) × Timely s rs nobody now r (wordReturned s r)
+  after-word : Fit s (wordReturned s r) now × Timely s rs nobody r (wordReturned s r) now
   unfolding wordReturned pieceReturned
   after-word =
-      let P : Record → Type 0 = λ q. Fit s now q × Timely s rs nobody now r q in
+      let P : Record → Type 0 = λ q. Fit s q now × Timely s rs nobody r q now in
       on-choose P (ltb (r .place) (noticesOf s r (r .giving))) (withPlace (suc (r .place)) r) (pieceReturned r)
       (λ _. still _ (r .giving) (r .grip) (suc (r .place)) refl)
       (λ _. on-choose P (eqb (gripOf r (suc (r .giving))) 0) (idleWith (r .outcome)) (withPlace 0 (withGiving (suc (r .giving)) r))
-      (λ _. (inl refl, timely-first s rs nobody now r (idleWith (r .outcome)) refl (omega arith) (λ _. refl)))
+      (λ _. (inl refl, timely-first s rs nobody r now (idleWith (r .outcome)) refl (omega arith) (λ _. refl)))
       (λ _. still _ (suc (r .giving)) (r .grip) 0 refl))
 
   grips : r .place ≡ 0 → (from : ℕ) → gripOf r (r .giving) ≡ from → Grips s r (wordReturned s r) n from 0
   grips z from f =
-      grips-then s r (withPlace (suc (r .place)) r) (wordReturned s r) (word-returned-same s last r rd (live-apart s last r lv) e) n from 0 (node .some)
-      (own-returned s last r rd (live-apart s last r lv) e z from f)
+      grips-then s r (withPlace (suc (r .place)) r) (wordReturned s r) (word-returned-same s r last rd (live-apart s r last lv) e) n from 0 (node .some)
+      (own-returned s r last rd (live-apart s r last lv) e z from f)
 
-  fine : (v : ℕ) → Effect s r (wordReturned s r) n w v → Fine s rs now r n w v (wordReturned s r)
-  fine v f = record { node = λ _. node; effect = f; fits = after-word .0; time = after-word .1 }
+  keeps : (v : ℕ) → Effect s r (wordReturned s r) n w v → Keeps s rs r n w v (wordReturned s r) now
+  keeps v f = record { node = λ _. node; effect = f; fits = after-word .0; time = after-word .1 }
 
   -- ---- the own word of a leaf
 
@@ -86,13 +86,13 @@ module _ (s : Settings) (rs : List Record) (last now : ℕ) (later : last ≤ no
       let here = grip-current r (r .giving) i in
       ⊎-elim (λ z. absurd (rd .giving-gripped e (here ∙ z))) (λ z. here ∙ z) (rd .grip-leaf-returning e (ap (λ (j : ℕ). level (pieceAt r j)) (sym i) ∙ leaf)))
 
-  pub bits-fine : r .place ≡ 0 → level n ≡ s .levels → returnBits s r w .number ≡ 0 → Fine s rs now r n w (returnBits s r w .word) (returnBits s r w .next)
+  pub bits-keeps : r .place ≡ 0 → level n ≡ s .levels → returnBits s r w .number ≡ 0 → Keeps s rs r n w (returnBits s r w .word) (returnBits s r w .next) now
   unfolding returnBits
-  bits-fine z leaf =
+  bits-keeps z leaf =
       let swap = giveBits (wanted s r n) w in
       let meets = clipped (s .levels) (r .left) (r .right) n (omega (arith, g .levels-some)) (g .levels-most) (rd .active .meets (r .giving) begun) leaf in
-      on-choose (λ (y : Moved). y .number ≡ 0 → Fine s rs now r n w (y .word) (y .next)) (swap .done) (leaves (swap .word) (wordReturned s r)) (record { number = 9; word = w; next = r })
-      (λ t _. fine (swap .word) (gave leaf meets (grips z 3 (leaf-grip leaf)) (test-true (swap .done) t) refl))
+      on-choose (λ (y : Moved). y .number ≡ 0 → Keeps s rs r n w (y .word) (y .next) now) (swap .done) (leaves (swap .word) (wordReturned s r)) (record { number = 9; word = w; next = r })
+      (λ t _. keeps (swap .word) (gave leaf meets (grips z 3 (leaf-grip leaf)) (test-true (swap .done) t) refl))
       (λ _ f. absurd (omega arith))
 
   -- ---- the own word of an inner node
@@ -102,27 +102,27 @@ module _ (s : Settings) (rs : List Record) (last now : ℕ) (later : last ≤ no
       by-lt (r .giving) (r .current) (λ b. omega (arith, grip-before r (r .giving) b))
       (λ b. omega (arith, grip-current r (r .giving) (omega (arith, rd .active .giving-begun)), rd .grip-most e))
 
-  turn-fine : r .place ≡ 0 → level n ≢ s .levels → gripOf r (r .giving) ≡ 1 → Fine s rs now r n w w (turnReturned r w)
+  turn-keeps : r .place ≡ 0 → level n ≢ s .levels → gripOf r (r .giving) ≡ 1 → Keeps s rs r n w w (turnReturned r w) now
   unfolding turnReturned
-  turn-fine z inner one =
+  turn-keeps z inner one =
       let here : r .giving ≡ r .current = by-lt (r .giving) (r .current) (λ b. absurd (omega (arith, grip-before r (r .giving) b))) (λ b. omega (arith, rd .active .giving-begun)) in
-      on-choose (λ q. Fine s rs now r n w w q) (eqb (tcnt w) (r .ticket)) (withGrip 2 r) r
+      on-choose (λ q. Keeps s rs r n w w q now) (eqb (tcnt w) (r .ticket)) (withGrip 2 r) r
       (λ t. let after = still (withGrip 2 r) (r .giving) 2 (r .place) refl in
       record {
         node = λ _. node;
-        effect = turned inner (turn-returned s last r rd (live-apart s last r lv) e z here one) (eqb→eq (tcnt w) (r .ticket) t) refl;
+        effect = turned inner (turn-returned s r last rd (live-apart s r last lv) e z here one) (eqb→eq (tcnt w) (r .ticket) t) refl;
         fits = after .0;
         time = after .1;
       })
-      (λ _. fine-stay s rs last now r n w later (inr lv) (λ _. node))
+      (λ _. keeps-stay s rs r n w last now later (inr lv) (λ _. node))
 
-  pub inner-fine : r .place ≡ 0 → level n ≢ s .levels → Fine s rs now r n w (returnInner s r w .word) (returnInner s r w .next)
-  inner-fine z inner =
+  pub inner-keeps : r .place ≡ 0 → level n ≢ s .levels → Keeps s rs r n w (returnInner s r w .word) (returnInner s r w .next) now
+  inner-keeps z inner =
       by-eq (gripOf r (r .giving)) 3
-      (λ f. rw (inner-occ r s w f) (fine (returnOcc w) (freed inner (grips z 3 f) refl)))
+      (λ f. rw (inner-occ r s w f) (keeps (returnOcc w) (freed inner (grips z 3 f) refl)))
       (λ d. by-eq (gripOf r (r .giving)) 2
-      (λ f. rw (inner-turn r s w f) (fine (addTcnt 1 w) (passed inner (grips z 2 f) refl)))
-      (λ f. rw (inner-ticket r s w d f) (turn-fine z inner (omega (arith, inner-most, rd .giving-gripped e)))))
+      (λ f. rw (inner-turn r s w f) (keeps (addTcnt 1 w) (passed inner (grips z 2 f) refl)))
+      (λ f. rw (inner-ticket r s w d f) (turn-keeps z inner (omega (arith, inner-most, rd .giving-gripped e)))))
 
   -- ---- a notice
 
@@ -131,17 +131,17 @@ module _ (s : Settings) (rs : List Record) (last now : ℕ) (later : last ≤ no
     x = getD (notifyList m n) (r .place - 1) 0
 
     notice-node : Node (s .levels) x × (level x ≢ s .levels)
-    notice-node = notified-inner s g n node (r .place - 1) (omega (arith, given-notices s r (placed s last r (rd .active)), rd .active .returning e))
+    notice-node = notified-inner s g n node (r .place - 1) (omega (arith, given-notices s r (placed s r last (rd .active)), rd .active .returning e))
 
-    pub notice-fine : Fine s rs now r x w (addDcnt 1 w) (wordReturned s r)
-    notice-fine =
+    pub notice-keeps : Keeps s rs r x w (addDcnt 1 w) (wordReturned s r) now
+    notice-keeps =
         let q = withPlace (suc (r .place)) r in
-        let same = word-returned-same s last r rd (live-apart s last r lv) e in
+        let same = word-returned-same s r last rd (live-apart s r last lv) e in
         let b : 0 < r .place = by-lt 0 (r .place) (λ l. l) (λ l. absurd (some (omega arith))) in
         record {
           node = λ _. notice-node .0;
-          effect = unnotified (notice-node .1) (notices-then s r q (wordReturned s r) same x (notice-returned s last r rd (live-apart s last r lv) e b x refl))
-              (notice-back s last r rd (live-apart s last r lv) e b x refl ∙ ap suc (sym (same .notices x (notice-node .0 .some)))) refl;
+          effect = unnotified (notice-node .1) (notices-then s r q (wordReturned s r) same x (notice-returned s r last rd (live-apart s r last lv) e b x refl))
+              (notice-back s r last rd (live-apart s r last lv) e b x refl ∙ ap suc (sym (same .notices x (notice-node .0 .some)))) refl;
           fits = after-word .0;
           time = after-word .1;
         }
@@ -156,19 +156,19 @@ inner-test s n d = ne-eqb (level n) (s .levels) d
 
 -- ---- the whole step, on the words of the tree
 
-module _ (s : Settings) (rs : List Record) (last now : ℕ) (later : last ≤ now) (r : Record) (g : Settled s) (rd : Ready s last r) (lv : Live s last r) (e : r .phase ≡ 10) (wordOf : ℕ → ℕ) where
+module _ (s : Settings) (rs : List Record) (r : Record) (last now : ℕ) (later : last ≤ now) (g : Settled s) (rd : Ready s r last) (lv : Live s r last) (e : r .phase ≡ 10) (wordOf : ℕ → ℕ) where
   -- the step's work on the word of node y
   abbrev Owed : ℕ → Moved → Type 0
-  Owed y d = d .number ≡ 0 → Fine s rs now r y (wordOf y) (d .word) (d .next)
+  Owed y d = d .number ≡ 0 → Keeps s rs r y (wordOf y) (d .word) (d .next) now
 
-  pub returning-fine : Owed (touchedIn s r returning) (giveBack s r (wordOf (touchedIn s r returning)))
+  pub returning-keeps : Owed (touchedIn s r returning) (giveBack s r (wordOf (touchedIn s r returning)))
   unfolding isLeaf
-  returning-fine =
+  returning-keeps =
       by-eq (r .place) 0
       (λ z. let n = givenPiece r in
       subst (λ (y : ℕ). Owed y (giveBack s r (wordOf y))) (sym (touched-own s r z))
       (by-eq (level n) (s .levels)
-      (λ leaf. rw (own-leaf r s (wordOf n) z (leaf-test s n leaf)) (bits-fine s rs last now later r g rd lv (wordOf n) e z leaf))
-      (λ inner. rw (own-inner r s (wordOf n) z (inner-test s n inner)) (λ _. inner-fine s rs last now later r g rd lv (wordOf n) e z inner))))
+      (λ leaf. rw (own-leaf r s (wordOf n) z (leaf-test s n leaf)) (bits-keeps s rs r last now later g rd lv (wordOf n) e z leaf))
+      (λ inner. rw (own-inner r s (wordOf n) z (inner-test s n inner)) (λ _. inner-keeps s rs r last now later g rd lv (wordOf n) e z inner))))
       (λ d. subst (λ (y : ℕ). Owed y (giveBack s r (wordOf y))) (sym (touched-notice s r d))
-      (rw (own-notice r s (wordOf (getD (notifyList (s .distance) (givenPiece r)) (r .place - 1) 0)) d) (λ _. notice-fine s rs last now later r g rd lv _ e d)))
+      (rw (own-notice r s (wordOf (getD (notifyList (s .distance) (givenPiece r)) (r .place - 1) 0)) d) (λ _. notice-keeps s rs r last now later g rd lv _ e d)))

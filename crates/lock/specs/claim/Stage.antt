@@ -6,16 +6,17 @@ use native.Mathlib.Decide.{ℕ-discrete}
 use native.Mathlib.Omega.{arith}
 use lib.Dec.{eqb, ltb}
 use lib.ListN.{length, getD}
-use Rattle.base.specs.Choice.{choose, choose-eq, choose-ne, choose-lt, choose-ge, choose-le, by-lt}
-use Rattle.base.specs.Sum.{sumTo, to-at, getD-past}
-use Rattle.tree.specs.Tree.{level}
-use Rattle.tree.specs.Level.{level-root}
-use Rattle.tree.specs.Lists.{notifyList}
-use Rattle.tree.specs.Notify.{notifyCount, notifyNode, notify-count, notify-place}
-use Rattle.tree.specs.Check.{checkCount}
+use Rattle.base.specs.rules.Choice.{choose}
+use Rattle.base.specs.laws.ChoiceLaws.{choose-eq, choose-ne, choose-lt, choose-ge, choose-le, by-lt}
+use Rattle.base.specs.laws.Sum.{sumTo, to-at, getD-past}
+use Rattle.tree.specs.rules.Tree.{level}
+use Rattle.tree.specs.laws.Level.{level-root}
+use Rattle.tree.specs.rules.Lists.{notifyList}
+use Rattle.tree.specs.laws.Notify.{notifyCount, notifyNode, notify-count, notify-place}
+use Rattle.tree.specs.laws.Check.{checkCount}
 use Rattle.lock.specs.declared.Record.{Record}
 use Rattle.lock.specs.declared.Settings.{Settings}
-use Rattle.lock.specs.rules.Types.{pieces, pieceAt, currentPiece, idleWith}
+use Rattle.lock.specs.rules.Records.{pieces, pieceAt, currentPiece, idleWith}
 use Rattle.lock.specs.laws.Pieces.{grip-before, grip-current, notices-before, notices-current}
 use Rattle.lock.specs.laws.Active.{Settled}
 use Rattle.lock.specs.claim.Owned.{returned, gripped, noticed, owns, outstanding, ownsNotice, reaches-yes, returned-none, gripped-kept, noticed-begun}
@@ -116,21 +117,21 @@ idle-piece o i = by-lt i 1 (λ b. let e : i ≡ 0 = omega arith in ap (λ (j : �
 pub idle-stage : (o i : ℕ) → phaseAt (idleWith o) i ≡ 0
 idle-stage o i = by-lt 0 i (λ b. stage-after (idleWith o) i b) (λ b. stage-current (idleWith o) i (omega arith))
 
-module _ (s : Settings) (last : ℕ) (r : Record) where
+module _ (s : Settings) (r : Record) (last : ℕ) where
   -- the level of a piece, if there is one
-  pub piece-level : Settled s → Fit s last r → (i : ℕ) → level (pieceAt r i) ≤ s .levels
+  pub piece-level : Settled s → Fit s r last → (i : ℕ) → level (pieceAt r i) ≤ s .levels
   unfolding pieceAt
   piece-level g v i =
       let root : pieceAt r i ≡ 0 → level (pieceAt r i) ≤ s .levels = λ e. omega (arith, level-root (pieceAt r i) (omega arith), g .levels-some) in
       ⊎-elim
       (λ e. root (ap (λ x. pieceAt x i) e ∙ idle-piece (r .outcome) i))
-      (λ l. by-lt i (length (pieces r)) (λ b. live-apart s last r l .node i b .inside) (λ b. root (getD-past (pieces r) i 0 b)))
+      (λ l. by-lt i (length (pieces r)) (λ b. live-apart s r last l .node i b .inside) (λ b. root (getD-past (pieces r) i 0 b)))
       v
 
-  pub stage-live : Fit s last r → (i : ℕ) → 1 ≤ phaseAt r i → Live s last r
+  pub stage-live : Fit s r last → (i : ℕ) → 1 ≤ phaseAt r i → Live s r last
   stage-live v i b = ⊎-elim (λ e. absurd (omega (arith, ap (λ x. phaseAt x i) e, idle-stage (r .outcome) i))) (λ l. l) v
 
-  module _ (v : Live s last r) where
+  module _ (v : Live s r last) where
     -- a claimed piece has Occ, or its bits
     pub stage-owns : (i : ℕ) → 6 ≤ phaseAt r i → phaseAt r i ≤ 9 → owns s 3 (pieceAt r i) r ≡ 1
     stage-owns i a b =
@@ -139,7 +140,7 @@ module _ (s : Settings) (last : ℕ) (r : Record) where
         (λ p. gripped-kept s r i (returned-none s r i (p .1)) ∙ grip-before r i (p .0))
         (λ p. gripped-kept s r i (returned-none s r i (λ e. omega (arith, p .1))) ∙ grip-current r i (p .0) ∙ v .claimed (omega (arith, p .1)) (omega (arith, p .1)))
         (stage-cases r i (omega arith) b) in
-        owns-here s r (live-apart s last r v) (pieceAt r i) i 3 c refl ∙ reaches-yes 3 (gripped s r i) (omega arith)
+        owns-here s r (live-apart s r last v) (pieceAt r i) i 3 c refl ∙ reaches-yes 3 (gripped s r i) (omega arith)
 
     -- a piece that is past its notices has all of them out
     pub stage-noticed : Settled s → (i : ℕ) → 7 ≤ phaseAt r i → phaseAt r i ≤ 9
@@ -150,7 +151,7 @@ module _ (s : Settings) (last : ℕ) (r : Record) where
         let p = pieceAt r i in
         let begun = stage-begun r i (omega arith) in
         let c : i < length (pieces r) = omega (arith, begun, v .exists) in
-        let y = bounded-piece s r (live-apart s last r v) g (live-noticed s last r v) i c in
+        let y = bounded-piece s r (live-apart s r last v) g (live-noticed s r last v) i c in
         let all : noticed s r i ≡ length (notifyList m p) = noticed-begun s r i begun ∙ ⊎-elim
         (λ z. notices-before r i s (z .0))
         (λ z. notices-current r i s (omega (arith, z .0)) ∙ v .all-noticed (omega (arith, z .1)) (omega (arith, z .1)) ∙ ap (λ (j : ℕ). length (notifyList m (pieceAt r j))) (sym (z .0)))

@@ -4,19 +4,19 @@ use mathlib.Core.Logic.{inl}
 use Prim.Native.Nat.{ℕ, zero, suc, _+_, _%_}
 use native.Mathlib.Omega.{arith}
 use lib.ListN.{length, getD, replicate, length-replicate}
-use Rattle.base.specs.Sum.{sumBy, sum-zero, getD-fresh}
-use Rattle.base.specs.Tickets.{none-yet}
-use Rattle.word.specs.Word.{field, bit}
-use Rattle.word.specs.Bits.{bit-zero}
-use Rattle.tree.specs.Tree.{leaf}
+use Rattle.base.specs.laws.Sum.{sumBy, sum-zero, getD-fresh}
+use Rattle.base.specs.laws.Tickets.{none-yet}
+use Rattle.word.specs.rules.Word.{field, bit}
+use Rattle.word.specs.laws.Bits.{bit-zero}
+use Rattle.tree.specs.rules.Tree.{leaf}
 use Rattle.lock.specs.declared.Record.{Record}
 use Rattle.lock.specs.declared.Settings.{Settings}
-use Rattle.lock.specs.rules.Types.{wordAt, idleWith}
+use Rattle.lock.specs.rules.Records.{wordAt, idleWith}
 use Rattle.lock.specs.rules.Table.{State, recordAt, openingNumber, opened}
 use Rattle.lock.specs.laws.Accepted.{opened-accepted}
 use Rattle.lock.specs.claim.Owned.{owns, ownsUnit, ownsNotice}
 use Rattle.lock.specs.claim.Stage.{idle-stage}
-use Rattle.lock.specs.claim.Kept.{nobody, ticketOf, Kept}
+use Rattle.lock.specs.claim.InnerWords.{nobody, ticketOf, InnerWord}
 use Rattle.lock.specs.claim.Timed.{Timed}
 use Rattle.lock.specs.claim.Invariant.{Invariant}
 use Rattle.lock.specs.claim.Forward.{Empty, empty-owns, empty-unit, empty-notice, fresh-empty}
@@ -33,7 +33,7 @@ module _ (s : Settings) where
   none : (f : Record → ℕ) (k : ℕ) → f nobody ≡ 0 → sumBy f (replicate k nobody) ≡ 0
   none f k z = sum-zero f (replicate k nobody) nobody (λ i. ap f (getD-fresh k i nobody) ∙ z)
 
-  zero-kept : (n k : ℕ) → Kept s n 0 (replicate k nobody)
+  zero-kept : (n k : ℕ) → InnerWord s (replicate k nobody) n 0
   unfolding field
   zero-kept n k = record {
     exp-clear = refl;
@@ -42,7 +42,7 @@ module _ (s : Settings) where
     notices = ap (λ (m : ℕ). (0 + m) % 65536) (none (ownsNotice s n) k (empty-notice s nobody nobody-empty n));
   }
 
-  idle-timed : (last : ℕ) → Timed s last nobody nobody
+  idle-timed : (last : ℕ) → Timed s nobody nobody last
   idle-timed last = record {
     claims = λ a _ _. absurd (omega arith);
     waits = λ i a _ _. absurd (omega (arith, idle-stage 0 i));
@@ -61,8 +61,8 @@ module _ (s : Settings) where
         count = length-replicate (length (st .words)) 0 ∙ a .1;
         few = rw (length-replicate k nobody) (a .2);
         fit = λ c. inl (sym (free c) ∙ ap (λ x. idleWith (x .outcome)) (free c));
-        inner = λ n _ _. subst (λ (w : ℕ). Kept s n w (replicate k nobody)) (word n) (zero-kept n k);
+        inner = λ n _ _. subst (λ (w : ℕ). InnerWord s (replicate k nobody) n w) (word n) (zero-kept n k);
         small = λ n _ _. omega (arith, word n);
         bits = λ u _. sym (ap (bit (u % 64)) (word (leaf (s .levels) u))) ∙ bit-zero (u % 64) ∙ sym (none (ownsUnit s u) k (empty-unit s nobody nobody-empty u));
-        timed = λ c d _. subst (λ x. Timed s 0 x (getD (replicate k nobody) d nobody)) (free c) (subst (λ y. Timed s 0 nobody y) (free d) (idle-timed 0));
+        timed = λ c d _. subst (λ x. Timed s x (getD (replicate k nobody) d nobody) 0) (free c) (subst (λ y. Timed s nobody y 0) (free d) (idle-timed 0));
       }

@@ -6,48 +6,48 @@ use Prim.Native.Nat.{ℕ, suc, _≤_, _<_}
 use native.Mathlib.Omega.{arith}
 use lib.Dec.{ltb, ltb→lt, nltb→le}
 use lib.ListN.{length}
-use Rattle.base.specs.Choice.{on-choose}
-use Rattle.tree.specs.Tree.{Node}
-use Rattle.tree.specs.Lists.{notifyList}
+use Rattle.base.specs.laws.ChoiceLaws.{on-choose}
+use Rattle.tree.specs.rules.Tree.{Node}
+use Rattle.tree.specs.rules.Lists.{notifyList}
 use Rattle.lock.specs.declared.Record.{Record}
 use Rattle.lock.specs.declared.Settings.{Settings}
-use Rattle.lock.specs.rules.Types.{pieces, pieceAt, currentPiece, isLeaf, toPhase}
+use Rattle.lock.specs.rules.Records.{pieces, pieceAt, currentPiece, isLeaf, toPhase}
 use Rattle.lock.specs.rules.Steps.{startPhase, begin, taken}
 use Rattle.lock.specs.claim.Fit.{Live}
 use Rattle.lock.specs.claim.Effect.{Same, Effect}
-use Rattle.lock.specs.claim.Kept.{nobody}
+use Rattle.lock.specs.claim.InnerWords.{nobody}
 use Rattle.lock.specs.claim.Timed.{Timely}
 use Rattle.lock.specs.claim.Forward.{Kin, kin, onward-unreturned, forward-same, begin-same}
 use Rattle.lock.specs.claim.Onward.{live-kin, timely-begin}
-use Rattle.lock.specs.claim.Fine.{Fine}
+use Rattle.lock.specs.claim.Keeps.{Keeps}
 
 pub start-low : (s : Settings) (n : ℕ) → (1 ≤ startPhase s n) × (startPhase s n ≤ 4)
 unfolding startPhase
 start-low s n = on-choose (λ (p : ℕ). (1 ≤ p) × (p ≤ 4)) (isLeaf s n) 3 1 (λ _. (omega arith, omega arith)) (λ _. (omega arith, omega arith))
 
 -- p is the record whose current piece is taken, with r's window and pieces: r itself, or r with its last notice
-module _ (s : Settings) (rs : List Record) (last now : ℕ) (later : last ≤ now) (r p : Record) (lv : Live s last r) (k : Kin r p) (c : p .current ≡ r .current)
+module _ (s : Settings) (rs : List Record) (r p : Record) (last now : ℕ) (later : last ≤ now) (lv : Live s r last) (k : Kin r p) (c : p .current ≡ r .current)
     (ahead : p .phase ≢ 10) (grip : p .grip ≡ 3) (whole : p .notices ≡ length (notifyList (s .distance) (currentPiece p))) (t1-past : p .t1 ≤ now)
-    (x w v : ℕ) (node : x ≢ 0 → Node (s .levels) x) (effect : (q : Record) → Same s p q → Effect s r q x w v) (time : Timely s rs nobody now r (toPhase 9 p)) where
+    (x w v : ℕ) (node : x ≢ 0 → Node (s .levels) x) (effect : (q : Record) → Same s p q → Effect s r q x w v) (time : Timely s rs nobody r (toPhase 9 p) now) where
   chain : (q : Record) → Kin p q → Kin r q
   chain q z = record { pieces-same = z .pieces-same ∙ k .pieces-same; left-same = z .left-same ∙ k .left-same; right-same = z .right-same ∙ k .right-same }
 
-  next-begins : suc (p .current) < length (pieces p) → Fine s rs now r x w v (begin s (suc (p .current)) p)
+  next-begins : suc (p .current) < length (pieces p) → Keeps s rs r x w v (begin s p (suc (p .current))) now
   unfolding begin pieces pieceAt
   next-begins b =
-      let q = begin s (suc (p .current)) p in
+      let q = begin s p (suc (p .current)) in
       let z = kin p q refl refl refl refl in
       let low = start-low s (pieceAt p (suc (p .current))) in
       let aheadq : q .phase ≢ 10 = λ f. omega (arith, low .1) in
       record {
         node = node;
         effect = effect q (begin-same s p q z refl refl refl grip whole (onward-unreturned s p ahead) (onward-unreturned s q aheadq));
-        fits = inr (live-kin s last now r q later lv (chain q z) (omega (arith, ap length (k .pieces-same))) (low .0) (omega (arith, low .1)) (λ a _. absurd (omega (arith, low .1)))
+        fits = inr (live-kin s r q last now later lv (chain q z) (omega (arith, ap length (k .pieces-same))) (low .0) (omega (arith, low .1)) (λ a _. absurd (omega (arith, low .1)))
             (λ a _. absurd (omega (arith, low .1))) (omega arith) (λ f. absurd (omega (arith, low .1))) (omega arith));
-        time = timely-begin s rs nobody now r q (toPhase 9 p) time (record { pieces-same = refl; left-same = refl; right-same = refl }) refl refl (low .1) refl;
+        time = timely-begin s rs nobody r now q (toPhase 9 p) time (record { pieces-same = refl; left-same = refl; right-same = refl }) refl refl (low .1) refl;
       }
 
-  all-taken : length (pieces p) ≤ suc (p .current) → Fine s rs now r x w v (toPhase 9 p)
+  all-taken : length (pieces p) ≤ suc (p .current) → Keeps s rs r x w v (toPhase 9 p) now
   unfolding pieces pieceAt
   all-taken b =
       let q = toPhase 9 p in
@@ -55,13 +55,13 @@ module _ (s : Settings) (rs : List Record) (last now : ℕ) (later : last ≤ no
       record {
         node = node;
         effect = effect q (forward-same s p q z refl (onward-unreturned s p ahead) (onward-unreturned s q (λ f. omega arith)) refl refl refl);
-        fits = inr (live-kin s last now r q later lv (chain q z) (omega (arith, lv .exists)) (omega arith) (omega arith) (λ _ _. grip) (λ _ _. whole) (omega (arith, whole))
+        fits = inr (live-kin s r q last now later lv (chain q z) (omega (arith, lv .exists)) (omega arith) (omega arith) (λ _ _. grip) (λ _ _. whole) (omega (arith, whole))
             (λ _. omega (arith, b, ap length (k .pieces-same))) t1-past);
         time = time;
       }
 
-  pub taken-fine : Fine s rs now r x w v (taken s p)
+  pub taken-keeps : Keeps s rs r x w v (taken s p) now
   unfolding taken
-  taken-fine =
-      on-choose (λ q. Fine s rs now r x w v q) (ltb (suc (p .current)) (length (pieces p))) (begin s (suc (p .current)) p) (toPhase 9 p)
+  taken-keeps =
+      on-choose (λ q. Keeps s rs r x w v q now) (ltb (suc (p .current)) (length (pieces p))) (begin s p (suc (p .current))) (toPhase 9 p)
       (λ t. next-begins (ltb→lt (suc (p .current)) (length (pieces p)) t)) (λ t. all-taken (nltb→le (suc (p .current)) (length (pieces p)) t))

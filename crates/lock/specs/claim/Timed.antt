@@ -6,13 +6,13 @@ use Prim.Native.Nat.{ℕ, suc, _+_, _-_, _≤_, _<_}
 use native.Mathlib.Decide.{ℕ-discrete}
 use native.Mathlib.Omega.{arith}
 use lib.ListN.{getD}
-use Rattle.tree.specs.Tree.{climb, level, Above}
-use Rattle.tree.specs.Level.{level-pos, level-root}
-use Rattle.tree.specs.Notify.{notifyCount, notifyNode}
-use Rattle.tree.specs.Check.{checkNode}
+use Rattle.tree.specs.rules.Tree.{climb, level, Above}
+use Rattle.tree.specs.laws.Level.{level-pos, level-root}
+use Rattle.tree.specs.laws.Notify.{notifyCount, notifyNode}
+use Rattle.tree.specs.laws.Check.{checkNode}
 use Rattle.lock.specs.declared.Record.{Record}
 use Rattle.lock.specs.declared.Settings.{Settings}
-use Rattle.lock.specs.rules.Types.{pieceAt, currentPiece}
+use Rattle.lock.specs.rules.Records.{pieceAt, currentPiece}
 use Rattle.lock.specs.laws.Active.{Settled}
 use Rattle.lock.specs.claim.Owned.{owns, ownsNotice}
 use Rattle.lock.specs.claim.Fit.{Fit}
@@ -25,7 +25,7 @@ pub record Passed (a : ℕ) (b : Record) : Type 0 where
   pub clear : level (currentPiece b) ≤ level a + passing b
 
 -- of a client a and another client b
-pub record Timed (s : Settings) (last : ℕ) (a b : Record) : Type 0 where
+pub record Timed (s : Settings) (a b : Record) (last : ℕ) : Type 0 where
   -- a has claimed: b, who had passed, had noted t1 before
   pub claims : 6 ≤ a .phase → a .phase ≤ 7 → Passed (currentPiece a) b → NotedBefore (b .t1) (a .t0)
   -- a has waited: b, who had passed, is overdue
@@ -35,7 +35,7 @@ pub record Timed (s : Settings) (last : ℕ) (a b : Record) : Type 0 where
       → l < notifyCount (s .distance) (level (pieceAt b j)) → checkNode (pieceAt a i) k ≢ notifyNode (s .distance) (pieceAt b j) l
 
 -- what a call at the clock `now` makes of its client's record r, over all records rs; q is the record after it
-pub record Timely (s : Settings) (rs : List Record) (nobody : Record) (now : ℕ) (r q : Record) : Type 0 where
+pub record Timely (s : Settings) (rs : List Record) (nobody r q : Record) (now : ℕ) : Type 0 where
   -- it claimed before, or claims now, or a leaf, below which there is nothing
   pub claims : 6 ≤ q .phase → q .phase ≤ 7
       → ((6 ≤ r .phase) × (r .phase ≤ 7) × (q .t0 ≡ r .t0) × (currentPiece q ≡ currentPiece r)) ⊎ ((q .t0 ≡ now) ⊎ (level (currentPiece q) ≡ s .levels))
@@ -57,22 +57,22 @@ pub record Timely (s : Settings) (rs : List Record) (nobody : Record) (now : ℕ
 
 -- ---- who is not the caller
 
-pub timed-later : (s : Settings) (last now : ℕ) (a b : Record) → last ≤ now → Timed s last a b → Timed s now a b
-timed-later s last now a b l v = record {
+pub timed-later : (s : Settings) (a b : Record) (last now : ℕ) → last ≤ now → Timed s a b last → Timed s a b now
+timed-later s a b last now l v = record {
   claims = v .claims;
   waits = λ i x y p. overdue-stays (s .wait) (b .t1) last now (v .waits i x y p) l;
   checks = v .checks;
 }
 
-module _ (s : Settings) (g : Settled s) (rs : List Record) (nobody : Record) (last now : ℕ) (later : last ≤ now) (r q : Record) (m : Timely s rs nobody now r q) where
+module _ (s : Settings) (g : Settled s) (rs : List Record) (nobody r q : Record) (last now : ℕ) (later : last ≤ now) (m : Timely s rs nobody r q now) where
   nothing-below : (a b : ℕ) → level b ≤ s .levels → level a ≡ s .levels → Above a b → ⊥
   nothing-below a b x e p = omega (arith, p .higher)
 
   -- ---- the caller above another client b
 
-  module _ (b : Record) (fit : Fit s last b) (past : b .t1 ≤ last) (among : (n : ℕ) → ((d : ℕ) → ownsNotice s n (getD rs d nobody) ≡ 0) → ownsNotice s n b ≡ 0) (v : Timed s last r b) where
+  module _ (b : Record) (fit : Fit s b last) (past : b .t1 ≤ last) (among : (n : ℕ) → ((d : ℕ) → ownsNotice s n (getD rs d nobody) ≡ 0) → ownsNotice s n b ≡ 0) (v : Timed s r b last) where
     low : (j : ℕ) → level (pieceAt b j) ≤ s .levels
-    low = piece-level s last b g fit
+    low = piece-level s b last g fit
 
     above-claims : 6 ≤ q .phase → q .phase ≤ 7 → Passed (currentPiece q) b → NotedBefore (b .t1) (q .t0)
     above-claims x y p = ⊎-elim
@@ -102,18 +102,18 @@ module _ (s : Settings) (g : Settled s) (rs : List Record) (nobody : Record) (la
         ⊎-elim
         (λ old. v .checks i j k l old y z same o f)
         (λ other. ⊎-elim
-        (λ none. let noticed = stage-noticed s last b (stage-live s last b fit j (omega arith)) g j y z l o in
+        (λ none. let noticed = stage-noticed s b last (stage-live s b last fit j (omega arith)) g j y z l o in
         let zero : ownsNotice s (checkNode (pieceAt r i) k) b ≡ 0 = among _ none in
         omega (arith, noticed, ap (λ (n : ℕ). ownsNotice s n b) f))
         (λ leaf. nothing-below (pieceAt q i) (pieceAt b j) (low j) leaf p) other)
         (w .1)
 
-    pub timed-above : Timed s now q b
+    pub timed-above : Timed s q b now
     timed-above = record { claims = above-claims; waits = above-waits; checks = above-checks }
 
   -- ---- the caller below another client a
 
-  module _ (a : Record) (fit : Fit s last a) (among : (n : ℕ) → ((d : ℕ) → owns s 3 n (getD rs d nobody) ≡ 0) → owns s 3 n a ≡ 0) (v : Timed s last a r) where
+  module _ (a : Record) (fit : Fit s a last) (among : (n : ℕ) → ((d : ℕ) → owns s 3 n (getD rs d nobody) ≡ 0) → owns s 3 n a ≡ 0) (v : Timed s a r last) where
     -- what was known of r's passing is known of q's, where a piece of a, claimed, is above it
     below : (i : ℕ) → 6 ≤ phaseAt a i → phaseAt a i ≤ 9 → Passed (pieceAt a i) q → Passed (pieceAt a i) r × (q .t1 ≡ r .t1)
     below i x y p =
@@ -129,7 +129,7 @@ module _ (s : Settings) (g : Settled s) (rs : List Record) (nobody : Record) (la
           | yes e ↦
               let steps : level (currentPiece r) - level n ≡ suc (passing r) = omega arith in
               let is : climb (suc (passing r)) (currentPiece r) ≡ n = ap (λ (d : ℕ). climb d (currentPiece r)) (sym steps) ∙ up .meets in
-              absurd (omega (arith, stage-owns s last a (stage-live s last a fit i (omega arith)) i x y, ap (λ (d : ℕ). owns s 3 d a) is, among _ (o .2)))
+              absurd (omega (arith, stage-owns s a last (stage-live s a last fit i (omega arith)) i x y, ap (λ (d : ℕ). owns s 3 d a) is, among _ (o .2)))
           | no d ↦
               let c : level (currentPiece r) ≤ level n + passing r = omega (arith, p .clear, o .0) in
               (record { above = up; clear = c }, ⊎-elim (λ t. t) (λ z. absurd (omega (arith, up .higher))) (o .1))
@@ -162,5 +162,5 @@ module _ (s : Settings) (g : Settled s) (rs : List Record) (nobody : Record) (la
         (λ root. omega (arith, p .higher, level-pos (pieceAt a i), ap level root, level-root 1 (omega arith))) other)
         (w .1)
 
-    pub timed-below : Timed s now a q
+    pub timed-below : Timed s a q now
     timed-below = record { claims = below-claims; waits = below-waits; checks = below-checks }

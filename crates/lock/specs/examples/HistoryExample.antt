@@ -8,18 +8,17 @@ use Prim.Native.Nat.{ℕ, zero, suc, _+_, _*_, _<_}
 use native.Mathlib.Omega.{arith}
 use lib.Dec.{T, eqb, eqb-refl, T-not}
 use lib.ListN.{take, drop, replicate}
-use Rattle.base.specs.Every.{both, both-l, both-r}
-use Rattle.base.specs.Choice.{choose}
-use Rattle.base.specs.Sum.{getD-fresh}
-use Rattle.word.specs.Word.{field, putField, addField, matches, replaced, maskedSwap, leafBits, wantedBits, takeBits, giveBits, returnOcc}
-use Rattle.tree.specs.Tree.{climb, leftmost, first, level, levelWithin, size, left, units, holder, wordCount}
-use Rattle.tree.specs.Lists.{upward, ancestors, ancestor, notifies, notifiedFrom, notifyLevels, notifyList, row, descendants, nearest, checkList}
-use Rattle.cover.specs.Cover.{part, over, total, rank}
-use Rattle.cover.specs.Order.{before}
-use Rattle.cover.specs.Search.{lesser, behind, leastOf, rest, search, found, leastCover}
-use Rattle.cover.specs.Answer.{levelsOutside, windowOutside}
-use Rattle.lock.specs.rules.Types.{phaseOf, pieces, pieceAt, isLeaf, gripOf, noticesOf, wordAt, written, idleWith}
-use Rattle.lock.specs.rules.Readable.{numberTooLarge, idleFilled, notCovered, noCurrent, ticketTooLarge, fieldsWrong, listLength, placePast, noticesWrong, timeAhead, phaseElsewhere, heldEarly, outcomeWrong, lacksGrip, givingWrong, unreadable}
+use Rattle.base.specs.laws.Every.{both, both-l, both-r}
+use Rattle.base.specs.rules.Choice.{choose}
+use Rattle.base.specs.laws.Sum.{getD-fresh}
+use Rattle.word.specs.rules.Word.{field, putField, addField, matches, replaced, maskedSwap, leafBits, wantedBits, takeBits, giveBits, returnOcc}
+use Rattle.tree.specs.rules.Tree.{climb, leftmost, first, level, levelWithin, size, left, units, holder, wordCount}
+use Rattle.tree.specs.rules.Lists.{upward, ancestors, ancestor, notifies, notifiedFrom, notifyLevels, notifyList, row, descendants, nearest, checkList}
+use Rattle.cover.specs.rules.Cover.{part, over, total, rank}
+use Rattle.cover.specs.rules.Search.{before, lesser, behind, leastOf, rest, search, found, leastCover}
+use Rattle.cover.specs.rules.Answer.{levelsOutside, windowOutside}
+use Rattle.lock.specs.rules.Records.{phaseOf, pieces, pieceAt, isLeaf, gripOf, noticesOf, wordAt, written, idleWith}
+use Rattle.lock.specs.rules.Unreadable.{numberTooLarge, idleFilled, notCovered, noCurrent, ticketTooLarge, fieldsWrong, listLength, placePast, noticesWrong, timeAhead, phaseElsewhere, heldEarly, outcomeWrong, lacksGrip, givingWrong, unreadable}
 use Rattle.lock.specs.rules.Steps.{touchedIn, startPhase, begin, taken, ticketTaken, turnAwaited, goUp, climbed, unblocked, bitsClaimed, occClaimed, allNotified, noticeGiven, waited, checkPassed, pieceReturned, wordReturned, turnReturned, claimPiece, returnBits, returnInner, giveBack, movedIn}
 use Rattle.lock.specs.rules.Calls.{firstCause, settingsOutside, treeTests, clientsOutside, clientTests, requestTests, stepTests, releaseTests, cancelTests, requested, released, cancelled}
 use Rattle.lock.specs.rules.Table.{State, Call, request, step, release, cancel, clientOf, recordAt, ownTests, numberOf, after, call, openingNumber, opened, opening}

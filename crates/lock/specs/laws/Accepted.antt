@@ -7,18 +7,19 @@ use native.Mathlib.Omega.{arith}
 use borrow.Author.Tests.{ltb-false, leb-false, eqb-true, eqb-false, not-false}
 use lib.Dec.{eqb, leb, ltb}
 use lib.ListN.{length}
-use Rattle.base.specs.Choice.{choose}
-use Rattle.tree.specs.Tree.{wordCount}
-use Rattle.cover.specs.Answer.{windowOutside}
+use Rattle.base.specs.rules.Choice.{choose}
+use Rattle.tree.specs.rules.Tree.{wordCount}
+use Rattle.cover.specs.rules.Answer.{windowOutside}
 use Rattle.lock.specs.declared.Record.{Record}
 use Rattle.lock.specs.declared.Settings.{Settings}
-use Rattle.lock.specs.rules.Types.{wordAt}
-use Rattle.lock.specs.rules.Readable.{differ, unreadable}
+use Rattle.lock.specs.rules.Records.{wordAt}
+use Rattle.lock.specs.rules.Unreadable.{differ, unreadable}
 use Rattle.lock.specs.rules.Steps.{touched, moved}
 use Rattle.lock.specs.rules.Calls.{Tests, firstCause, settingsOutside, treeTests, clientsOutside, clientTests, requestTests, stepTests, releaseTests, cancelTests}
 use Rattle.lock.specs.rules.Table.{State, Call, request, step, release, cancel, clientOf, recordAt, ownTests, numberOf, openingNumber}
 use Rattle.lock.specs.laws.Active.{Settled}
-use Rattle.lock.specs.laws.ActiveLaws.{both-false, settled}
+use Rattle.base.specs.laws.TestLaws.{both-false}
+use Rattle.lock.specs.laws.ActiveLaws.{settled}
 
 -- a chain that names no cause: its first test is false, and the rest names none
 test-passed : (b : Bool) (k : ℕ) (ts : Tests) → 0 < k → firstCause ((b, k) ∷ ts) ≡ 0 → (b ≡ false) × (firstCause ts ≡ 0)
@@ -79,11 +80,11 @@ module _ (s : Settings) (st : State) (c : ℕ) where
   r = recordAt st c
 
   -- 6, readable, and the tests behind it
-  readable : (ts : Tests) → firstCause ((unreadable s (st .clock) r, 6) ∷ ts) ≡ 0 → (unreadable s (st .clock) r ≡ false) × (firstCause ts ≡ 0)
-  readable ts e = test-passed (unreadable s (st .clock) r) 6 ts (omega arith) e
+  readable : (ts : Tests) → firstCause ((unreadable s r (st .clock), 6) ∷ ts) ≡ 0 → (unreadable s r (st .clock) ≡ false) × (firstCause ts ≡ 0)
+  readable ts e = test-passed (unreadable s r (st .clock)) 6 ts (omega arith) e
 
   pub request-tested : (a b : ℕ) → firstCause (ownTests s st (request c a b)) ≡ 0
-      → (unreadable s (st .clock) (recordAt st c) ≡ false) × (windowOutside (s .levels) a b ≡ false) × (recordAt st c .phase ≡ 0)
+      → (unreadable s (recordAt st c) (st .clock) ≡ false) × (windowOutside (s .levels) a b ≡ false) × (recordAt st c .phase ≡ 0)
   unfolding ownTests requestTests
   request-tested a b e =
       let u = readable _ e in
@@ -91,23 +92,23 @@ module _ (s : Settings) (st : State) (c : ℕ) where
       (u .0, w .0, same-number (r .phase) 0 (test-passed (differ (r .phase) 0) 8 [] (omega arith) (w .1) .0))
 
   pub step-tested : (t : ℕ) → firstCause (ownTests s st (step c t)) ≡ 0
-      → (st .clock ≤ t) × (unreadable s (st .clock) (recordAt st c) ≡ false)
+      → (st .clock ≤ t) × (unreadable s (recordAt st c) (st .clock) ≡ false)
       × (moved s (recordAt st c) (wordAt (st .words) (touched s (recordAt st c))) t .number ≡ 0)
   unfolding ownTests stepTests
   step-tested t e =
       let n = moved s r (wordAt (st .words) (touched s r)) t .number in
-      let b = test-passed (ltb t (st .clock)) 5 ((unreadable s (st .clock) r, 6) ∷ (differ n 0, 9) ∷ []) (omega arith) e in
+      let b = test-passed (ltb t (st .clock)) 5 ((unreadable s r (st .clock), 6) ∷ (differ n 0, 9) ∷ []) (omega arith) e in
       let u = readable ((differ n 0, 9) ∷ []) (b .1) in
       (ltb-false t (st .clock) (b .0), u .0, same-number n 0 (test-passed (differ n 0) 9 [] (omega arith) (u .1) .0))
 
-  pub release-tested : firstCause (ownTests s st (release c)) ≡ 0 → (unreadable s (st .clock) (recordAt st c) ≡ false) × (recordAt st c .phase ≡ 9)
+  pub release-tested : firstCause (ownTests s st (release c)) ≡ 0 → (unreadable s (recordAt st c) (st .clock) ≡ false) × (recordAt st c .phase ≡ 9)
   unfolding ownTests releaseTests
   release-tested e =
       let u = readable ((differ (r .phase) 9, 8) ∷ []) e in
       (u .0, same-number (r .phase) 9 (test-passed (differ (r .phase) 9) 8 [] (omega arith) (u .1) .0))
 
   pub cancel-tested : firstCause (ownTests s st (cancel c)) ≡ 0
-      → (unreadable s (st .clock) (recordAt st c) ≡ false) × (recordAt st c .phase ≡ 0 → ⊥) × (recordAt st c .phase ≡ 9 → ⊥) × (recordAt st c .phase ≡ 10 → ⊥)
+      → (unreadable s (recordAt st c) (st .clock) ≡ false) × (recordAt st c .phase ≡ 0 → ⊥) × (recordAt st c .phase ≡ 9 → ⊥) × (recordAt st c .phase ≡ 10 → ⊥)
   unfolding ownTests cancelTests
   cancel-tested e =
       let u = readable ((eqb (r .phase) 0 || eqb (r .phase) 9 || eqb (r .phase) 10, 8) ∷ []) e in

@@ -3,13 +3,13 @@ use mathlib.Core.Path.{_≡_}
 use mathlib.Core.Logic.{_⊎_}
 use Prim.Native.Nat.{ℕ, _≤_, _<_}
 use lib.ListN.{length}
-use Rattle.tree.specs.Lists.{ancestors, notifyList, checkList}
-use Rattle.cover.specs.Cover.{Meets}
-use Rattle.cover.specs.Search.{leastCover}
-use Rattle.cover.specs.Lowest.{Window}
+use Rattle.tree.specs.rules.Lists.{ancestors, notifyList, checkList}
+use Rattle.cover.specs.rules.Cover.{Meets}
+use Rattle.cover.specs.rules.Search.{leastCover}
+use Rattle.cover.specs.laws.Lowest.{Window}
 use Rattle.lock.specs.declared.Record.{Record}
 use Rattle.lock.specs.declared.Settings.{Settings}
-use Rattle.lock.specs.rules.Types.{pieces, pieceAt, currentPiece, noticesOf}
+use Rattle.lock.specs.rules.Records.{pieces, pieceAt, currentPiece, noticesOf}
 
 pub record Settled (s : Settings) : Type 0 where
   pub levels-some : 2 ≤ s .levels
@@ -19,7 +19,7 @@ pub record Settled (s : Settings) : Type 0 where
   pub wait-some : 1 ≤ s .wait
   pub wait-most : s .wait ≤ 4294967295
 
-pub record Active (s : Settings) (last : ℕ) (r : Record) : Type 0 where
+pub record Active (s : Settings) (r : Record) (last : ℕ) : Type 0 where
   pub phase-most : r .phase ≤ 10
   pub window : Window (s .levels) (r .left) (r .right)
   pub cover : pieces r ≡ leastCover 2 (s .levels) (r .left) (r .right)

@@ -8,33 +8,29 @@ use native.Mathlib.Omega.{arith}
 use borrow.Author.Tests.{ltb-false, leb-false, eqb-false, eqb-true, not-false}
 use lib.Dec.{T, eqb, leb, ltb}
 use lib.ListN.{length, getD}
-use Rattle.base.specs.Choice.{choose-eq, choose-ne, by-lt}
-use Rattle.tree.specs.Tree.{level, units, Node}
-use Rattle.tree.specs.Lists.{ancestors, notifyList, checkList}
-use Rattle.tree.specs.Level.{level-pos, level-root-only, first-one}
-use Rattle.tree.specs.Climb.{first-width, first-mono}
-use Rattle.tree.specs.Ancestors.{ancestors-count}
-use Rattle.tree.specs.Notify.{notify-count}
-use Rattle.tree.specs.Check.{checkCount, check-count}
-use Rattle.tree.specs.Code.{bounded, count-one, count-more}
-use Rattle.cover.specs.Cover.{In, Meets}
-use Rattle.cover.specs.Search.{leastCover}
-use Rattle.cover.specs.Answer.{levelsOutside, windowOutside}
-use Rattle.cover.specs.Lowest.{Window}
-use Rattle.cover.specs.Least.{least-cover}
+use Rattle.base.specs.laws.TestLaws.{both-false}
+use Rattle.base.specs.laws.ChoiceLaws.{choose-eq, choose-ne, by-lt}
+use Rattle.tree.specs.rules.Tree.{level, units, Node}
+use Rattle.tree.specs.rules.Lists.{ancestors, notifyList, checkList}
+use Rattle.tree.specs.laws.Level.{level-pos, level-root-only, first-one}
+use Rattle.tree.specs.laws.Climb.{first-width, first-mono}
+use Rattle.tree.specs.laws.Ancestors.{ancestors-count}
+use Rattle.tree.specs.laws.Notify.{notify-count}
+use Rattle.tree.specs.laws.Check.{checkCount, check-count}
+use Rattle.tree.specs.laws.Code.{bounded, count-one, count-more}
+use Rattle.cover.specs.rules.Cover.{In, Meets}
+use Rattle.cover.specs.rules.Search.{leastCover}
+use Rattle.cover.specs.rules.Answer.{levelsOutside, windowOutside}
+use Rattle.cover.specs.laws.Lowest.{Window}
+use Rattle.cover.specs.laws.Least.{least-cover}
 use Rattle.lock.specs.declared.Record.{Record}
 use Rattle.lock.specs.declared.Settings.{Settings}
-use Rattle.lock.specs.rules.Types.{phaseOf, pieces, pieceAt, currentPiece, isLeaf, isRoot, idleWith}
+use Rattle.lock.specs.rules.Records.{phaseOf, pieces, pieceAt, currentPiece, isLeaf, isRoot, idleWith}
 use Rattle.lock.specs.laws.Pieces.{few-pieces}
-use Rattle.lock.specs.rules.Readable.{numberTooLarge, idleFilled, notCovered, noCurrent, ticketTooLarge, listLength, placePast, noticesWrong, timeAhead, phaseElsewhere, heldEarly, outcomeWrong, gripLacking, givingWrong, unreadable, fieldsWrong, differ}
+use Rattle.lock.specs.rules.Unreadable.{numberTooLarge, idleFilled, notCovered, noCurrent, ticketTooLarge, listLength, placePast, noticesWrong, timeAhead, phaseElsewhere, heldEarly, outcomeWrong, gripLacking, givingWrong, unreadable, fieldsWrong, differ}
 use Rattle.lock.specs.laws.Active.{Settled, Active}
 use Rattle.lock.specs.laws.ReadableLaws.{Begun, pastList, place-is, list-climbing, list-notifying, list-checking, list-returning, elsewhere-leaf, elsewhere-root}
 use Rattle.lock.specs.rules.Calls.{settingsOutside}
-
--- none of two tests is true
-pub both-false : (a b : Bool) → (a || b) ≡ false → (a ≡ false) × (b ≡ false)
-both-false true b e = absurd (subst T e tt)
-both-false false b e = (refl, e)
 
 -- ---- settings
 
@@ -106,32 +102,32 @@ module _ (s : Settings) (r : Record) where
 
 -- ---- a readable record that is not idle, clause by clause
 
-pub record Passed (s : Settings) (last : ℕ) (r : Record) : Type 0 where
+pub record Passed (s : Settings) (r : Record) (last : ℕ) : Type 0 where
   pub numbers : numberTooLarge r ≡ false
   pub window : notCovered s r ≡ false
   pub current : noCurrent r ≡ false
   pub own-ticket : ticketTooLarge r ≡ false
   pub place : placePast s r ≡ false
   pub notices : noticesWrong s r ≡ false
-  pub times : timeAhead last r ≡ false
+  pub times : timeAhead r last ≡ false
   pub phase : phaseElsewhere s r (phaseOf (r .phase)) ≡ false
   pub held : heldEarly r ≡ false
   pub outcome : outcomeWrong r ≡ false
   pub grip : gripLacking s r (phaseOf (r .phase)) ≡ false
   pub giving : givingWrong r ≡ false
 
-pub passed : (s : Settings) (last : ℕ) (r : Record) → unreadable s last r ≡ false → (r .phase ≡ 0 → ⊥) → Passed s last r
+pub passed : (s : Settings) (r : Record) (last : ℕ) → unreadable s r last ≡ false → (r .phase ≡ 0 → ⊥) → Passed s r last
 unfolding unreadable fieldsWrong
-passed s last r e d =
+passed s r last e d =
     let a = both-false (numberTooLarge r) _ e in
-    let b = both-false _ (fieldsWrong s last r) (sym (choose-ne (r .phase) 0 (idleFilled r) _ d) ∙ a .1) in
+    let b = both-false _ (fieldsWrong s r last) (sym (choose-ne (r .phase) 0 (idleFilled r) _ d) ∙ a .1) in
     let c = both-false (notCovered s r) (noCurrent r) (b .0) in
     let v = both-false _ (givingWrong r) (b .1) in
     let g = both-false _ (gripLacking s r (phaseOf (r .phase))) (v .0) in
     let o = both-false _ (outcomeWrong r) (g .0) in
     let h = both-false _ (heldEarly r) (o .0) in
     let f = both-false _ (phaseElsewhere s r (phaseOf (r .phase))) (h .0) in
-    let m = both-false _ (timeAhead last r) (f .0) in
+    let m = both-false _ (timeAhead r last) (f .0) in
     let n = both-false _ (noticesWrong s r) (m .0) in
     let p = both-false (ticketTooLarge r) (placePast s r) (n .0) in
     record {
@@ -169,10 +165,10 @@ checked h m n a b = omega (arith, check-count h m n, first-mono 2 (suc (min m (h
 
 -- ---- the facts
 
-pub active : (s : Settings) (last : ℕ) (r : Record) → Settled s → unreadable s last r ≡ false → (r .phase ≡ 0 → ⊥) → Active s last r
+pub active : (s : Settings) (r : Record) (last : ℕ) → Settled s → unreadable s r last ≡ false → (r .phase ≡ 0 → ⊥) → Active s r last
 unfolding numberTooLarge ticketTooLarge noticesWrong timeAhead givingWrong isLeaf
-active s last r v u d =
-    let k = passed s last r u d in
+active s r last v u d =
+    let k = passed s r last u d in
     let c = covered s r v (k .window) in
     let x = current-exists s r (k .current) in
     let n = currentPiece r in
@@ -212,9 +208,9 @@ active s last r v u d =
 none : (n : ℕ) → ltb 0 n ≡ false → n ≡ 0
 none n e = omega (arith, ltb-false 0 n e)
 
-pub idle-readable : (s : Settings) (last : ℕ) (r : Record) → unreadable s last r ≡ false → r .phase ≡ 0 → r ≡ idleWith (r .outcome)
+pub idle-readable : (s : Settings) (r : Record) (last : ℕ) → unreadable s r last ≡ false → r .phase ≡ 0 → r ≡ idleWith (r .outcome)
 unfolding unreadable idleFilled
-idle-readable s last r u z =
+idle-readable s r last u z =
     let a = both-false (numberTooLarge r) _ u in
     let is-t0 = both-false _ (ltb 0 (r .t0)) (sym (choose-eq (r .phase) 0 (idleFilled r) _ z) ∙ a .1) in
     let is-t1 = both-false _ (ltb 0 (r .t1)) (is-t0 .0) in

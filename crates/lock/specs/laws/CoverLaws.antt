@@ -5,10 +5,12 @@ use Prim.Native.Nat.{ℕ, _≤_}
 use native.Mathlib.Omega.{arith}
 use lib.Dec.{ltb, ltb→lt, not-T}
 use lib.ListN.{getD}
-use Rattle.base.specs.Choice.{choose, choose-no, or-none}
+use Rattle.base.specs.rules.Choice.{choose}
+use Rattle.base.specs.laws.ChoiceLaws.{choose-no}
+use Rattle.base.specs.laws.TestLaws.{or-none}
 use Rattle.cover.specs.declared.Answer.{Answer}
-use Rattle.cover.specs.Search.{leastCover}
-use Rattle.cover.specs.Answer.{levelsOutside, windowOutside, refused, accepted, answer}
+use Rattle.cover.specs.rules.Search.{leastCover}
+use Rattle.cover.specs.rules.Answer.{levelsOutside, windowOutside, refused, accepted, answer}
 
 module _ (h l r : ℕ) (h2 : 2 ≤ h) (h12 : h ≤ 12) (a : Answer) (e : a ≡ answer h l r) where
   abbrev least : Answer

@@ -3,13 +3,14 @@ use mathlib.Core.Path.{_≡_, refl, sym, ap, _∙_}
 use mathlib.Core.Bool.{Bool, true, false}
 use Prim.Native.Nat.{ℕ, _-_}
 use lib.ListN.{getD}
-use Rattle.base.specs.Choice.{choose, choose-eq, choose-ne}
+use Rattle.base.specs.rules.Choice.{choose}
+use Rattle.base.specs.laws.ChoiceLaws.{choose-eq, choose-ne}
 use Rattle.word.specs.declared.Swap.{Swap}
-use Rattle.word.specs.Word.{addOcc, takeBits}
-use Rattle.tree.specs.Lists.{notifyList}
+use Rattle.word.specs.rules.Word.{addOcc, takeBits}
+use Rattle.tree.specs.rules.Lists.{notifyList}
 use Rattle.lock.specs.declared.Record.{Record}
 use Rattle.lock.specs.declared.Settings.{Settings}
-use Rattle.lock.specs.rules.Types.{returning, phaseOf, currentPiece, givenPiece, isLeaf}
+use Rattle.lock.specs.rules.Records.{returning, phaseOf, currentPiece, givenPiece, isLeaf}
 use Rattle.lock.specs.rules.Steps.{touchedIn, movedIn, bitsClaimed, occClaimed, wanted, leaves, claimPiece}
 use Rattle.lock.specs.laws.Phases.{on-phase}
 

@@ -3,8 +3,9 @@ use mathlib.Core.Path.{_≡_, sym, ap, subst}
 use Prim.Native.Nat.{ℕ, _≤_, _<_}
 use native.Mathlib.Omega.{arith}
 use lib.Dec.{eqb}
-use Rattle.base.specs.Choice.{choose, choose-eq, choose-ne, by-lt}
-use Rattle.lock.specs.rules.Types.{Phase, idle, ticket, turn, climb, blocked, claim, notify, wait, check, held, returning, unknown, phaseOf}
+use Rattle.base.specs.rules.Choice.{choose}
+use Rattle.base.specs.laws.ChoiceLaws.{choose-eq, choose-ne, by-lt}
+use Rattle.lock.specs.rules.Records.{Phase, idle, ticket, turn, climb, blocked, claim, notify, wait, check, held, returning, unknown, phaseOf}
 
 module _ (p : ℕ) where
   pub at-idle : p ≡ 0 → phaseOf p ≡ idle

@@ -5,11 +5,11 @@ use Prim.Native.Nat.{ℕ, _≤_, _<_}
 use native.Mathlib.Omega.{arith}
 use lib.Dec.{eqb}
 use lib.ListN.{length, getD}
-use Rattle.base.specs.Choice.{on-choose, choose-eq, choose-ne, choose-lt, choose-ge}
-use Rattle.tree.specs.Lists.{notifyList}
+use Rattle.base.specs.laws.ChoiceLaws.{on-choose, choose-eq, choose-ne, choose-lt, choose-ge}
+use Rattle.tree.specs.rules.Lists.{notifyList}
 use Rattle.lock.specs.declared.Record.{Record}
 use Rattle.lock.specs.declared.Settings.{Settings}
-use Rattle.lock.specs.rules.Types.{pieces, pieceAt, gripOf, noticesOf}
+use Rattle.lock.specs.rules.Records.{pieces, pieceAt, gripOf, noticesOf}
 
 module _ (r : Record) where
   one-piece : r .second ≡ 0 → pieces r ≡ r .first ∷ []

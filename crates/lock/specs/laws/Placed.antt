@@ -4,15 +4,15 @@ use mathlib.Core.Logic.{_⊎_, ⊎-elim}
 use Prim.Native.Nat.{ℕ, _+_, _-_, _^_, _≤_, _<_}
 use native.Mathlib.Omega.{arith}
 use lib.ListN.{length}
-use Rattle.base.specs.Choice.{by-lt}
-use Rattle.tree.specs.Tree.{level, left, right, size, Node}
-use Rattle.tree.specs.Lists.{ancestors, notifyList, checkList}
-use Rattle.tree.specs.Range.{right-in}
-use Rattle.cover.specs.Cover.{Meets}
-use Rattle.cover.specs.Over.{units-small}
+use Rattle.base.specs.laws.ChoiceLaws.{by-lt}
+use Rattle.tree.specs.rules.Tree.{level, left, right, size, Node}
+use Rattle.tree.specs.rules.Lists.{ancestors, notifyList, checkList}
+use Rattle.tree.specs.laws.Range.{right-in}
+use Rattle.cover.specs.rules.Cover.{Meets}
+use Rattle.cover.specs.laws.Over.{units-small}
 use Rattle.lock.specs.declared.Record.{Record}
 use Rattle.lock.specs.declared.Settings.{Settings}
-use Rattle.lock.specs.rules.Types.{pieces, pieceAt, currentPiece, givenPiece, noticesOf}
+use Rattle.lock.specs.rules.Records.{pieces, pieceAt, currentPiece, givenPiece, noticesOf}
 use Rattle.lock.specs.laws.Active.{Settled, Active}
 use Rattle.lock.specs.laws.Pieces.{notices-before, notices-current}
 
@@ -26,8 +26,8 @@ pub record Placed (s : Settings) (r : Record) : Type 0 where
   pub noticed : r .notices ≤ length (notifyList (s .distance) (currentPiece r))
   pub giving-begun : r .giving ≤ r .current
 
-pub placed : (s : Settings) (last : ℕ) (r : Record) → Active s last r → Placed s r
-placed s last r a = record {
+pub placed : (s : Settings) (r : Record) (last : ℕ) → Active s r last → Placed s r
+placed s r last a = record {
   exists = a .exists;
   meets = a .meets;
   climbing = a .climbing;

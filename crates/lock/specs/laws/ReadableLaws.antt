@@ -6,40 +6,22 @@ use native.Mathlib.Omega.{arith}
 use borrow.Author.Tests.{eq-eqb, ne-eqb}
 use lib.Dec.{eqb, leb, ltb}
 use lib.ListN.{length}
-use Rattle.base.specs.Choice.{choose, choose-eq, choose-ne, by-eq}
-use Rattle.tree.specs.Tree.{Node}
-use Rattle.tree.specs.Lists.{ancestors, notifyList, checkList}
+use Rattle.base.specs.rules.Choice.{choose}
+use Rattle.base.specs.laws.ChoiceLaws.{choose-eq, choose-ne, by-eq}
+use Rattle.tree.specs.rules.Tree.{Node}
+use Rattle.tree.specs.rules.Lists.{ancestors, notifyList, checkList}
 use Rattle.cover.specs.declared.Answer.{Answer}
-use Rattle.cover.specs.Answer.{windowOutside, answer}
+use Rattle.cover.specs.rules.Answer.{windowOutside, answer}
 use Rattle.lock.specs.declared.Record.{Record}
 use Rattle.lock.specs.declared.Settings.{Settings}
-use Rattle.lock.specs.rules.Types.{phaseOf, pieces, pieceAt, currentPiece, isLeaf, isRoot, noticesOf}
-use Rattle.lock.specs.rules.Readable.{nonzero, differ, notCovered, listLength, placePast, phaseElsewhere, lacksGrip}
+use Rattle.lock.specs.rules.Records.{phaseOf, pieces, pieceAt, currentPiece, isLeaf, isRoot, noticesOf}
+use Rattle.lock.specs.rules.Unreadable.{nonzero, differ, notCovered, listLength, placePast, phaseElsewhere, lacksGrip}
 use Rattle.lock.specs.laws.CoverLaws.{cover-refused, cover-inside, cover-first, cover-second}
 use Rattle.lock.specs.laws.Phases.{on-phase}
 use Rattle.lock.specs.laws.Active.{Settled}
 
--- ---- tests joined by `||`, one after the other
-
-pub true-first : (a b : Bool) → a ≡ true → true ≡ (a || b)
-true-first a b e = ap (λ c. c || b) (sym e)
-
-pub true-later : (a b : Bool) → true ≡ b → true ≡ (a || b)
-true-later true b e = refl
-true-later false b e = e
-
-pub next-test : (x a b : Bool) → a ≡ false → x ≡ b → x ≡ (a || b)
-next-test x a b e f = f ∙ ap (λ c. c || b) (sym e)
-
 pub one-true : (a b c : Bool) → a ≡ true → true ≡ (a || b || c)
 one-true a b c e = ap (λ d. d || b || c) (sym e)
-
--- a choice between two tests, joined as the code does it
-pub choose-tests : (b x y : Bool) → ((b && x) || (not b && y)) ≡ choose b x y
-unfolding choose
-choose-tests true true y = refl
-choose-tests true false y = refl
-choose-tests false x y = refl
 
 -- ---- what the clauses after the cover and the current piece stand on
 

@@ -7,19 +7,21 @@ use native.Mathlib.Omega.{arith}
 use borrow.Author.Tests.{ltb-false, eqb-false, eqb-true, not-false, lt-ltb, eq-eqb, ne-eqb}
 use lib.Dec.{eqb, ltb}
 use lib.ListN.{length}
-use Rattle.base.specs.Choice.{choose, choose-eq, choose-ne, by-lt, by-eq}
-use Rattle.tree.specs.Tree.{level}
-use Rattle.tree.specs.Lists.{notifyList}
+use Rattle.base.specs.rules.Choice.{choose}
+use Rattle.base.specs.laws.ChoiceLaws.{choose-eq, choose-ne, by-lt, by-eq}
+use Rattle.tree.specs.rules.Tree.{level}
+use Rattle.tree.specs.rules.Lists.{notifyList}
 use Rattle.lock.specs.declared.Record.{Record}
 use Rattle.lock.specs.declared.Settings.{Settings}
-use Rattle.lock.specs.rules.Types.{Phase, phaseOf, pieces, currentPiece, isLeaf, gripOf}
+use Rattle.lock.specs.rules.Records.{Phase, phaseOf, pieces, currentPiece, isLeaf, gripOf}
 use Rattle.lock.specs.laws.Phases.{at-ticket, at-turn, at-climb, at-blocked, at-claim, at-notify, at-wait, at-check, at-returning}
-use Rattle.lock.specs.rules.Readable.{nonzero, differ, noticesWrong, phaseElsewhere, lacksGrip, gripLacking, givingWrong, unreadable}
+use Rattle.lock.specs.rules.Unreadable.{nonzero, differ, noticesWrong, phaseElsewhere, lacksGrip, gripLacking, givingWrong, unreadable}
 use Rattle.lock.specs.laws.Active.{Settled, Active}
-use Rattle.lock.specs.laws.ActiveLaws.{both-false, Passed, passed, active}
+use Rattle.base.specs.laws.TestLaws.{both-false}
+use Rattle.lock.specs.laws.ActiveLaws.{Passed, passed, active}
 
-pub record Ready (s : Settings) (last : ℕ) (r : Record) : Type 0 where
-  pub active : Active s last r
+pub record Ready (s : Settings) (r : Record) (last : ℕ) : Type 0 where
+  pub active : Active s r last
   pub grip-ticket : r .phase ≡ 1 → r .grip ≡ 0
   pub grip-turn : r .phase ≡ 2 → r .grip ≡ 1
   pub grip-leaf : 3 ≤ r .phase → r .phase ≤ 5 → level (currentPiece r) ≡ s .levels → r .grip ≡ 0
@@ -41,7 +43,7 @@ same m n e = eqb-true m n (not-false (eqb m n) e)
 and-second : (a b : Bool) → a ≡ true → (a && b) ≡ false → b ≡ false
 and-second a b t e = sym (ap (λ x. x && b) t) ∙ e
 
-module _ (s : Settings) (last : ℕ) (r : Record) (k : Passed s last r) where
+module _ (s : Settings) (r : Record) (last : ℕ) (k : Passed s r last) where
   lacks : (p : Phase) → phaseOf (r .phase) ≡ p → gripLacking s r p ≡ false
   lacks p e = ap (gripLacking s r) (sym e) ∙ k .grip
 
@@ -87,7 +89,7 @@ module _ (s : Settings) (last : ℕ) (r : Record) (k : Passed s last r) where
   unfolding givingWrong
   giving-test = both-false (ltb (r .current) (r .giving)) _ (k .giving) .1
 
-  pub ready-passed : Active s last r → Ready s last r
+  pub ready-passed : Active s r last → Ready s r last
   unfolding phaseElsewhere lacksGrip
   ready-passed a = record {
     active = a;
@@ -109,5 +111,5 @@ module _ (s : Settings) (last : ℕ) (r : Record) (k : Passed s last r) where
     giving-gripped = λ e. eqb-false (gripOf r (r .giving)) 0 (sym (choose-eq (r .phase) 10 _ (nonzero (r .giving)) e) ∙ giving-test);
   }
 
-pub ready : (s : Settings) (last : ℕ) (r : Record) → Settled s → unreadable s last r ≡ false → r .phase ≢ 0 → Ready s last r
-ready s last r v u d = ready-passed s last r (passed s last r u d) (active s last r v u d)
+pub ready : (s : Settings) (r : Record) (last : ℕ) → Settled s → unreadable s r last ≡ false → r .phase ≢ 0 → Ready s r last
+ready s r last v u d = ready-passed s r last (passed s r last u d) (active s r last v u d)

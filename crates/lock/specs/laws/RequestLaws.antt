@@ -7,15 +7,15 @@ use native.Mathlib.Omega.{arith}
 use borrow.Author.Tests.{ltb-false, leb-false}
 use lib.Dec.{T, leb, ltb}
 use lib.ListN.{getD, set}
-use Rattle.tree.specs.Tree.{last, Node, units, wordCount}
-use Rattle.tree.specs.Level.{word-count}
-use Rattle.cover.specs.Lowest.{Window}
-use Rattle.cover.specs.Search.{leastCover}
-use Rattle.cover.specs.Least.{least-chain}
-use Rattle.cover.specs.Chain.{Chain}
-use Rattle.cover.specs.Answer.{windowOutside}
+use Rattle.tree.specs.rules.Tree.{last, Node, units, wordCount}
+use Rattle.tree.specs.laws.Level.{word-count}
+use Rattle.cover.specs.laws.Lowest.{Window}
+use Rattle.cover.specs.rules.Search.{leastCover}
+use Rattle.cover.specs.laws.Least.{least-chain}
+use Rattle.cover.specs.laws.Chain.{Chain}
+use Rattle.cover.specs.rules.Answer.{windowOutside}
 use Rattle.lock.specs.declared.Settings.{Settings}
-use Rattle.lock.specs.rules.Types.{wordAt, written}
+use Rattle.lock.specs.rules.Records.{wordAt, written}
 use Rattle.lock.specs.laws.Active.{Settled}
 use Rattle.lock.specs.laws.Placed.{widen}
 

@@ -4,13 +4,14 @@ use mathlib.Core.Bool.{Bool, true, false}
 use Prim.Native.Nat.{ℕ, suc, _+_, _≤_, _<_}
 use native.Mathlib.Omega.{arith}
 use borrow.Author.Tests.{eqb-true}
-use Rattle.base.specs.Choice.{choose, choose-eq, choose-ne, choose-lt, choose-ge}
+use Rattle.base.specs.rules.Choice.{choose}
+use Rattle.base.specs.laws.ChoiceLaws.{choose-eq, choose-ne, choose-lt, choose-ge}
 use Rattle.word.specs.declared.Swap.{Swap}
-use Rattle.word.specs.Word.{tcnt, addTcnt, addDcnt, giveBits, returnOcc}
-use Rattle.tree.specs.Tree.{level}
+use Rattle.word.specs.rules.Word.{tcnt, addTcnt, addDcnt, giveBits, returnOcc}
+use Rattle.tree.specs.rules.Tree.{level}
 use Rattle.lock.specs.declared.Record.{Record}
 use Rattle.lock.specs.declared.Settings.{Settings}
-use Rattle.lock.specs.rules.Types.{givenPiece, isLeaf, gripOf, noticesOf, withGiving, withGrip, withPlace, idleWith}
+use Rattle.lock.specs.rules.Records.{givenPiece, isLeaf, gripOf, noticesOf, withGiving, withGrip, withPlace, idleWith}
 use Rattle.lock.specs.rules.Steps.{pieceReturned, wordReturned, turnReturned, wanted, leaves, returnBits, returnInner, giveBack}
 
 module _ (r : Record) where

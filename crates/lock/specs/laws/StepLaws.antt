@@ -6,15 +6,16 @@ use Prim.Native.Nat.{ℕ, suc, _+_, _-_, _≤_, _<_, min}
 use native.Mathlib.Omega.{arith}
 use lib.Dec.{eqb}
 use lib.ListN.{length, getD}
-use Rattle.base.specs.Choice.{choose, on-choose, choose-eq, choose-ne, choose-lt, choose-ge, choose-le, choose-gt}
-use Rattle.word.specs.Word.{occ, tcnt, dcnt, dmax}
-use Rattle.tree.specs.Tree.{level, Node}
-use Rattle.tree.specs.Lists.{ancestors, notifyList, checkList}
-use Rattle.tree.specs.Check.{checkCount, check-count}
-use Rattle.tree.specs.Closed.{first-small}
+use Rattle.base.specs.rules.Choice.{choose}
+use Rattle.base.specs.laws.ChoiceLaws.{on-choose, choose-eq, choose-ne, choose-lt, choose-ge, choose-le, choose-gt}
+use Rattle.word.specs.rules.Word.{occ, tcnt, dcnt, dmax}
+use Rattle.tree.specs.rules.Tree.{level, Node}
+use Rattle.tree.specs.rules.Lists.{ancestors, notifyList, checkList}
+use Rattle.tree.specs.laws.Check.{checkCount, check-count}
+use Rattle.tree.specs.laws.Closed.{first-small}
 use Rattle.lock.specs.declared.Record.{Record}
 use Rattle.lock.specs.declared.Settings.{Settings}
-use Rattle.lock.specs.rules.Types.{pieces, pieceAt, currentPiece, isLeaf, change, toPhase, toBlocked, withOutcome, withGrip, withPlace, withNotices, withT1, withT0}
+use Rattle.lock.specs.rules.Records.{pieces, pieceAt, currentPiece, isLeaf, change, toPhase, toBlocked, withOutcome, withGrip, withPlace, withNotices, withT1, withT0}
 use Rattle.lock.specs.rules.Steps.{startPhase, begin, taken, turnAwaited, goUp, climbed, unblocked, bitsClaimed, occClaimed, allNotified, noticeGiven, waited, checkPassed}
 use Rattle.lock.specs.laws.Placed.{Pieced}
 
@@ -59,10 +60,10 @@ module _ (r : Record) where
   up-last b = choose-ge (suc (r .place)) _ _ _ (omega arith)
 
   -- noting t1 changes neither piece nor place
-  pub noted-fine : (t : ℕ) → Pieced r × (r .place < length (ancestors (currentPiece r))) → (x : Record) → x ≡ choose (eqb (r .place) 0) (withT1 t r) r
+  pub noted-parent : (t : ℕ) → Pieced r × (r .place < length (ancestors (currentPiece r))) → (x : Record) → x ≡ choose (eqb (r .place) 0) (withT1 t r) r
       → Pieced x × (x .place < length (ancestors (currentPiece x)))
   unfolding pieces pieceAt
-  noted-fine t v x e =
+  noted-parent t v x e =
       subst (λ y. Pieced y × (y .place < length (ancestors (currentPiece y)))) (sym e)
       (on-choose (λ y. Pieced y × (y .place < length (ancestors (currentPiece y)))) (eqb (r .place) 0) (withT1 t r) r
       (λ _. (pieced-kept r (withT1 t r) (v .0) refl refl refl, v .1)) (λ _. v))
@@ -113,13 +114,13 @@ module _ (s : Settings) where
   start-inner n e = ap (λ (b : Bool). choose b 3 1) e
 
   module _ (r : Record) where
-    pub begin-is : (i p : ℕ) → p ≡ startPhase s (pieceAt r i) → change r p (r .outcome) i (r .giving) 0 0 0 0 0 0 ≡ begin s i r
+    pub begin-is : (i p : ℕ) → p ≡ startPhase s (pieceAt r i) → change r p (r .outcome) i (r .giving) 0 0 0 0 0 0 ≡ begin s r i
     unfolding begin
     begin-is i p e = ap (λ (x : ℕ). change r x (r .outcome) i (r .giving) 0 0 0 0 0 0) e
 
-    pub taken-more : r .current + 1 < length (pieces r) → taken s r ≡ begin s (r .current + 1) r
+    pub taken-more : r .current + 1 < length (pieces r) → taken s r ≡ begin s r (r .current + 1)
     unfolding taken
-    taken-more b = choose-lt (suc (r .current)) _ _ _ (omega arith) ∙ ap (λ (i : ℕ). begin s i r) (sym (plus-one (r .current)))
+    taken-more b = choose-lt (suc (r .current)) _ _ _ (omega arith) ∙ ap (λ (i : ℕ). begin s r i) (sym (plus-one (r .current)))
 
     pub taken-last : length (pieces r) ≤ r .current + 1 → taken s r ≡ toPhase 9 r
     unfolding taken

@@ -6,20 +6,20 @@ use Prim.Native.Nat.{ℕ, suc, _-_, _≤_, _<_}
 use native.Mathlib.Decide.{ℕ-discrete}
 use native.Mathlib.Omega.{arith}
 use lib.ListN.{length, getD}
-use Rattle.base.specs.Choice.{choose}
-use Rattle.tree.specs.Tree.{climb, level, Node, wordCount}
-use Rattle.tree.specs.Lists.{ancestors, notifyList, checkList}
-use Rattle.tree.specs.Climb.{left-pos}
-use Rattle.tree.specs.Level.{climb-level, node-counted}
-use Rattle.tree.specs.Ancestors.{ancestors-count, ancestors-place}
-use Rattle.tree.specs.Notify.{notify-count, notify-place, notify-node, notify-higher}
-use Rattle.tree.specs.Check.{checkNode, check-count, check-place, check-is}
-use Rattle.tree.specs.Code.{bounded}
+use Rattle.base.specs.rules.Choice.{choose}
+use Rattle.tree.specs.rules.Tree.{climb, level, Node, wordCount}
+use Rattle.tree.specs.rules.Lists.{ancestors, notifyList, checkList}
+use Rattle.tree.specs.laws.Climb.{left-pos}
+use Rattle.tree.specs.laws.Level.{climb-level, node-counted}
+use Rattle.tree.specs.laws.Ancestors.{ancestors-count, ancestors-place}
+use Rattle.tree.specs.laws.Notify.{notify-count, notify-place, notify-node, notify-higher}
+use Rattle.tree.specs.laws.Check.{checkNode, check-count, check-place, check-is}
+use Rattle.tree.specs.laws.Code.{bounded}
 use Rattle.lock.specs.declared.Record.{Record}
 use Rattle.lock.specs.declared.Settings.{Settings}
-use Rattle.lock.specs.rules.Types.{phaseOf, returning, pieces, pieceAt, currentPiece, givenPiece}
+use Rattle.lock.specs.rules.Records.{phaseOf, returning, pieces, pieceAt, currentPiece, givenPiece}
 use Rattle.lock.specs.rules.Steps.{touchedIn}
-use Rattle.lock.specs.rules.Readable.{unreadable}
+use Rattle.lock.specs.rules.Unreadable.{unreadable}
 use Rattle.lock.specs.laws.Active.{Settled}
 use Rattle.lock.specs.laws.ActiveLaws.{active, idle-readable}
 use Rattle.lock.specs.laws.Placed.{Placed, placed, Sound, widen, given-notices}
@@ -89,20 +89,20 @@ touched-counted s r v d = ⊎-elim (λ e. subst (λ (q : ℕ). touchedIn s r (ph
 
 -- ---- a readable record
 
-pub record Readable (s : Settings) (last : ℕ) (r : Record) : Type 0 where
+pub record Readable (s : Settings) (r : Record) (last : ℕ) : Type 0 where
   pub sound : Sound s r
   pub t1-past : r .t1 ≤ last
   pub t0-past : r .t0 ≤ last
 
-pub readable : (s : Settings) (last : ℕ) (r : Record) → Settled s → unreadable s last r ≡ false → Readable s last r
-readable s last r v u =
+pub readable : (s : Settings) (r : Record) (last : ℕ) → Settled s → unreadable s r last ≡ false → Readable s r last
+readable s r last v u =
     elim (ℕ-discrete (r .phase) 0) [
       | yes e ↦
-          let i = idle-readable s last r u e in
+          let i = idle-readable s r last u e in
           let a : r .t1 ≡ 0 = ap (λ x. x .t1) i in
           let b : r .t0 ≡ 0 = ap (λ x. x .t0) i in
           record { sound = inl e; t1-past = omega arith; t0-past = omega arith }
       | no d ↦
-          let a = active s last r v u d in
-          record { sound = inr (placed s last r a); t1-past = a .t1-past; t0-past = a .t0-past }
+          let a = active s r last v u d in
+          record { sound = inr (placed s r last a); t1-past = a .t1-past; t0-past = a .t0-past }
     ]

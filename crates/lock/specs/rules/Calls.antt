@@ -5,15 +5,15 @@ use mathlib.Core.List.{List, [], _∷_, _++_}
 use Prim.Native.Nat.{ℕ}
 use lib.Dec.{eqb, leb, ltb}
 use lib.ListN.{length, getD, set}
-use Rattle.base.specs.Choice.{choose}
-use Rattle.tree.specs.Tree.{wordCount}
-use Rattle.cover.specs.Search.{leastCover}
-use Rattle.cover.specs.Answer.{levelsOutside, windowOutside}
+use Rattle.base.specs.rules.Choice.{choose}
+use Rattle.tree.specs.rules.Tree.{wordCount}
+use Rattle.cover.specs.rules.Search.{leastCover}
+use Rattle.cover.specs.rules.Answer.{levelsOutside, windowOutside}
 use Rattle.lock.specs.declared.Record.{Record}
 use Rattle.lock.specs.declared.Settings.{Settings}
 use Rattle.lock.specs.declared.Stepped.{Stepped}
-use Rattle.lock.specs.rules.Types.{gripOf, wordAt, written, toPhase, withOutcome, idleWith}
-use Rattle.lock.specs.rules.Readable.{differ, unreadable}
+use Rattle.lock.specs.rules.Records.{gripOf, wordAt, written, toPhase, withOutcome, idleWith}
+use Rattle.lock.specs.rules.Unreadable.{differ, unreadable}
 use Rattle.lock.specs.rules.Steps.{touched, moved, startPhase}
 
 -- ---- "Refused calls, in order of testing": the number of the first test that is true, 0 if none is
@@ -41,21 +41,21 @@ unfoldable pub clientTests : List Record → ℕ → Tests
 clientTests records client = (clientsOutside records, 3) ∷ (leb (length records) client, 4) ∷ []
 
 -- request: 6, 7, 8
-unfoldable pub requestTests : Settings → ℕ → Record → ℕ → ℕ → Tests
-requestTests s last r a b = (unreadable s last r, 6) ∷ (windowOutside (s .levels) a b, 7) ∷ (differ (r .phase) 0, 8) ∷ []
+unfoldable pub requestTests : Settings → Record → ℕ → ℕ → ℕ → Tests
+requestTests s r last a b = (unreadable s r last, 6) ∷ (windowOutside (s .levels) a b, 7) ∷ (differ (r .phase) 0, 8) ∷ []
 
 -- step: 5, 6, 9; "Only a step tests 5 and 9"
-unfoldable pub stepTests : Settings → ℕ → Record → List ℕ → ℕ → Tests
-stepTests s last r words clock =
-    (ltb clock last, 5) ∷ (unreadable s last r, 6) ∷ (differ (moved s r (wordAt words (touched s r)) clock .number) 0, 9) ∷ []
+unfoldable pub stepTests : Settings → Record → List ℕ → ℕ → ℕ → Tests
+stepTests s r words last clock =
+    (ltb clock last, 5) ∷ (unreadable s r last, 6) ∷ (differ (moved s r (wordAt words (touched s r)) clock .number) 0, 9) ∷ []
 
 -- release: 6, 8, "release when not held"
-unfoldable pub releaseTests : Settings → ℕ → Record → Tests
-releaseTests s last r = (unreadable s last r, 6) ∷ (differ (r .phase) 9, 8) ∷ []
+unfoldable pub releaseTests : Settings → Record → ℕ → Tests
+releaseTests s r last = (unreadable s r last, 6) ∷ (differ (r .phase) 9, 8) ∷ []
 
 -- cancel: 6, 8, "cancel in 0, 9 or 10"
-unfoldable pub cancelTests : Settings → ℕ → Record → Tests
-cancelTests s last r = (unreadable s last r, 6) ∷ (eqb (r .phase) 0 || eqb (r .phase) 9 || eqb (r .phase) 10, 8) ∷ []
+unfoldable pub cancelTests : Settings → Record → ℕ → Tests
+cancelTests s r last = (unreadable s r last, 6) ∷ (eqb (r .phase) 0 || eqb (r .phase) 9 || eqb (r .phase) 10, 8) ∷ []
 
 -- ---- what an accepted call makes of the record
 
@@ -93,30 +93,30 @@ cancelled r = choose (eqb (gripOf r 0) 0) (idleWith 3) (toPhase 10 (withOutcome 
 -- ---- a call by value: number, clock and record after it, and the words
 
 -- "As it was": a refused call gives its number, and the record and the clock as they were
-unfoldable pub answered : ℕ → ℕ → Record → ℕ → Record → Stepped
-answered number last r clock next =
+unfoldable pub answered : ℕ → Record → ℕ → Record → ℕ → Stepped
+answered number r last next clock =
     choose (eqb number 0) (record { number = 0; clock = clock; next = next }) (record { number = number; clock = last; next = r })
 
-unfoldable pub requestNumber : Settings → ℕ → Record → List ℕ → ℕ → ℕ → ℕ
-requestNumber s last r words a b = firstCause (treeTests s (length words) ++ requestTests s last r a b)
+unfoldable pub requestNumber : Settings → Record → List ℕ → ℕ → ℕ → ℕ → ℕ
+requestNumber s r words last a b = firstCause (treeTests s (length words) ++ requestTests s r last a b)
 
-unfoldable pub requestAnswer : Settings → ℕ → Record → List ℕ → ℕ → ℕ → Stepped
-requestAnswer s last r words a b = answered (requestNumber s last r words a b) last r last (requested s a b)
+unfoldable pub requestAnswer : Settings → Record → List ℕ → ℕ → ℕ → ℕ → Stepped
+requestAnswer s r words last a b = answered (requestNumber s r words last a b) r last (requested s a b) last
 
-unfoldable pub releaseAnswer : Settings → ℕ → Record → List ℕ → Stepped
-releaseAnswer s last r words = answered (firstCause (treeTests s (length words) ++ releaseTests s last r)) last r last (released r)
+unfoldable pub releaseAnswer : Settings → Record → List ℕ → ℕ → Stepped
+releaseAnswer s r words last = answered (firstCause (treeTests s (length words) ++ releaseTests s r last)) r last (released r) last
 
-unfoldable pub cancelAnswer : Settings → ℕ → Record → List ℕ → Stepped
-cancelAnswer s last r words = answered (firstCause (treeTests s (length words) ++ cancelTests s last r)) last r last (cancelled r)
+unfoldable pub cancelAnswer : Settings → Record → List ℕ → ℕ → Stepped
+cancelAnswer s r words last = answered (firstCause (treeTests s (length words) ++ cancelTests s r last)) r last (cancelled r) last
 
-unfoldable pub stepNumber : Settings → ℕ → Record → List ℕ → ℕ → ℕ
-stepNumber s last r words clock = firstCause (treeTests s (length words) ++ stepTests s last r words clock)
+unfoldable pub stepNumber : Settings → Record → List ℕ → ℕ → ℕ → ℕ
+stepNumber s r words last clock = firstCause (treeTests s (length words) ++ stepTests s r words last clock)
 
 -- "An accepted step sets the last clock."
-unfoldable pub stepAnswer : Settings → ℕ → Record → List ℕ → ℕ → Stepped
-stepAnswer s last r words clock =
-    answered (stepNumber s last r words clock) last r clock (moved s r (wordAt words (touched s r)) clock .next)
+unfoldable pub stepAnswer : Settings → Record → List ℕ → ℕ → ℕ → Stepped
+stepAnswer s r words last clock =
+    answered (stepNumber s r words last clock) r last (moved s r (wordAt words (touched s r)) clock .next) clock
 
-unfoldable pub stepWords : Settings → ℕ → Record → List ℕ → ℕ → List ℕ
-stepWords s last r words clock =
-    choose (eqb (stepNumber s last r words clock) 0) (written words (touched s r) (moved s r (wordAt words (touched s r)) clock .word)) words
+unfoldable pub stepWords : Settings → Record → List ℕ → ℕ → ℕ → List ℕ
+stepWords s r words last clock =
+    choose (eqb (stepNumber s r words last clock) 0) (written words (touched s r) (moved s r (wordAt words (touched s r)) clock .word)) words

@@ -5,10 +5,10 @@ use mathlib.Core.Logic.{_⊎_}
 use mathlib.Core.List.{List, [], _∷_, _++_}
 use Prim.Native.Nat.{ℕ, _≤_, _<_}
 use lib.ListN.{length}
-use Rattle.word.specs.Word.{exp, occ, tcnt, tmax, dcnt, dmax}
-use Rattle.tree.specs.Tree.{level, Node}
+use Rattle.word.specs.rules.Word.{exp, occ, tcnt, tmax, dcnt, dmax}
+use Rattle.tree.specs.rules.Tree.{level, Node}
 use Rattle.lock.specs.declared.Settings.{Settings}
-use Rattle.lock.specs.rules.Types.{wordAt}
+use Rattle.lock.specs.rules.Records.{wordAt}
 use Rattle.lock.specs.rules.Table.{State, Call, request, step, release, cancel, clientOf, recordAt, call}
 
 -- ---- "A history is a list of calls"

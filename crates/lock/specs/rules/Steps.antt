@@ -4,14 +4,14 @@ use mathlib.Core.Bool.{Bool}
 use Prim.Native.Nat.{ℕ, suc, _+_, _-_}
 use lib.Dec.{eqb, leb, ltb}
 use lib.ListN.{length, getD}
-use Rattle.base.specs.Choice.{choose}
-use Rattle.word.specs.Word.{occ, tcnt, tmax, dcnt, dmax, addOcc, addTcnt, addTmax, addDcnt, addDmax, wantedBits, takeBits, giveBits, returnOcc}
-use Rattle.tree.specs.Tree.{left}
-use Rattle.tree.specs.Lists.{ancestors, notifyList, checkList}
+use Rattle.base.specs.rules.Choice.{choose}
+use Rattle.word.specs.rules.Word.{occ, tcnt, tmax, dcnt, dmax, addOcc, addTcnt, addTmax, addDcnt, addDmax, wantedBits, takeBits, giveBits, returnOcc}
+use Rattle.tree.specs.rules.Tree.{left}
+use Rattle.tree.specs.rules.Lists.{ancestors, notifyList, checkList}
 use Rattle.lock.specs.declared.Moved.{Moved}
 use Rattle.lock.specs.declared.Record.{Record}
 use Rattle.lock.specs.declared.Settings.{Settings}
-use Rattle.lock.specs.rules.Types.{pieceAt, Phase, idle, ticket, turn, climb, blocked, claim, notify, wait, check, held, returning, unknown, phaseOf, pieces, currentPiece, givenPiece, isLeaf, isRoot, gripOf, noticesOf, change, toPhase, toBlocked, withOutcome, withGiving, withGrip, withTicket, withPlace, withNotices, withT1, withT0, idleWith}
+use Rattle.lock.specs.rules.Records.{pieceAt, Phase, idle, ticket, turn, climb, blocked, claim, notify, wait, check, held, returning, unknown, phaseOf, pieces, currentPiece, givenPiece, isLeaf, isRoot, gripOf, noticesOf, change, toPhase, toBlocked, withOutcome, withGiving, withGrip, withTicket, withPlace, withNotices, withT1, withT0, idleWith}
 
 -- ---- "touches at most one word": the node that a step touches, 0 for none
 
@@ -36,12 +36,12 @@ unfoldable pub startPhase : Settings → ℕ → ℕ
 startPhase s n = choose (isLeaf s n) 3 1
 
 -- "Beginning a piece zeroes grip, ticket, notices, t1 and t0."
-unfoldable pub begin : Settings → ℕ → Record → Record
-begin s i r = change r (startPhase s (pieceAt r i)) (r .outcome) i (r .giving) 0 0 0 0 0 0
+unfoldable pub begin : Settings → Record → ℕ → Record
+begin s r i = change r (startPhase s (pieceAt r i)) (r .outcome) i (r .giving) 0 0 0 0 0 0
 
 -- "A taken piece starts the next the same way, or gives 9."
 unfoldable pub taken : Settings → Record → Record
-taken s r = choose (ltb (suc (r .current)) (length (pieces r))) (begin s (suc (r .current)) r) (toPhase 9 r)
+taken s r = choose (ltb (suc (r .current)) (length (pieces r))) (begin s r (suc (r .current))) (toPhase 9 r)
 
 -- ---- the next record, a row of the table each
 

@@ -4,10 +4,10 @@ use mathlib.Core.List.{List, [], _∷_, _++_}
 use Prim.Native.Nat.{ℕ}
 use lib.Dec.{eqb}
 use lib.ListN.{length, getD, set, replicate}
-use Rattle.base.specs.Choice.{choose}
+use Rattle.base.specs.rules.Choice.{choose}
 use Rattle.lock.specs.declared.Record.{Record}
 use Rattle.lock.specs.declared.Settings.{Settings}
-use Rattle.lock.specs.rules.Types.{wordAt, written, idleWith}
+use Rattle.lock.specs.rules.Records.{wordAt, written, idleWith}
 use Rattle.lock.specs.rules.Steps.{touched, moved}
 use Rattle.lock.specs.rules.Calls.{Tests, firstCause, treeTests, clientsOutside, clientTests, requestTests, stepTests, releaseTests, cancelTests, requested, released, cancelled}
 
@@ -40,10 +40,10 @@ pub record Out : Type 0 where
 
 -- the tests of a call: request 1, 2, 3, 4, 6, 7, 8; step 1, 2, 3, 4, 5, 6, 9; release and cancel 1, 2, 3, 4, 6, 8
 unfoldable pub ownTests : Settings → State → Call → Tests
-ownTests s st (request c l r) = requestTests s (st .clock) (recordAt st c) l r
-ownTests s st (step c t) = stepTests s (st .clock) (recordAt st c) (st .words) t
-ownTests s st (release c) = releaseTests s (st .clock) (recordAt st c)
-ownTests s st (cancel c) = cancelTests s (st .clock) (recordAt st c)
+ownTests s st (request c l r) = requestTests s (recordAt st c) (st .clock) l r
+ownTests s st (step c t) = stepTests s (recordAt st c) (st .words) (st .clock) t
+ownTests s st (release c) = releaseTests s (recordAt st c) (st .clock)
+ownTests s st (cancel c) = cancelTests s (recordAt st c) (st .clock)
 
 unfoldable pub numberOf : Settings → State → Call → ℕ
 numberOf s st k = firstCause (treeTests s (length (st .words)) ++ (clientTests (st .records) (clientOf k) ++ ownTests s st k))

@@ -1,6 +1,6 @@
 -- `table::table_act` meets its contract: it is Thin.antt's law at `kinds::act`. Assumes nothing.
-use Rattle.table.specs.Promises.{callOf}
-use Rattle.table.specs.ByValueLaws.{client-of-kind}
+use Rattle.table.specs.rules.Lent.{callOf}
+use Rattle.table.specs.laws.ByValueLaws.{client-of-kind}
 use base.Logic.{emp}
 use contract.Monad.{factI}
 use contract.Running.{givenOf, tables, tablesOf}

@@ -1,7 +1,7 @@
 -- `table::table_cancel` meets its contract: it is Thin.antt's law at `lock::Record::cancel`. Assumes nothing.
 use mathlib.Core.Path.{refl}
 use Rattle.lock.specs.rules.Table.{cancel, clientOf}
-use Rattle.table.specs.ByValue.{answered, wordsAfter}
+use Rattle.table.specs.laws.ByValue.{answered, wordsAfter}
 use base.Logic.{emp}
 use contract.Monad.{factI}
 use contract.Running.{givenOf, tables, tablesOf}

@@ -52,7 +52,7 @@ use denote.Triple.Walked.{Stays, stay-none, gave-slice, walkOf, goes-none, goes-
 use denote.Exit.{yes}
 use Rattle.lock.specs.declared.Record.{Record}
 use Rattle.lock.specs.declared.Settings.{Settings}
-use Rattle.lock.specs.rules.Types.{idleWith}
+use Rattle.lock.specs.rules.Records.{idleWith}
 use Rattle.lock.specs.rules.Table as Table
 use Rattle.lock.proofs.Record as Rec
 use Rattle.lock.proofs.Record.Laws as Rec′
@@ -62,9 +62,9 @@ use Rattle.lock.proofs.Record.idle_with as idle-with
 use Rattle.lock.proofs.Record.idle_with.Symbol as idle-with-def
 use Rattle.lock.proofs.Record.idle_with.Symbol.{name as #idle-with}
 use Rattle.lock.proofs.Record.idle_with.Met as idle-with-thm
-use Rattle.table.specs.Promises.{lent, left}
-use Rattle.table.specs.Causes.{openingCause}
-use Rattle.table.specs.OpeningLaws.{opening-refuses, opening-takes}
+use Rattle.table.specs.rules.Lent.{lent, result}
+use Rattle.table.specs.laws.Causes.{openingCause}
+use Rattle.table.specs.laws.OpeningLaws.{opening-refuses, opening-takes}
 use Rattle.table.proofs.Filled.{filled, filled-length, filled-none, filled-next, filled-all}
 use Rattle.table.proofs.Thin.{bytes}
 use Rattle.table.proofs.Walk.{fits-index, gives-up, goes-on, shows-that, tests, whiles, Turned, first-of, after, inside, env, none-found, some-found}
@@ -108,7 +108,7 @@ blanks-length ys = ap length (sym (filled-all (idleWith 0) ys)) ∙ filled-lengt
 
 -- what the contract says of the result and the two last lists
 abbrev Said : List Record → List ℕ → Settings → ℕ → List Record → List ℕ → Type 0
-Said ys ws st n zs vs = left n 0 zs vs ≡ Table.opening st (lent ys ws 0)
+Said ys ws st n zs vs = result n zs vs 0 ≡ Table.opening st (lent ys ws 0)
 
 refused : (ys : List Record) (ws : List ℕ) (st : Settings) (e : ℕ) → e ≡ openingCause st (length ws) (length ys) → T (ltb 0 e) → Said ys ws st e ys ws
 refused ys ws st e ge h = opening-refuses st ys ws 0 e ge (some-found e h)

@@ -1,7 +1,7 @@
 -- `table::table_release` meets its contract: it is Thin.antt's law at `lock::Record::release`. Assumes nothing.
 use mathlib.Core.Path.{refl}
 use Rattle.lock.specs.rules.Table.{release, clientOf}
-use Rattle.table.specs.ByValue.{answered, wordsAfter}
+use Rattle.table.specs.laws.ByValue.{answered, wordsAfter}
 use base.Logic.{emp}
 use contract.Monad.{factI}
 use contract.Running.{givenOf, tables, tablesOf}

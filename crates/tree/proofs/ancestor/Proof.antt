@@ -1,7 +1,7 @@
 -- `tree::ancestor` meets its contract. Assumes nothing.
 use mathlib.Core.Path.{_∙_}
-use Rattle.tree.specs.Tree.{climb, level}
-use Rattle.tree.specs.Code.{ancestor-code}
+use Rattle.tree.specs.rules.Tree.{climb, level}
+use Rattle.tree.specs.laws.Code.{ancestor-code}
 use borrow.Author.Needs.{needs}
 use Rattle.tree.proofs.ancestor.Statement.{statement}
 use Rattle.tree.proofs.ancestor.Tie as tie

@@ -1,9 +1,9 @@
 -- `tree::ancestor_at` meets its contract. Assumes nothing.
 use mathlib.Core.Path.{_∙_}
 use native.Mathlib.Omega.{arith}
-use Rattle.tree.specs.Tree.{climb}
-use Rattle.tree.specs.Ancestors.{ancestors-count}
-use Rattle.tree.specs.Code.{ancestor-at-code}
+use Rattle.tree.specs.rules.Tree.{climb}
+use Rattle.tree.specs.laws.Ancestors.{ancestors-count}
+use Rattle.tree.specs.laws.Code.{ancestor-at-code}
 use Rattle.tree.proofs.ancestor_at.Statement.{statement}
 use Rattle.tree.proofs.ancestor_at.Tie as tie
 

@@ -2,9 +2,9 @@
 use mathlib.Core.Path.{ap, _∙_}
 use Prim.Native.Nat.{ℕ, _+_, _-_}
 use native.Mathlib.Omega.{arith}
-use Rattle.tree.specs.Tree.{first, level, left}
-use Rattle.tree.specs.Climb.{first-pos}
-use Rattle.tree.specs.Code.{check-count-m, check-count-h}
+use Rattle.tree.specs.rules.Tree.{first, level, left}
+use Rattle.tree.specs.laws.Climb.{first-pos}
+use Rattle.tree.specs.laws.Code.{check-count-m, check-count-h}
 use borrow.Author.Needs.{needs}
 use Rattle.tree.proofs.check_count.Statement.{statement}
 use Rattle.tree.proofs.check_count.Tie as tie

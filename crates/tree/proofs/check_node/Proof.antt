@@ -2,10 +2,10 @@
 use mathlib.Core.Path.{_≡_, ap, _∙_}
 use Prim.Native.Nat.{ℕ, _+_, _-_}
 use native.Mathlib.Omega.{arith}
-use Rattle.tree.specs.Tree.{leftmost, first, level}
-use Rattle.tree.specs.Level.{level-pos}
-use Rattle.tree.specs.Closed.{node-small, left-small}
-use Rattle.tree.specs.Code.{spotted}
+use Rattle.tree.specs.rules.Tree.{leftmost, first, level}
+use Rattle.tree.specs.laws.Level.{level-pos}
+use Rattle.tree.specs.laws.Closed.{node-small, left-small}
+use Rattle.tree.specs.laws.Code.{spotted}
 use Rattle.tree.proofs.check_node.Statement.{statement}
 use Rattle.tree.proofs.check_node.Tie as tie
 

@@ -1,6 +1,6 @@
 -- `tree::child` meets its contract. Assumes nothing.
 use native.Mathlib.Omega.{arith}
-use Rattle.tree.specs.Closed.{node-small}
+use Rattle.tree.specs.laws.Closed.{node-small}
 use borrow.Author.Needs.{needs}
 use Rattle.tree.proofs.child.Statement.{statement}
 use Rattle.tree.proofs.child.Tie as tie

@@ -2,11 +2,11 @@
 use Prim.Native.Nat.{_+_, _-_, _*_}
 use native.Mathlib.Omega.{arith}
 use lib.Pow.{shr-le}
-use Rattle.tree.specs.Tree.{level}
-use Rattle.tree.specs.Climb.{first-mono}
-use Rattle.tree.specs.Level.{level-range}
-use Rattle.tree.specs.Closed.{node-small}
-use Rattle.tree.specs.Code.{climb-code}
+use Rattle.tree.specs.rules.Tree.{level}
+use Rattle.tree.specs.laws.Climb.{first-mono}
+use Rattle.tree.specs.laws.Level.{level-range}
+use Rattle.tree.specs.laws.Closed.{node-small}
+use Rattle.tree.specs.laws.Code.{climb-code}
 use borrow.Author.Needs.{needs}
 use Rattle.tree.proofs.climb.Statement.{statement}
 use Rattle.tree.proofs.climb.Tie as tie

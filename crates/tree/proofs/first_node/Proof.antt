@@ -1,5 +1,5 @@
 -- `tree::first_node` meets its contract. Assumes nothing.
-use Rattle.tree.specs.Code.{first-code}
+use Rattle.tree.specs.laws.Code.{first-code}
 use borrow.Author.Needs.{needs}
 use Rattle.tree.proofs.first_node.Statement.{statement}
 use Rattle.tree.proofs.first_node.Tie as tie

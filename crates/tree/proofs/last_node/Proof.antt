@@ -1,8 +1,8 @@
 -- `tree::last_node` meets its contract. Assumes nothing.
 use Prim.Native.Nat.{_+_}
 use native.Mathlib.Omega.{arith}
-use Rattle.tree.specs.Climb.{first-pos}
-use Rattle.tree.specs.Code.{last-code}
+use Rattle.tree.specs.laws.Climb.{first-pos}
+use Rattle.tree.specs.laws.Code.{last-code}
 use borrow.Author.Needs.{needs}
 use Rattle.tree.proofs.last_node.Statement.{statement}
 use Rattle.tree.proofs.last_node.Tie as tie

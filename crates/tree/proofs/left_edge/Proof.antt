@@ -2,11 +2,11 @@
 use mathlib.Core.Path.{_≡_, ap, _∙_}
 use Prim.Native.Nat.{ℕ, _-_}
 use native.Mathlib.Omega.{arith}
-use Rattle.tree.specs.Tree.{leftmost, level}
-use Rattle.tree.specs.Level.{level-pos}
-use Rattle.tree.specs.Range.{leaves-from}
-use Rattle.tree.specs.Closed.{left-small}
-use Rattle.tree.specs.Code.{left-edge-code}
+use Rattle.tree.specs.rules.Tree.{leftmost, level}
+use Rattle.tree.specs.laws.Level.{level-pos}
+use Rattle.tree.specs.laws.Range.{leaves-from}
+use Rattle.tree.specs.laws.Closed.{left-small}
+use Rattle.tree.specs.laws.Code.{left-edge-code}
 use borrow.Author.Needs.{needs}
 use Rattle.tree.proofs.left_edge.Statement.{statement}
 use Rattle.tree.proofs.left_edge.Tie as tie

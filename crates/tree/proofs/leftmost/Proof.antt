@@ -1,7 +1,7 @@
 -- `tree::leftmost` meets its contract. Assumes nothing.
 use native.Mathlib.Omega.{arith}
-use Rattle.tree.specs.Closed.{left-small}
-use Rattle.tree.specs.Code.{left-code}
+use Rattle.tree.specs.laws.Closed.{left-small}
+use Rattle.tree.specs.laws.Code.{left-code}
 use borrow.Author.Needs.{needs}
 use Rattle.tree.proofs.leftmost.Statement.{statement}
 use Rattle.tree.proofs.leftmost.Tie as tie

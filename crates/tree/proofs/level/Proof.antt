@@ -1,7 +1,7 @@
 -- `tree::level` meets its contract. Assumes nothing.
 use native.Mathlib.Omega.{arith}
-use Rattle.tree.specs.Closed.{node-small}
-use Rattle.tree.specs.Code.{level-code}
+use Rattle.tree.specs.laws.Closed.{node-small}
+use Rattle.tree.specs.laws.Code.{level-code}
 use borrow.Author.Needs.{needs}
 use Rattle.tree.proofs.level.Statement.{statement}
 use Rattle.tree.proofs.level.Tie as tie

@@ -3,9 +3,9 @@ use mathlib.Core.Path.{sym, ap, _∙_}
 use Prim.Native.Nat.{ℕ, _+_, _-_, _/_}
 use native.Mathlib.Omega.{arith}
 use native.Mathlib.Nat.{div-le-self}
-use Rattle.tree.specs.Tree.{level}
-use Rattle.tree.specs.Notify.{notify-count}
-use Rattle.tree.specs.Code.{bounded, count-none, count-one, count-more}
+use Rattle.tree.specs.rules.Tree.{level}
+use Rattle.tree.specs.laws.Notify.{notify-count}
+use Rattle.tree.specs.laws.Code.{bounded, count-none, count-one, count-more}
 use borrow.Author.Needs.{needs}
 use Rattle.tree.proofs.notify_count.Statement.{statement}
 use Rattle.tree.proofs.notify_count.Tie as tie

@@ -1,7 +1,7 @@
 -- `tree::notify_level` meets its contract. Assumes nothing.
 use mathlib.Core.Path.{sym}
 use native.Mathlib.Omega.{arith}
-use Rattle.tree.specs.Code.{level-near, level-far, place-small}
+use Rattle.tree.specs.laws.Code.{level-near, level-far, place-small}
 use borrow.Author.Needs.{needs}
 use Rattle.tree.proofs.notify_level.Statement.{statement}
 use Rattle.tree.proofs.notify_level.Tie as tie

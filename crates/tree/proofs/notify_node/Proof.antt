@@ -2,10 +2,10 @@
 use mathlib.Core.Path.{_≡_, sym, ap, _∙_}
 use Prim.Native.Nat.{ℕ, _-_, _<_}
 use native.Mathlib.Omega.{arith}
-use Rattle.tree.specs.Tree.{climb, level}
-use Rattle.tree.specs.Level.{level-pos}
-use Rattle.tree.specs.Notify.{notifyCount, notifyLevel, notify-count, notify-place, notify-some, notify-higher}
-use Rattle.tree.specs.Code.{bounded, count-small, ancestor-code}
+use Rattle.tree.specs.rules.Tree.{climb, level}
+use Rattle.tree.specs.laws.Level.{level-pos}
+use Rattle.tree.specs.laws.Notify.{notifyCount, notifyLevel, notify-count, notify-place, notify-some, notify-higher}
+use Rattle.tree.specs.laws.Code.{bounded, count-small, ancestor-code}
 use borrow.Author.Needs.{needs}
 use Rattle.tree.proofs.notify_node.Statement.{statement}
 use Rattle.tree.proofs.notify_node.Tie as tie

@@ -1,6 +1,6 @@
 -- `tree::parent` meets its contract. Assumes nothing.
 use native.Mathlib.Omega.{arith}
-use Rattle.tree.specs.Closed.{node-small}
+use Rattle.tree.specs.laws.Closed.{node-small}
 use borrow.Author.Needs.{needs}
 use Rattle.tree.proofs.parent.Statement.{statement}
 use Rattle.tree.proofs.parent.Tie as tie

@@ -1,6 +1,6 @@
 -- `tree::size` meets its contract. Assumes nothing.
-use Rattle.tree.specs.Tree.{level}
-use Rattle.tree.specs.Code.{size-code}
+use Rattle.tree.specs.rules.Tree.{level}
+use Rattle.tree.specs.laws.Code.{size-code}
 use borrow.Author.Needs.{needs}
 use Rattle.tree.proofs.size.Statement.{statement}
 use Rattle.tree.proofs.size.Tie as tie

@@ -1,6 +1,6 @@
 -- `word::give_bits` meets its contract. Assumes nothing.
 use borrow.Author.Needs.{needs}
-use Rattle.word.specs.Word.{giveBits}
+use Rattle.word.specs.rules.Word.{giveBits}
 use Rattle.word.proofs.give_bits.Statement.{statement}
 use Rattle.word.proofs.give_bits.Tie as tie
 

@@ -1,7 +1,7 @@
 -- `word::masked_swap` meets its contract. Assumes nothing.
 use borrow.Author.Tests.{eq-eqb, ne-eqb}
-use Rattle.word.specs.Word.{matches, replaced}
-use Rattle.word.specs.Swap.{swap-done, swap-failed}
+use Rattle.word.specs.rules.Word.{matches, replaced}
+use Rattle.word.specs.laws.Swap.{swap-done, swap-failed}
 use Rattle.word.proofs.masked_swap.Statement.{statement}
 use Rattle.word.proofs.masked_swap.Tie as tie
 

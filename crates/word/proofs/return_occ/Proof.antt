@@ -1,7 +1,7 @@
 -- `word::return_occ` meets its contract. Assumes nothing.
 use mathlib.Core.Path.{_∙_}
 use borrow.Author.Needs.{needs}
-use Rattle.word.specs.Inner.{return-occ-one-add}
+use Rattle.word.specs.laws.Inner.{return-occ-one-add}
 use Rattle.word.proofs.return_occ.Statement.{statement}
 use Rattle.word.proofs.return_occ.Tie as tie
 

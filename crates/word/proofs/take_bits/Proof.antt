@@ -1,6 +1,6 @@
 -- `word::take_bits` meets its contract. Assumes nothing.
 use borrow.Author.Needs.{needs}
-use Rattle.word.specs.Word.{takeBits}
+use Rattle.word.specs.rules.Word.{takeBits}
 use Rattle.word.proofs.take_bits.Statement.{statement}
 use Rattle.word.proofs.take_bits.Tie as tie
 

@@ -2,7 +2,7 @@
 use mathlib.Core.Path.{ap₂, _∙_}
 use Prim.Native.Nat.{ℕ, _-_}
 use borrow.Author.Needs.{needs}
-use Rattle.word.specs.Word.{leafBits, wantedBits}
+use Rattle.word.specs.rules.Word.{leafBits, wantedBits}
 use Rattle.word.proofs.wanted_bits.Statement.{statement}
 use Rattle.word.proofs.wanted_bits.Tie as tie
 

@@ -2,8 +2,8 @@
 use mathlib.Core.Path.{sym, ap, _∙_, subst}
 use Prim.Native.Nat.{ℕ}
 use native.Mathlib.Omega.{arith}
-use Rattle.tree.specs.Tree.{Node}
-use Rattle.lock.specs.rules.Types.{isLeaf}
+use Rattle.tree.specs.rules.Tree.{Node}
+use Rattle.lock.specs.rules.Records.{isLeaf}
 use Rattle.lock.specs.rules.Steps.{taken}
 use Rattle.lock.specs.laws.StepLaws.{notified-late, notified-leaf, notified-inner}
 use borrow.Author.Needs.{needs}

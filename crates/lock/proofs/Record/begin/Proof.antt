@@ -1,7 +1,7 @@
 -- `lock::Record::begin` meets its contract. Assumes nothing.
 use mathlib.Core.Path.{sym, ap, _∙_, subst}
 use Prim.Native.Nat.{ℕ}
-use Rattle.tree.specs.Tree.{Node}
+use Rattle.tree.specs.rules.Tree.{Node}
 use Rattle.lock.specs.rules.Steps.{startPhase}
 use Rattle.lock.specs.laws.StepLaws.{begin-is}
 use borrow.Author.Needs.{needs}

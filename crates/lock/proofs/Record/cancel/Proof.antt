@@ -17,7 +17,7 @@ returns : tie.Need-returns
 unfolding cancelAnswer cancelTests
 returns c =
     let a = c .before .before .before .before .before .before .before .args in
-    (c .refused .ensures ∙ refused-by _ (c .before .before .own-cause .result) (a .call .last) (a .call .last) (a .self) _ (sym (c .before .before .own-cause .ensures)) (c .before .if1 .taken), refl)
+    (c .refused .ensures ∙ refused-by _ (c .before .before .own-cause .result) (a .self) (a .call .last) _ (a .call .last) (sym (c .before .before .own-cause .ensures)) (c .before .if1 .taken), refl)
 
 cancelled-requires : tie.Need-cancelled-requires
 cancelled-requires c κs = search needs
@@ -27,7 +27,7 @@ unfolding cancelAnswer cancelTests
 returns-2 c =
     let a = c .before .before .before .before .before .before .before .args in (
       ap (λ (y : Record). record { number = 0; clock = a .call .last; next = y }) (c .cancelled .ensures)
-          ∙ sym (answer-accepted _ (a .call .last) (a .call .last) (a .self) _ (sym (c .before .before .own-cause .ensures) ∙ c .before .if1 .left)),
+          ∙ sym (answer-accepted _ (a .self) (a .call .last) _ (a .call .last) (sym (c .before .before .own-cause .ensures) ∙ c .before .if1 .left)),
       refl,
     )
 

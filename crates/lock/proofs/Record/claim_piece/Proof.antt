@@ -1,12 +1,11 @@
 -- `lock::Record::claim_piece` meets its contract. Assumes nothing.
 use mathlib.Core.Path.{sym, ap, ap₂, _∙_, subst}
 use Prim.Native.Nat.{ℕ}
-use Rattle.tree.specs.Tree.{Node}
-use Rattle.lock.specs.rules.Types.{isLeaf}
-use Rattle.lock.specs.rules.Steps.{taken}
-use Rattle.word.specs.Word.{takeBits}
-use Rattle.cover.specs.Cover.{Meets}
-use Rattle.lock.specs.rules.Steps.{leaves, wanted}
+use Rattle.tree.specs.rules.Tree.{Node}
+use Rattle.lock.specs.rules.Records.{isLeaf}
+use Rattle.lock.specs.rules.Steps.{taken, leaves, wanted}
+use Rattle.word.specs.rules.Word.{takeBits}
+use Rattle.cover.specs.rules.Cover.{Meets}
 use Rattle.lock.specs.laws.Placed.{pieced}
 use Rattle.lock.specs.laws.ReturnLaws.{leaf-level}
 use Rattle.lock.specs.laws.MoveLaws.{claim-leaf, claim-inner}

@@ -1,8 +1,8 @@
 -- `lock::Record::climbed` meets its contract. Assumes nothing.
 use mathlib.Core.Path.{sym, ap, _∙_}
-use Rattle.word.specs.Word.{occ}
+use Rattle.word.specs.rules.Word.{occ}
 use Rattle.lock.specs.rules.Steps.{taken, goUp}
-use Rattle.lock.specs.laws.StepLaws.{noted-fine, climb-set, climb-clear}
+use Rattle.lock.specs.laws.StepLaws.{noted-parent, climb-set, climb-clear}
 use borrow.Author.Needs.{needs}
 use Rattle.lock.proofs.Record.climbed.Statement.{statement}
 use Rattle.lock.proofs.Record.climbed.Tie as tie
@@ -19,7 +19,7 @@ parent-noted-requires c κs = search needs
 
 go-up-requires : tie.Need-go-up-requires
 go-up-requires c κs =
-    noted-fine (c .before .before .before .args .self) (c .before .before .before .args .clock) (c .before .before .before .pre) (c .parent-noted .result) (c .parent-noted .ensures)
+    noted-parent (c .before .before .before .args .self) (c .before .before .before .args .clock) (c .before .before .before .pre) (c .parent-noted .result) (c .parent-noted .ensures)
 
 returns-2 : tie.Need-returns-2
 returns-2 c =

@@ -3,9 +3,9 @@ use mathlib.Core.Path.{ap, _∙_}
 use mathlib.Core.Bool.{Bool, _||_}
 use Prim.Native.Nat.{ℕ}
 use lib.ListN.{length}
-use Rattle.tree.specs.Lists.{notifyList}
-use Rattle.lock.specs.rules.Types.{phaseOf, isLeaf}
-use Rattle.lock.specs.rules.Readable.{ticketTooLarge, lacksGrip, fieldsWrong}
+use Rattle.tree.specs.rules.Lists.{notifyList}
+use Rattle.lock.specs.rules.Records.{phaseOf, isLeaf}
+use Rattle.lock.specs.rules.Unreadable.{ticketTooLarge, lacksGrip, fieldsWrong}
 use Rattle.lock.specs.laws.ReadableLaws.{piece-node-12}
 use borrow.Author.Needs.{needs}
 use Rattle.lock.proofs.Record.fields_wrong.Statement.{statement}

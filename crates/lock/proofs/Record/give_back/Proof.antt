@@ -3,12 +3,9 @@ use mathlib.Core.Path.{sym, ap, ap₂, _∙_, subst}
 use Prim.Native.Nat.{ℕ, _<_}
 use native.Mathlib.Omega.{arith}
 use lib.ListN.{length}
-use Rattle.tree.specs.Tree.{Node}
-use Rattle.lock.specs.rules.Types.{pieces, isLeaf}
-use Rattle.lock.specs.rules.Steps.{taken}
-use Rattle.tree.specs.Tree.{left}
-use Rattle.lock.specs.rules.Types.{givenPiece}
-use Rattle.lock.specs.rules.Steps.{leaves}
+use Rattle.tree.specs.rules.Tree.{Node, left}
+use Rattle.lock.specs.rules.Records.{pieces, isLeaf, givenPiece}
+use Rattle.lock.specs.rules.Steps.{taken, leaves}
 use Rattle.lock.specs.laws.Placed.{pieced}
 use Rattle.lock.specs.laws.ReturnLaws.{own-leaf, own-inner, own-notice, leaf-level}
 use borrow.Author.Needs.{needs}

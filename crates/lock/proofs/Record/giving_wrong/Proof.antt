@@ -3,8 +3,8 @@ use mathlib.Core.Path.{ap, _∙_}
 use mathlib.Core.Bool.{Bool, _&&_, _||_}
 use Prim.Native.Nat.{ℕ}
 use lib.Dec.{eqb, ltb}
-use Rattle.lock.specs.rules.Readable.{nonzero, differ, givingWrong}
-use Rattle.lock.specs.laws.ReadableLaws.{choose-tests}
+use Rattle.lock.specs.rules.Unreadable.{nonzero, differ, givingWrong}
+use Rattle.base.specs.laws.ChoiceLaws.{choose-tests}
 use borrow.Author.Needs.{needs}
 use Rattle.lock.proofs.Record.giving_wrong.Statement.{statement}
 use Rattle.lock.proofs.Record.giving_wrong.Tie as tie

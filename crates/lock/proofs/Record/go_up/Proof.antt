@@ -2,10 +2,10 @@
 use mathlib.Core.Path.{sym, ap, _∙_, subst}
 use Prim.Native.Nat.{ℕ}
 use native.Mathlib.Omega.{arith}
-use Rattle.tree.specs.Tree.{level, Node}
-use Rattle.tree.specs.Ancestors.{ancestors-count}
-use Rattle.tree.specs.Level.{level-pos}
-use Rattle.lock.specs.rules.Types.{currentPiece}
+use Rattle.tree.specs.rules.Tree.{level, Node}
+use Rattle.tree.specs.laws.Ancestors.{ancestors-count}
+use Rattle.tree.specs.laws.Level.{level-pos}
+use Rattle.lock.specs.rules.Records.{currentPiece}
 use Rattle.lock.specs.rules.Steps.{taken}
 use Rattle.lock.specs.laws.StepLaws.{up-more, up-last}
 use borrow.Author.Needs.{needs}

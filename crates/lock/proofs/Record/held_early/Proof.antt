@@ -5,7 +5,7 @@ use Prim.Native.Nat.{ℕ, suc, _+_}
 use native.Mathlib.Omega.{arith}
 use lib.Dec.{eqb, ltb}
 use Rattle.lock.specs.laws.Pieces.{few-pieces}
-use Rattle.lock.specs.rules.Readable.{heldEarly}
+use Rattle.lock.specs.rules.Unreadable.{heldEarly}
 use borrow.Author.Needs.{needs}
 use Rattle.lock.proofs.Record.held_early.Statement.{statement}
 use Rattle.lock.proofs.Record.held_early.Tie as tie

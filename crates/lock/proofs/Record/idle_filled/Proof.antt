@@ -1,6 +1,6 @@
 -- `lock::Record::idle_filled` meets its contract. Assumes nothing.
 use mathlib.Core.Path.{refl}
-use Rattle.lock.specs.rules.Readable.{idleFilled}
+use Rattle.lock.specs.rules.Unreadable.{idleFilled}
 use Rattle.lock.proofs.Record.idle_filled.Statement.{statement}
 use Rattle.lock.proofs.Record.idle_filled.Tie as tie
 

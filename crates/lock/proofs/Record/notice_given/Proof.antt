@@ -3,10 +3,10 @@ use mathlib.Core.Path.{refl, sym, ap, _∙_, subst}
 use Prim.Native.Nat.{ℕ}
 use native.Mathlib.Omega.{arith}
 use lib.ListN.{length}
-use Rattle.tree.specs.Tree.{Node}
-use Rattle.tree.specs.Lists.{notifyList}
-use Rattle.tree.specs.Code.{count-small, bounded}
-use Rattle.lock.specs.rules.Types.{currentPiece}
+use Rattle.tree.specs.rules.Tree.{Node}
+use Rattle.tree.specs.rules.Lists.{notifyList}
+use Rattle.tree.specs.laws.Code.{count-small, bounded}
+use Rattle.lock.specs.rules.Records.{currentPiece}
 use Rattle.lock.specs.rules.Steps.{taken}
 use Rattle.lock.specs.laws.StepLaws.{pieced-kept, notice-more, notice-last}
 use borrow.Author.Needs.{needs}

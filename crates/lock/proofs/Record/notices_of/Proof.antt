@@ -2,8 +2,8 @@
 use mathlib.Core.Path.{sym, ap, _∙_, subst}
 use Prim.Native.Nat.{ℕ}
 use lib.ListN.{length}
-use Rattle.tree.specs.Tree.{Node}
-use Rattle.tree.specs.Lists.{notifyList}
+use Rattle.tree.specs.rules.Tree.{Node}
+use Rattle.tree.specs.rules.Lists.{notifyList}
 use Rattle.lock.specs.laws.Pieces.{notices-before, notices-current}
 use borrow.Author.Needs.{needs}
 use Rattle.lock.proofs.Record.notices_of.Statement.{statement}

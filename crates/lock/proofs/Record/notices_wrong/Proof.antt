@@ -3,7 +3,7 @@ use mathlib.Core.Path.{refl, ap, ap₂}
 use mathlib.Core.Bool.{_||_}
 use Prim.Native.Nat.{ℕ}
 use lib.Dec.{ltb}
-use Rattle.lock.specs.rules.Readable.{noticesWrong}
+use Rattle.lock.specs.rules.Unreadable.{noticesWrong}
 use Rattle.lock.proofs.Record.notices_wrong.Statement.{statement}
 use Rattle.lock.proofs.Record.notices_wrong.Tie as tie
 

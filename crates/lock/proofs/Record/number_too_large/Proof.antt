@@ -1,6 +1,6 @@
 -- `lock::Record::number_too_large` meets its contract. Assumes nothing.
 use mathlib.Core.Path.{refl}
-use Rattle.lock.specs.rules.Readable.{numberTooLarge}
+use Rattle.lock.specs.rules.Unreadable.{numberTooLarge}
 use Rattle.lock.proofs.Record.number_too_large.Statement.{statement}
 use Rattle.lock.proofs.Record.number_too_large.Tie as tie
 

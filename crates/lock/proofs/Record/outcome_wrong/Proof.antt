@@ -1,7 +1,7 @@
 -- `lock::Record::outcome_wrong` meets its contract. Assumes nothing.
 use lib.Dec.{eqb}
-use Rattle.lock.specs.rules.Readable.{outcomeWrong}
-use Rattle.lock.specs.laws.ReadableLaws.{choose-tests}
+use Rattle.lock.specs.rules.Unreadable.{outcomeWrong}
+use Rattle.base.specs.laws.ChoiceLaws.{choose-tests}
 use Rattle.lock.proofs.Record.outcome_wrong.Statement.{statement}
 use Rattle.lock.proofs.Record.outcome_wrong.Tie as tie
 

@@ -1,7 +1,7 @@
 -- `lock::Record::parent_noted` meets its contract. Assumes nothing.
 use mathlib.Core.Path.{sym}
-use Rattle.base.specs.Choice.{choose-eq, choose-ne}
-use Rattle.lock.specs.rules.Types.{withT1}
+use Rattle.base.specs.laws.ChoiceLaws.{choose-eq, choose-ne}
+use Rattle.lock.specs.rules.Records.{withT1}
 use Rattle.lock.specs.rules.Steps.{taken}
 use Rattle.lock.proofs.Record.parent_noted.Statement.{statement}
 use Rattle.lock.proofs.Record.parent_noted.Tie as tie

@@ -4,7 +4,7 @@ use Prim.Native.Nat.{ℕ}
 use native.Mathlib.Omega.{arith}
 use lib.Dec.{ltb}
 use lib.ListN.{length}
-use Rattle.tree.specs.Lists.{notifyList}
+use Rattle.tree.specs.rules.Lists.{notifyList}
 use Rattle.lock.specs.laws.Pieces.{notices-before, notices-current}
 use Rattle.lock.specs.laws.ReadableLaws.{piece-node-12}
 use borrow.Author.Needs.{needs}

@@ -1,7 +1,7 @@
 -- `lock::Record::piece_at` meets its contract. Assumes nothing.
 use mathlib.Core.Path.{_≡_, sym, ap, _∙_}
 use native.Mathlib.Omega.{arith}
-use Rattle.lock.specs.rules.Types.{pieceAt}
+use Rattle.lock.specs.rules.Records.{pieceAt}
 use Rattle.lock.specs.laws.Pieces.{piece-first, piece-second, few-pieces}
 use Rattle.lock.proofs.Record.piece_at.Statement.{statement}
 use Rattle.lock.proofs.Record.piece_at.Tie as tie

@@ -3,7 +3,7 @@ use mathlib.Core.Path.{sym, _∙_}
 use native.Mathlib.Omega.{arith}
 use Rattle.lock.specs.rules.Steps.{taken}
 use Rattle.lock.specs.laws.Pieces.{few-pieces}
-use Rattle.tree.specs.Tree.{left}
+use Rattle.tree.specs.rules.Tree.{left}
 use Rattle.lock.specs.laws.ReturnLaws.{piece-last, piece-next}
 use borrow.Author.Needs.{needs}
 use Rattle.lock.proofs.Record.piece_returned.Statement.{statement}

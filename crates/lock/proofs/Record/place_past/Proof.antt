@@ -4,11 +4,11 @@ use mathlib.Core.Logic.{⊎-elim}
 use Prim.Native.Nat.{ℕ, suc, _-_}
 use native.Mathlib.Omega.{arith}
 use lib.ListN.{length}
-use Rattle.tree.specs.Tree.{level}
-use Rattle.tree.specs.Level.{level-pos}
-use Rattle.tree.specs.Lists.{ancestors, checkList}
-use Rattle.tree.specs.Ancestors.{ancestors-count}
-use Rattle.lock.specs.rules.Types.{currentPiece, noticesOf}
+use Rattle.tree.specs.rules.Tree.{level}
+use Rattle.tree.specs.laws.Level.{level-pos}
+use Rattle.tree.specs.rules.Lists.{ancestors, checkList}
+use Rattle.tree.specs.laws.Ancestors.{ancestors-count}
+use Rattle.lock.specs.rules.Records.{currentPiece, noticesOf}
 use Rattle.lock.specs.laws.ReadableLaws.{past-none, past-some, place-is, list-climbing, list-notifying, list-checking, list-returning, list-none, piece-node, piece-node-12}
 use borrow.Author.Needs.{needs}
 use Rattle.lock.proofs.Record.place_past.Statement.{statement}

@@ -6,12 +6,12 @@ use native.Mathlib.Omega.{arith}
 use borrow.Author.Needs.{needs}
 use borrow.Author.Tests.{eq-eqb, ne-eqb}
 use lib.ListN.{length}
-use Rattle.tree.specs.Tree.{last}
-use Rattle.cover.specs.Answer.{windowOutside}
+use Rattle.tree.specs.rules.Tree.{last}
+use Rattle.cover.specs.rules.Answer.{windowOutside}
 use Rattle.lock.specs.declared.Record.{Record}
-use Rattle.lock.specs.rules.Readable.{differ, unreadable}
+use Rattle.lock.specs.rules.Unreadable.{differ, unreadable}
 use Rattle.lock.specs.rules.Calls.{requested, firstCause, requestTests, requestNumber, requestAnswer}
-use Rattle.lock.specs.laws.CallLaws.{cause-hit, cause-skip, answer-accepted, refused-by, own-unreadable, own-rest}
+use Rattle.lock.specs.laws.CallLaws.{cause-hit, cause-skip, answer-accepted, refused-by, own-unreadable, own-rest, tree-tested}
 use Rattle.lock.specs.laws.CoverLaws.{cover-refused, cover-inside, cover-first, cover-second}
 use Rattle.lock.specs.laws.ActiveLaws.{settled}
 use Rattle.lock.specs.laws.RequestLaws.{inside-window}
@@ -32,8 +32,8 @@ returns c =
     let ws = a .words .now in
     let s = a .settings in
     let r = a .self in
-    let t = c .before .before .tree-cause .ensures in
-    (c .refused .ensures ∙ refused-by _ (c .before .before .tree-cause .result) (a .call .last) (a .call .last) r _ (t .refused (c .before .if1 .taken) _) (c .before .if1 .taken), refl)
+    let t = tree-tested _ _ _ (c .before .before .tree-cause .ensures) in
+    (c .refused .ensures ∙ refused-by _ (c .before .before .tree-cause .result) r (a .call .last) _ (a .call .last) (t .refused (c .before .if1 .taken) _) (c .before .if1 .taken), refl)
 
 unreadable-requires : tie.Need-unreadable-requires
 unreadable-requires c κs =
@@ -41,7 +41,7 @@ unreadable-requires c κs =
     let ws = a .words .now in
     let s = a .settings in
     let r = a .self in
-    let t = c .before .tree-cause .ensures in
+    let t = tree-tested _ _ _ (c .before .tree-cause .ensures) in
     let z = c .if1 .left in
     let o = t .settings z in
     let n = t .count-right z in
@@ -58,12 +58,12 @@ returns-2 c =
     let ws = a .words .now in
     let s = a .settings in
     let r = a .self in
-    let t = c .before .before .before .before .tree-cause .ensures in
+    let t = tree-tested _ _ _ (c .before .before .before .before .tree-cause .ensures) in
     let z = c .before .before .before .if1 .left in
     let o = t .settings z in
     let n = t .count-right z in
     let v = settled s o in
-    (c .refused2 .ensures ∙ refused-by _ 6 (a .call .last) (a .call .last) r _ (own-unreadable s (a .call .last) r (length ws) o n _ (sym (c .before .before .unreadable .ensures) ∙ c .before .if2 .taken)) (λ e. omega arith), refl)
+    (c .refused2 .ensures ∙ refused-by _ 6 r (a .call .last) _ (a .call .last) (own-unreadable s r (length ws) (a .call .last) o n _ (sym (c .before .before .unreadable .ensures) ∙ c .before .if2 .taken)) (λ e. omega arith), refl)
 
 cover-requires : tie.Need-cover-requires
 cover-requires c κs = search needs
@@ -78,7 +78,7 @@ returns-3 c =
     let ws = a .words .now in
     let s = a .settings in
     let r = a .self in
-    let t = c .before .before .before .before .before .before .before .tree-cause .ensures in
+    let t = tree-tested _ _ _ (c .before .before .before .before .before .before .before .tree-cause .ensures) in
     let z = c .before .before .before .before .before .before .if1 .left in
     let o = t .settings z in
     let n = t .count-right z in
@@ -87,7 +87,7 @@ returns-3 c =
     let cr = c .before .before .before .cover .result in
     let ce = c .before .before .before .cover .ensures in
     let k = cover-refused (s .levels) (a .call .a) (a .call .b) (v .levels-some) (v .levels-most) cr ce (c .before .if3 .taken) in
-    (c .refused3 .ensures ∙ refused-by _ 7 (a .call .last) (a .call .last) r _ (own-rest s (a .call .last) r (length ws) o n _ u ∙ cause-hit (windowOutside (s .levels) (a .call .a) (a .call .b)) 7 _ k) (λ e. omega arith), refl)
+    (c .refused3 .ensures ∙ refused-by _ 7 r (a .call .last) _ (a .call .last) (own-rest s r (length ws) (a .call .last) o n _ u ∙ cause-hit (windowOutside (s .levels) (a .call .a) (a .call .b)) 7 _ k) (λ e. omega arith), refl)
 
 refused-requires-4 : tie.Need-refused-requires-4
 refused-requires-4 c κs = search needs
@@ -99,7 +99,7 @@ returns-4 c =
     let ws = a .words .now in
     let s = a .settings in
     let r = a .self in
-    let t = c .before .before .before .before .before .before .before .before .before .tree-cause .ensures in
+    let t = tree-tested _ _ _ (c .before .before .before .before .before .before .before .before .before .tree-cause .ensures) in
     let z = c .before .before .before .before .before .before .before .before .if1 .left in
     let o = t .settings z in
     let n = t .count-right z in
@@ -108,7 +108,7 @@ returns-4 c =
     let cr = c .before .before .before .before .before .cover .result in
     let ce = c .before .before .before .before .before .cover .ensures in
     let k = cover-inside (s .levels) (a .call .a) (a .call .b) (v .levels-some) (v .levels-most) cr ce (c .before .before .before .if3 .left) in (
-      c .refused4 .ensures ∙ refused-by _ 8 (a .call .last) (a .call .last) r _ (own-rest s (a .call .last) r (length ws) o n _ u ∙ cause-skip (windowOutside (s .levels) (a .call .a) (a .call .b)) 7 _ k
+      c .refused4 .ensures ∙ refused-by _ 8 r (a .call .last) _ (a .call .last) (own-rest s r (length ws) (a .call .last) o n _ u ∙ cause-skip (windowOutside (s .levels) (a .call .a) (a .call .b)) 7 _ k
           ∙ cause-hit (differ (r .phase) 0) 8 [] (ap not (ne-eqb (r .phase) 0 (c .before .if4 .taken)))) (λ e. omega arith),
       refl,
     )
@@ -119,7 +119,7 @@ requested-requires c κs =
     let ws = a .words .now in
     let s = a .settings in
     let r = a .self in
-    let t = c .before .before .before .before .before .before .before .before .tree-cause .ensures in
+    let t = tree-tested _ _ _ (c .before .before .before .before .before .before .before .before .tree-cause .ensures) in
     let z = c .before .before .before .before .before .before .before .if1 .left in
     let o = t .settings z in
     let n = t .count-right z in
@@ -141,7 +141,7 @@ returns-5 c =
     let ws = a .words .now in
     let s = a .settings in
     let r = a .self in
-    let t = c .before .before .before .before .before .before .before .before .before .tree-cause .ensures in
+    let t = tree-tested _ _ _ (c .before .before .before .before .before .before .before .before .before .tree-cause .ensures) in
     let z = c .before .before .before .before .before .before .before .before .if1 .left in
     let o = t .settings z in
     let n = t .count-right z in
@@ -151,7 +151,7 @@ returns-5 c =
     let ce = c .before .before .before .before .before .cover .ensures in
     let k = cover-inside (s .levels) (a .call .a) (a .call .b) (v .levels-some) (v .levels-most) cr ce (c .before .before .before .if3 .left) in (
       ap (λ (y : Record). record { number = 0; clock = a .call .last; next = y }) (c .requested .ensures)
-          ∙ sym (answer-accepted _ (a .call .last) (a .call .last) r _ (own-rest s (a .call .last) r (length ws) o n _ u ∙ cause-skip (windowOutside (s .levels) (a .call .a) (a .call .b)) 7 ((differ (r .phase) 0, 8) ∷ []) k
+          ∙ sym (answer-accepted _ r (a .call .last) _ (a .call .last) (own-rest s r (length ws) (a .call .last) o n _ u ∙ cause-skip (windowOutside (s .levels) (a .call .a) (a .call .b)) 7 ((differ (r .phase) 0, 8) ∷ []) k
           ∙ cause-skip (differ (r .phase) 0) 8 [] (ap not (eq-eqb (r .phase) 0 (c .before .if4 .left))))),
       refl,
     )

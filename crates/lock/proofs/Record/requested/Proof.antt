@@ -1,7 +1,7 @@
 -- `lock::Record::requested` meets its contract. Assumes nothing.
 use mathlib.Core.Path.{_≡_, ap, _∙_}
 use lib.ListN.{getD}
-use Rattle.cover.specs.Search.{leastCover}
+use Rattle.cover.specs.rules.Search.{leastCover}
 use Rattle.lock.specs.rules.Steps.{startPhase}
 use Rattle.lock.specs.rules.Calls.{windowed, requested}
 use Rattle.lock.specs.laws.RequestLaws.{first-node}

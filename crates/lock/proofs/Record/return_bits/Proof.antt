@@ -1,12 +1,10 @@
 -- `lock::Record::return_bits` meets its contract. Assumes nothing.
 use mathlib.Core.Path.{_≡_, sym, ap, _∙_, subst}
 use Prim.Native.Nat.{ℕ}
-use Rattle.tree.specs.Tree.{level}
-use Rattle.lock.specs.rules.Steps.{taken}
-use Rattle.tree.specs.Tree.{left}
-use Rattle.word.specs.Word.{giveBits}
-use Rattle.cover.specs.Cover.{Meets}
-use Rattle.lock.specs.rules.Steps.{leaves, wanted}
+use Rattle.tree.specs.rules.Tree.{level, left}
+use Rattle.lock.specs.rules.Steps.{taken, leaves, wanted}
+use Rattle.word.specs.rules.Word.{giveBits}
+use Rattle.cover.specs.rules.Cover.{Meets}
 use Rattle.lock.specs.laws.Placed.{pieced}
 use Rattle.lock.specs.laws.ReturnLaws.{bits-returned, bits-clear}
 use borrow.Author.Needs.{needs}

@@ -1,8 +1,8 @@
 -- `lock::Record::ticket_taken` meets its contract. Assumes nothing.
 use mathlib.Core.Path.{ap}
 use Prim.Native.Nat.{ℕ}
-use Rattle.word.specs.Word.{tmax}
-use Rattle.lock.specs.rules.Types.{toPhase, withGrip, withTicket}
+use Rattle.word.specs.rules.Word.{tmax}
+use Rattle.lock.specs.rules.Records.{toPhase, withGrip, withTicket}
 use Rattle.lock.specs.rules.Steps.{ticketTaken}
 use borrow.Author.Needs.{needs}
 use Rattle.lock.proofs.Record.ticket_taken.Statement.{statement}

@@ -1,6 +1,6 @@
 -- `lock::Record::time_ahead` meets its contract. Assumes nothing.
 use mathlib.Core.Path.{refl}
-use Rattle.lock.specs.rules.Readable.{timeAhead}
+use Rattle.lock.specs.rules.Unreadable.{timeAhead}
 use Rattle.lock.proofs.Record.time_ahead.Statement.{statement}
 use Rattle.lock.proofs.Record.time_ahead.Tie as tie
 

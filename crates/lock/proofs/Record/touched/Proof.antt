@@ -3,8 +3,8 @@ use mathlib.Core.Path.{sym, ap, _∙_, subst}
 use Prim.Native.Nat.{ℕ, _<_}
 use native.Mathlib.Omega.{arith}
 use lib.ListN.{length, getD}
-use Rattle.tree.specs.Tree.{Node}
-use Rattle.tree.specs.Lists.{ancestors, notifyList, checkList}
+use Rattle.tree.specs.rules.Tree.{Node}
+use Rattle.tree.specs.rules.Lists.{ancestors, notifyList, checkList}
 use mathlib.Core.Logic.{inl, inr}
 use Rattle.lock.specs.rules.Steps.{touchedIn}
 use Rattle.lock.specs.laws.Placed.{pieced, sound-placed}

@@ -3,9 +3,9 @@ use mathlib.Core.Path.{sym, ap, _∙_, subst}
 use Prim.Native.Nat.{ℕ, _-_, _<_}
 use native.Mathlib.Omega.{arith}
 use lib.ListN.{length, getD}
-use Rattle.tree.specs.Tree.{Node}
-use Rattle.tree.specs.Lists.{notifyList}
-use Rattle.lock.specs.rules.Types.{pieces}
+use Rattle.tree.specs.rules.Tree.{Node}
+use Rattle.tree.specs.rules.Lists.{notifyList}
+use Rattle.lock.specs.rules.Records.{pieces}
 use Rattle.lock.specs.rules.Steps.{taken}
 use Rattle.lock.specs.laws.Placed.{pieced, given-notices}
 use Rattle.lock.specs.laws.MoveLaws.{touched-own, touched-notice}

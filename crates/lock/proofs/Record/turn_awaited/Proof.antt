@@ -1,6 +1,6 @@
 -- `lock::Record::turn_awaited` meets its contract. Assumes nothing.
 use mathlib.Core.Path.{sym, _∙_}
-use Rattle.word.specs.Word.{tcnt}
+use Rattle.word.specs.rules.Word.{tcnt}
 use Rattle.lock.specs.rules.Steps.{taken}
 use Rattle.lock.specs.laws.StepLaws.{turn-stays, turn-root, turn-other}
 use borrow.Author.Needs.{needs}

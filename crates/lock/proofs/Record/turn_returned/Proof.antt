@@ -1,8 +1,8 @@
 -- `lock::Record::turn_returned` meets its contract. Assumes nothing.
 use mathlib.Core.Path.{sym, _∙_}
-use Rattle.word.specs.Word.{tcnt}
+use Rattle.word.specs.rules.Word.{tcnt}
 use Rattle.lock.specs.rules.Steps.{taken}
-use Rattle.tree.specs.Tree.{left}
+use Rattle.tree.specs.rules.Tree.{left}
 use Rattle.lock.specs.laws.ReturnLaws.{turn-mine, turn-not-mine}
 use borrow.Author.Needs.{needs}
 use Rattle.lock.proofs.Record.turn_returned.Statement.{statement}

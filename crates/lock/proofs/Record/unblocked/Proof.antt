@@ -1,6 +1,6 @@
 -- `lock::Record::unblocked` meets its contract. Assumes nothing.
 use mathlib.Core.Path.{sym, _∙_}
-use Rattle.word.specs.Word.{occ}
+use Rattle.word.specs.rules.Word.{occ}
 use Rattle.lock.specs.rules.Steps.{taken}
 use Rattle.lock.specs.laws.StepLaws.{unblocked-now, unblocked-not}
 use borrow.Author.Needs.{needs}

@@ -4,11 +4,11 @@ use mathlib.Core.Bool.{_||_}
 use borrow.Author.Tests.{leb-false}
 use lib.Dec.{leb}
 use lib.ListN.{length}
-use Rattle.base.specs.Choice.{choose-eq, choose-ne}
-use Rattle.lock.specs.rules.Types.{pieces}
-use Rattle.lock.specs.rules.Readable.{numberTooLarge, idleFilled, notCovered, noCurrent, unreadable}
-use Rattle.lock.specs.laws.ReadableLaws.{true-first, next-test}
-use Rattle.lock.specs.laws.ActiveLaws.{both-false, begun}
+use Rattle.base.specs.laws.ChoiceLaws.{choose-eq, choose-ne}
+use Rattle.lock.specs.rules.Records.{pieces}
+use Rattle.lock.specs.rules.Unreadable.{numberTooLarge, idleFilled, notCovered, noCurrent, unreadable}
+use Rattle.base.specs.laws.TestLaws.{true-first, next-test, both-false}
+use Rattle.lock.specs.laws.ActiveLaws.{begun}
 use borrow.Author.Needs.{needs}
 use Rattle.lock.proofs.Record.unreadable.Statement.{statement}
 use Rattle.lock.proofs.Record.unreadable.Tie as tie

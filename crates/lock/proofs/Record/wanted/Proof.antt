@@ -2,8 +2,8 @@
 use mathlib.Core.Path.{sym, ap, _∙_, subst}
 use Prim.Native.Nat.{ℕ, _+_, _^_, _<_}
 use native.Mathlib.Omega.{arith}
-use Rattle.tree.specs.Tree.{left}
-use Rattle.word.specs.Word.{wantedBits}
+use Rattle.tree.specs.rules.Tree.{left}
+use Rattle.word.specs.rules.Word.{wantedBits}
 use Rattle.lock.specs.laws.Placed.{clipped}
 use borrow.Author.Needs.{needs}
 use Rattle.lock.proofs.Record.wanted.Statement.{statement}

@@ -2,7 +2,7 @@
 use mathlib.Core.Path.{sym, _∙_}
 use native.Mathlib.Omega.{arith}
 use Rattle.lock.specs.rules.Steps.{taken}
-use Rattle.tree.specs.Tree.{left}
+use Rattle.tree.specs.rules.Tree.{left}
 use Rattle.lock.specs.laws.ReturnLaws.{word-more, word-last}
 use borrow.Author.Needs.{needs}
 use Rattle.lock.proofs.Record.word_returned.Statement.{statement}

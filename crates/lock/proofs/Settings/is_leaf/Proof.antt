@@ -2,8 +2,8 @@
 use mathlib.Core.Path.{ap}
 use Prim.Native.Nat.{ℕ}
 use lib.Dec.{eqb}
-use Rattle.tree.specs.Tree.{level}
-use Rattle.lock.specs.rules.Types.{isLeaf}
+use Rattle.tree.specs.rules.Tree.{level}
+use Rattle.lock.specs.rules.Records.{isLeaf}
 use borrow.Author.Needs.{needs}
 use Rattle.lock.proofs.Settings.is_leaf.Statement.{statement}
 use Rattle.lock.proofs.Settings.is_leaf.Tie as tie

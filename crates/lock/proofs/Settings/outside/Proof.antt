@@ -1,6 +1,6 @@
 -- `lock::Settings::outside` meets its contract. Assumes nothing.
 use mathlib.Core.Path.{refl}
-use Rattle.cover.specs.Answer.{levelsOutside}
+use Rattle.cover.specs.rules.Answer.{levelsOutside}
 use Rattle.lock.specs.rules.Calls.{settingsOutside}
 use Rattle.lock.proofs.Settings.outside.Statement.{statement}
 use Rattle.lock.proofs.Settings.outside.Tie as tie

@@ -2,10 +2,11 @@
 use mathlib.Core.Path.{sym, _∙_}
 use native.Mathlib.Omega.{arith}
 use borrow.Author.Needs.{needs}
-use Rattle.lock.specs.laws.CallLaws.{tested-settings, tested-count, tested-passed}
+use mathlib.Core.List.{[]}
+use Rattle.lock.specs.rules.Calls.{firstCause, treeTests}
+use Rattle.lock.specs.laws.CallLaws.{tree-settings, tree-count, tree-passed}
 use Rattle.lock.specs.laws.ActiveLaws.{settled}
 use Rattle.lock.specs.laws.RequestLaws.{last-is-count}
-use borrow.Author.Needs.{needs}
 use Rattle.lock.proofs.Settings.tree_cause.Statement.{statement}
 use Rattle.lock.proofs.Settings.tree_cause.Tie as tie
 
@@ -13,8 +14,9 @@ outside-requires : tie.Need-outside-requires
 outside-requires c κs = search needs
 
 returns : tie.Need-returns
+unfolding treeTests
 returns c =
-    tested-settings (c .before .before .args .self) (c .before .before .args .count) (sym (c .before .outside .ensures) ∙ c .if1 .taken)
+    sym (tree-settings (c .before .before .args .self) (c .before .before .args .count) [] (sym (c .before .outside .ensures) ∙ c .if1 .taken))
 
 last-node-requires : tie.Need-last-node-requires
 last-node-requires c κs =
@@ -22,12 +24,14 @@ last-node-requires c κs =
     (omega (arith, v .levels-some), v .levels-most)
 
 returns-2 : tie.Need-returns-2
+unfolding treeTests
 returns-2 c =
-    tested-count (c .before .before .before .before .args .self) (c .before .before .before .before .args .count) (sym (c .before .before .before .outside .ensures) ∙ c .before .before .if1 .left) (λ e. c .if2 .taken (e ∙ last-is-count (c .before .before .before .before .args .self .levels) ∙ sym (c .before .last-node .ensures)))
+    sym (tree-count (c .before .before .before .before .args .self) (c .before .before .before .before .args .count) [] (sym (c .before .before .before .outside .ensures) ∙ c .before .before .if1 .left) (λ e. c .if2 .taken (e ∙ last-is-count (c .before .before .before .before .args .self .levels) ∙ sym (c .before .last-node .ensures))))
 
 returns-3 : tie.Need-returns-3
+unfolding treeTests firstCause
 returns-3 c =
-    tested-passed (c .before .before .before .before .args .self) (c .before .before .before .before .args .count) (sym (c .before .before .before .outside .ensures) ∙ c .before .before .if1 .left) (c .if2 .left ∙ c .before .last-node .ensures ∙ sym (last-is-count (c .before .before .before .before .args .self .levels)))
+    sym (tree-passed (c .before .before .before .before .args .self) (c .before .before .before .before .args .count) [] (sym (c .before .before .before .outside .ensures) ∙ c .before .before .if1 .left) (c .if2 .left ∙ c .before .last-node .ensures ∙ sym (last-is-count (c .before .before .before .before .args .self .levels))))
 
 pub tree-cause-spec : {M : Type 1} → statement M
 tree-cause-spec =

@@ -1,8 +1,8 @@
 -- `lock::by_phase::grip_lacking` meets its contract. Assumes nothing.
 use mathlib.Core.Path.{sym, ap, _∙_}
 use native.Mathlib.Omega.{arith}
-use Rattle.base.specs.Choice.{choose}
-use Rattle.lock.specs.rules.Readable.{differ}
+use Rattle.base.specs.rules.Choice.{choose}
+use Rattle.lock.specs.rules.Unreadable.{differ}
 use Rattle.lock.specs.laws.ReadableLaws.{grip-ticket, grip-turn, grip-climbing, grip-taken, grip-returning, grip-none}
 use borrow.Author.Needs.{needs}
 use Rattle.lock.proofs.by_phase.grip_lacking.Statement.{statement}

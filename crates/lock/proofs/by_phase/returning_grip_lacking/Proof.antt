@@ -1,5 +1,5 @@
 -- `lock::by_phase::returning_grip_lacking` meets its contract. Assumes nothing.
-use Rattle.lock.specs.laws.ReadableLaws.{choose-tests}
+use Rattle.base.specs.laws.ChoiceLaws.{choose-tests}
 use Rattle.lock.proofs.by_phase.returning_grip_lacking.Statement.{statement}
 use Rattle.lock.proofs.by_phase.returning_grip_lacking.Tie as tie
 

@@ -4,8 +4,8 @@ use mathlib.Core.Bool.{false}
 use Prim.Native.Nat.{_≤_, _-_}
 use native.Mathlib.Omega.{arith}
 use borrow.Author.Needs.{needs}
-use Rattle.schedule.specs.Format.{anyWrong}
-use Rattle.schedule.specs.FormatLaws.{earlier-inside, none-yet, none-next, wrong-below}
+use Rattle.schedule.specs.rules.Format.{anyWrong}
+use Rattle.schedule.specs.laws.FormatLaws.{earlier-inside, none-yet, none-next, wrong-below}
 use Rattle.schedule.proofs.format.any_wrong.Statement.{statement}
 use Rattle.schedule.proofs.format.any_wrong.Tie as tie
 

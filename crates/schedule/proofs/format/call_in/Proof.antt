@@ -1,6 +1,6 @@
 -- `schedule::format::call_in` meets its contract. Assumes nothing.
 use native.Mathlib.Omega.{arith}
-use Rattle.schedule.specs.FormatLaws.{call-at-place, place-inside}
+use Rattle.schedule.specs.laws.FormatLaws.{call-at-place, place-inside}
 use borrow.Author.Needs.{needs}
 use Rattle.schedule.proofs.format.call_in.Statement.{statement}
 use Rattle.schedule.proofs.format.call_in.Tie as tie

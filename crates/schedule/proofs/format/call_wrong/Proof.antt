@@ -1,7 +1,7 @@
 -- `schedule::format::call_wrong` meets its contract. Assumes nothing.
 use mathlib.Core.Path.{_∙_}
 use native.Mathlib.Omega.{arith}
-use Rattle.schedule.specs.FormatLaws.{place-inside, wrong-at-place}
+use Rattle.schedule.specs.laws.FormatLaws.{place-inside, wrong-at-place}
 use borrow.Author.Needs.{needs}
 use Rattle.schedule.proofs.format.call_wrong.Statement.{statement}
 use Rattle.schedule.proofs.format.call_wrong.Tie as tie

@@ -1,7 +1,7 @@
 -- `schedule::format::calls_end` meets its contract. Assumes nothing.
 use native.Mathlib.Omega.{arith}
-use Rattle.schedule.specs.Format.{countIn, offsetIn, placeOf}
-use Rattle.schedule.specs.Little.{little-below}
+use Rattle.schedule.specs.rules.Format.{countIn, offsetIn, placeOf}
+use Rattle.schedule.specs.laws.Little.{little-below}
 use borrow.Author.Needs.{needs}
 use Rattle.schedule.proofs.format.calls_end.Statement.{statement}
 use Rattle.schedule.proofs.format.calls_end.Tie as tie

@@ -1,5 +1,5 @@
 -- `schedule::format::clients_in` meets its contract. Assumes nothing.
-use Rattle.schedule.specs.Format.{clientsIn}
+use Rattle.schedule.specs.rules.Format.{clientsIn}
 use borrow.Author.Needs.{needs}
 use Rattle.schedule.proofs.format.clients_in.Statement.{statement}
 use Rattle.schedule.proofs.format.clients_in.Tie as tie

@@ -1,5 +1,5 @@
 -- `schedule::format::count_in` meets its contract. Assumes nothing.
-use Rattle.schedule.specs.Format.{countIn}
+use Rattle.schedule.specs.rules.Format.{countIn}
 use borrow.Author.Needs.{needs}
 use Rattle.schedule.proofs.format.count_in.Statement.{statement}
 use Rattle.schedule.proofs.format.count_in.Tie as tie

@@ -1,6 +1,6 @@
 -- `schedule::format::file_cause` meets its contract. Assumes nothing.
 use mathlib.Core.Path.{sym, _∙_}
-use Rattle.schedule.specs.WellFormed.{cause-malformed, cause-large, cause-none, long-enough}
+use Rattle.schedule.specs.laws.WellFormed.{cause-malformed, cause-large, cause-none, long-enough}
 use borrow.Author.Needs.{needs}
 use Rattle.schedule.proofs.format.file_cause.Statement.{statement}
 use Rattle.schedule.proofs.format.file_cause.Tie as tie

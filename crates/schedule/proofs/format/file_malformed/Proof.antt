@@ -1,5 +1,5 @@
 -- `schedule::format::file_malformed` meets its contract. Assumes nothing.
-use Rattle.schedule.specs.WellFormed.{too-long, too-short, offset-low, calls-outside, calls-tested}
+use Rattle.schedule.specs.laws.WellFormed.{too-long, too-short, offset-low, calls-outside, calls-tested}
 use borrow.Author.Needs.{needs}
 use Rattle.schedule.proofs.format.file_malformed.Statement.{statement}
 use Rattle.schedule.proofs.format.file_malformed.Tie as tie

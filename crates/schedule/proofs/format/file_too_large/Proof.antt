@@ -1,5 +1,5 @@
 -- `schedule::format::file_too_large` meets its contract. Assumes nothing.
-use Rattle.schedule.specs.WellFormed.{levels-large, clients-tested}
+use Rattle.schedule.specs.laws.WellFormed.{levels-large, clients-tested}
 use borrow.Author.Needs.{needs}
 use Rattle.schedule.proofs.format.file_too_large.Statement.{statement}
 use Rattle.schedule.proofs.format.file_too_large.Tie as tie

@@ -1,5 +1,5 @@
 -- `schedule::format::offset_in` meets its contract. Assumes nothing.
-use Rattle.schedule.specs.Format.{offsetIn}
+use Rattle.schedule.specs.rules.Format.{offsetIn}
 use borrow.Author.Needs.{needs}
 use Rattle.schedule.proofs.format.offset_in.Statement.{statement}
 use Rattle.schedule.proofs.format.offset_in.Tie as tie

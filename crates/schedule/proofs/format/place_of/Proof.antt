@@ -1,7 +1,7 @@
 -- `schedule::format::place_of` meets its contract. Assumes nothing.
 use native.Mathlib.Omega.{arith}
-use Rattle.schedule.specs.Format.{placeOf}
-use Rattle.schedule.specs.FormatLaws.{place-small, header-inside}
+use Rattle.schedule.specs.rules.Format.{placeOf}
+use Rattle.schedule.specs.laws.FormatLaws.{place-small, header-inside}
 use Rattle.schedule.proofs.format.place_of.Statement.{statement}
 use Rattle.schedule.proofs.format.place_of.Tie as tie
 

@@ -1,5 +1,5 @@
 -- `schedule::format::settings_in` meets its contract. Assumes nothing.
-use Rattle.schedule.specs.Format.{settingsIn}
+use Rattle.schedule.specs.rules.Format.{settingsIn}
 use borrow.Author.Needs.{needs}
 use Rattle.schedule.proofs.format.settings_in.Statement.{statement}
 use Rattle.schedule.proofs.format.settings_in.Tie as tie

@@ -1,7 +1,7 @@
 -- `schedule::format::u16_at` meets its contract. Assumes nothing.
 use Prim.Native.Nat.{_+_}
 use native.Mathlib.Omega.{arith}
-use Rattle.schedule.specs.Little.{little-two}
+use Rattle.schedule.specs.laws.Little.{little-two}
 use borrow.Author.Needs.{needs}
 use Rattle.schedule.proofs.format.u16_at.Statement.{statement}
 use Rattle.schedule.proofs.format.u16_at.Tie as tie

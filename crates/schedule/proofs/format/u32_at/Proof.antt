@@ -1,7 +1,7 @@
 -- `schedule::format::u32_at` meets its contract. Assumes nothing.
 use Prim.Native.Nat.{_+_}
 use native.Mathlib.Omega.{arith}
-use Rattle.schedule.specs.Little.{little-four, little-below}
+use Rattle.schedule.specs.laws.Little.{little-four, little-below}
 use borrow.Author.Needs.{needs}
 use Rattle.schedule.proofs.format.u32_at.Statement.{statement}
 use Rattle.schedule.proofs.format.u32_at.Tie as tie

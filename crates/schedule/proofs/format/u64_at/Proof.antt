@@ -1,7 +1,7 @@
 -- `schedule::format::u64_at` meets its contract. Assumes nothing.
 use Prim.Native.Nat.{_+_}
 use native.Mathlib.Omega.{arith}
-use Rattle.schedule.specs.Little.{little-eight, little-below}
+use Rattle.schedule.specs.laws.Little.{little-eight, little-below}
 use borrow.Author.Needs.{needs}
 use Rattle.schedule.proofs.format.u64_at.Statement.{statement}
 use Rattle.schedule.proofs.format.u64_at.Tie as tie

@@ -1,5 +1,5 @@
 -- `schedule::format::wrong_at` meets its contract. Assumes nothing.
-use Rattle.schedule.specs.FormatLaws.{unknown-kind, first-filled, second-filled, request-right, b-filled, step-right, a-tested}
+use Rattle.schedule.specs.laws.FormatLaws.{unknown-kind, first-filled, second-filled, request-right, b-filled, step-right, a-tested}
 use borrow.Author.Needs.{needs}
 use Rattle.schedule.proofs.format.wrong_at.Statement.{statement}
 use Rattle.schedule.proofs.format.wrong_at.Tie as tie

@@ -55,7 +55,7 @@ use Rattle.lock.proofs.Settings.Laws as G′
 use Rattle.lock.proofs.Call as K
 use Rattle.lock.proofs.Call.Laws as K′
 use Rattle.table.specs.declared.Answer.{Answer}
-use Rattle.table.specs.Promises.{lent, answer, callOf, left}
+use Rattle.table.specs.rules.Lent.{lent, answer, callOf, result}
 use Rattle.table.proofs.Answer as An
 use Rattle.table.proofs.Answer.Laws as An′
 use Rattle.table.proofs.Walk.{shows-that}
@@ -91,14 +91,14 @@ RO = O.the-row
 abbrev stayed : Stays (this.ended .signature .params) (this.ended .kept)
 stayed = (stay-none (λ _. RS) yes, (stay-none (λ _. usize) yes, (gave-slice (0 ∷ []) tt (plain (λ _. u64)), (stay-none (λ _. RG) yes, (stay-none (λ _. RK) yes, tt)))))
 
-abbrev result : Answer → List Record → Acted
-result n l = record { answer = n; shelf = on-shelf l }
+abbrev acted : Answer → List Record → Acted
+acted n l = record { answer = n; shelf = on-shelf l }
 
 -- the relation of the result, at the machine value that lowering gives it
-result-made : (n : Answer) (l : List Record) → Is RA n (An′.lowered n ∷ []) → Is AR l (lowered l ∷ []) → Is RO (result n l) (O′.lowered (result n l) ∷ [])
+result-made : (n : Answer) (l : List Record) → Is RA n (An′.lowered n ∷ []) → Is AR l (lowered l ∷ []) → Is RO (acted n l) (O′.lowered (acted n l) ∷ [])
 result-made n l gn g =
-    let at = LL.owes O.the-type O′.the-laws (result n l) (gn, (shelf-is l g, tt)) in
-    subst (Is RO (result n l)) (O′.lowers .val-is (result n l) _ at) at
+    let at = LL.owes O.the-type O′.the-laws (acted n l) (gn, (shelf-is l g, tt)) in
+    subst (Is RO (acted n l)) (O′.lowers .val-is (acted n l) _ at) at
 
 -- the contract that the proof cites
 abbrev Callee : {M : Type 1} (𝓤 : URA M) (H : Heap 𝓤) (A : Atoms 𝓤) (mem : Memory → SProp 𝓤) (run : Routine → Fun 𝓤) → Contract 𝓤
@@ -157,17 +157,17 @@ module _ {M : Type 1} (𝓤 : URA M) (H : Heap 𝓤) (A : Atoms 𝓤) (W : Given
       move ! (3 ∷ 0 ∷ []) $ fjoin ! $ move ! (2 ∷ 0 ∷ []) $ fjoin ! $ move ! (1 ∷ 0 ∷ []) $ join ! $ nothing ! $ move ! (1 ∷ 0 ∷ []) $ done !
 
   -- the records `ys` are the first of the shelf at exit, and the rest is as it was
-  exits : (n : Answer) (ys : List Record) (vs : List ℕ) → Is RS d (mach ∷ []) → Is RO (result n (ys ++ drop-list m xs)) (O′.lowered (result n (ys ++ drop-list m xs)) ∷ [])
+  exits : (n : Answer) (ys : List Record) (vs : List ℕ) → Is RS d (mach ∷ []) → Is RO (acted n (ys ++ drop-list m xs)) (O′.lowered (acted n (ys ++ drop-list m xs)) ∷ [])
       → length ys ≡ m → length (ys ++ drop-list m xs) ≡ 64 → length vs ≡ length ws → n ≡ answer made-of → ys ≡ made-of .state .records → vs ≡ made-of .state .words
-      → ent 𝓤 (⋆ 𝓤 H A ((‵ (flft κ q) ⊛ ‵ ftrue) ∷ ‵ (finally u64 (u .name) vs) ∷ [])) (Post (O′.lowered (result n (ys ++ drop-list m xs))))
+      → ent 𝓤 (⋆ 𝓤 H A ((‵ (flft κ q) ⊛ ‵ ftrue) ∷ ‵ (finally u64 (u .name) vs) ∷ [])) (Post (O′.lowered (acted n (ys ++ drop-list m xs))))
   exits n ys vs g is k long l e e′ e″ =
       qed W ((‵ (flft κ q) ⊛ ‵ ftrue) ∷ ‵ (finally u64 (u .name) vs) ∷ []) ∵
-      suffices ! _ (ends-at 𝓤 H A this.ended stayed (this.clauses 𝓤 H A mem run) W (((κ, tt), (q, tt), tt, a, vals), tt) (O′.lowered (result n (ys ++ drop-list m xs))) (result n (ys ++ drop-list m xs)) (tt, (tt, (vs, (tt, (tt, tt))))) (tt, (tt, (l, (tt, (tt, tt)))))) $
+      suffices ! _ (ends-at 𝓤 H A this.ended stayed (this.clauses 𝓤 H A mem run) W (((κ, tt), (q, tt), tt, a, vals), tt) (O′.lowered (acted n (ys ++ drop-list m xs))) (acted n (ys ++ drop-list m xs)) (tt, (tt, (vs, (tt, (tt, tt))))) (tt, (tt, (l, (tt, (tt, tt)))))) $
       shows-that ! (five-facts 𝓤 e (front-first m xs ys _ k e′) (front-rest m xs ys k) long e″) $ frame ! $
       nothing ! $ owned ! RK (Is RK) ((LL.makes K.the-type K′.the-plain) 𝓤 H A) ca _ gc $ fjoin ! $ owned ! RG (Is RG) ((LL.makes G.the-type G′.the-plain) 𝓤 H A) st _ gs $ fjoin ! $
       move ! (1 ∷ 0 ∷ []) $ fjoin ! $ owned ! usize (Is usize) (uint-makes 𝓤 H A W w64) m _ (refl, m-fits) $ fjoin ! $
       owned ! RS (Is RS) ((LL.makes S.the-type S′.the-plain) 𝓤 H A) d _ g $ fjoin ! $ frame ! $
-      owned ! RO (Is RO) ((LL.makes O.the-type O′.the-plain) 𝓤 H A) (result n (ys ++ drop-list m xs)) _ is $ done !
+      owned ! RO (Is RO) ((LL.makes O.the-type O′.the-plain) 𝓤 H A) (acted n (ys ++ drop-list m xs)) _ is $ done !
 
   module _ (C : Calls 𝓤 H) (Λ : Loops 𝓤 H) (fm : FmC 𝓤 H (W .laws) C) (known : Triple 𝓤 (C #callee) (Callee 𝓤 H A mem run)) where
     walk : m ≤ 64 → Is RS d (mach ∷ []) → Is AR xs (lowered xs ∷ []) → Room u64 (length ws)
@@ -202,8 +202,8 @@ module _ {M : Type 1} (𝓤 : URA M) (H : Heap 𝓤) (A : Atoms 𝓤) (W : Given
         calls-at ! fm (Callee 𝓤 H A mem run) known (to l₆ α γ) (and-then ! (load ! (from ! (stop !)) (look ! 11 refl)) (and-then ! (load ! (from ! (stop !)) (look ! 7 refl)) (and-then ! (load ! (from ! (stop !)) (look ! 20 refl)) (and-then ! (load ! (from ! (stop !)) (look ! 18 refl)) (no-more !))))) (λ w.
         use1 W (later (some (λ (n : Answer). ((‵ (flft (α ∷ []) fullShare) ⊛ (‵ (flft κ q) ⊛ ‵ ftrue)) ⊛ ‵ (RA .own n (w ∷ []))) ⊛ raw (ensured 𝓤 H A callee.ended (callee.clauses 𝓤 H A mem run) (α ∷ [], (κ, tt)) (passed l₆ γ) tt n)))) (id⊢ 𝓤 _) $
         await ! tt $ pick ! (λ n. split ! $ move ! (1 ∷ []) $
-        use1 W (some (λ (vs : List Record × (List ℕ × (Unit {0} × (Unit {0} × Unit {0})))). ‵ (lasts callee.ended (α ∷ [], (κ, tt)) (passed l₆ γ) vs) ⊛ raw (fact 𝓤 (left (n .number) (n .clock) (vs .0) (vs .1 .0) ≡ made-of)))) (id⊢ 𝓤 _) $
-        pick ! (λ vs. let zs = vs .0 ++ drop-list m xs in split ! $ move ! (1 ∷ []) $ heard ! (left (n .number) (n .clock) (vs .0) (vs .1 .0) ≡ made-of) (λ h.
+        use1 W (some (λ (vs : List Record × (List ℕ × (Unit {0} × (Unit {0} × Unit {0})))). ‵ (lasts callee.ended (α ∷ [], (κ, tt)) (passed l₆ γ) vs) ⊛ raw (fact 𝓤 (result (n .number) (vs .0) (vs .1 .0) (n .clock) ≡ made-of)))) (id⊢ 𝓤 _) $
+        pick ! (λ vs. let zs = vs .0 ++ drop-list m xs in split ! $ move ! (1 ∷ []) $ heard ! (result (n .number) (vs .0) (vs .1 .0) (n .clock) ≡ made-of) (λ h.
         fsplit ! $ fsplit ! $ move ! (1 ∷ []) $ feqL ! (λ k. move ! (1 ∷ []) $ fsplit ! $ fsplit ! $ move ! (1 ∷ []) $ feqL ! (λ l. move ! (1 ∷ []) $ drop ! $
         move ! (2 ∷ []) $ split ! $ split ! $
         -- [its token; the token; the result; words' last list; the array's; the lender's part; the elements that stayed; _13; …]: the lifetime is ended, and the array taken back
@@ -220,7 +220,7 @@ module _ {M : Type 1} (𝓤 : URA M) (H : Heap 𝓤) (A : Atoms 𝓤) (W : Given
         let made = result-made n zs (subst (Is RA n) (LL.tells An.the-type An′.the-laws n (w ∷ []) is) is) gz in
         assigns ! (of-opd ! (load ! (from ! (stop !)) (look ! 16 refl))) (from ! (stop !)) (init ! 4 refl (array-typed R typed 64 zs _ gz .0)) $
         assigns ! (agg ! (and-then ! (load ! (from ! (stop !)) (look ! 4 refl)) (no-more !))) (from ! (stop !)) (init ! 2 refl (LL.lawful S.the-type S′.the-laws 𝓤 H A W .typed (on-shelf zs) _ (shelf-made zs gz) .0)) $
-        assigns ! (agg ! (and-then ! (load ! (from ! (stop !)) (look ! 14 refl)) (and-then ! (load ! (from ! (stop !)) (look ! 2 refl)) (no-more !)))) (from ! (stop !)) (init ! 28 refl (LL.lawful O.the-type O′.the-laws 𝓤 H A W .typed (result n zs) _ made .0)) $
+        assigns ! (agg ! (and-then ! (load ! (from ! (stop !)) (look ! 14 refl)) (and-then ! (load ! (from ! (stop !)) (look ! 2 refl)) (no-more !)))) (from ! (stop !)) (init ! 28 refl (LL.lawful O.the-type O′.the-laws 𝓤 H A W .typed (acted n zs) _ made .0)) $
         returns ! (look ! 28 refl) $ forget ! 2 refl $ forget ! 4 refl $ forget ! 6 refl $ forget ! 8 refl $ forget ! 10 refl $ forget ! 12 refl $
         forget ! 14 refl $ forget ! 16 refl $ forget ! 18 refl $ forget ! 20 refl $ forget ! 22 refl $ forget ! 24 refl $ forget ! 26 refl $
         forget ! 28 refl $ move ! (28 ∷ 29 ∷ []) $ free1 ! $ move ! (26 ∷ 27 ∷ []) $ free1 ! $ move ! (24 ∷ 25 ∷ []) $ free1 ! $ move ! (22 ∷ 23 ∷ []) $

@@ -51,7 +51,7 @@ use Rattle.lock.proofs.Record as Rec
 use Rattle.lock.proofs.Record.Laws as Rec′
 use Rattle.lock.proofs.Settings as G
 use Rattle.lock.proofs.Settings.Laws as G′
-use Rattle.table.specs.Promises.{lent, left}
+use Rattle.table.specs.rules.Lent.{lent, result}
 use Rattle.table.proofs.Walk.{shows-that}
 use Rattle.table.proofs.table_open as callee
 use Rattle.table.proofs.table_open.Symbol as callee-def
@@ -79,14 +79,14 @@ RO = O.the-row
 abbrev stayed : Stays (this.ended .signature .params) (this.ended .kept)
 stayed = (stay-none (λ _. RS) yes, (stay-none (λ _. usize) yes, (gave-slice (0 ∷ []) tt (plain (λ _. u64)), (stay-none (λ _. RG) yes, tt))))
 
-abbrev result : ℕ → List Record → Opened
-result n l = record { number = n; shelf = on-shelf l }
+abbrev opened : ℕ → List Record → Opened
+opened n l = record { number = n; shelf = on-shelf l }
 
 -- the relation of the result, at the machine value that lowering gives it
-result-made : (n : ℕ) (l : List Record) → n < 2 ^ 64 → Is AR l (lowered l ∷ []) → Is RO (result n l) (O′.lowered (result n l) ∷ [])
+result-made : (n : ℕ) (l : List Record) → n < 2 ^ 64 → Is AR l (lowered l ∷ []) → Is RO (opened n l) (O′.lowered (opened n l) ∷ [])
 result-made n l fits g =
-    let at = LL.owes O.the-type O′.the-laws (result n l) ((refl, fits), (shelf-is l g, tt)) in
-    subst (Is RO (result n l)) (O′.lowers .val-is (result n l) _ at) at
+    let at = LL.owes O.the-type O′.the-laws (opened n l) ((refl, fits), (shelf-is l g, tt)) in
+    subst (Is RO (opened n l)) (O′.lowers .val-is (opened n l) _ at) at
 
 -- the contract that the proof cites
 abbrev Callee : {M : Type 1} (𝓤 : URA M) (H : Heap 𝓤) (A : Atoms 𝓤) (mem : Memory → SProp 𝓤) (run : Routine → Fun 𝓤) → Contract 𝓤
@@ -145,17 +145,17 @@ module _ {M : Type 1} (𝓤 : URA M) (H : Heap 𝓤) (A : Atoms 𝓤) (W : Given
       move ! (3 ∷ 0 ∷ []) $ fjoin ! $ move ! (2 ∷ 0 ∷ []) $ fjoin ! $ move ! (1 ∷ 0 ∷ []) $ join ! $ nothing ! $ move ! (1 ∷ 0 ∷ []) $ done !
 
   -- the records `ys` are the first of the shelf at exit, and the rest is as it was
-  exits : (n : ℕ) (ys : List Record) (vs : List ℕ) → Is RS d (mach ∷ []) → Is RO (result n (ys ++ drop-list m xs)) (O′.lowered (result n (ys ++ drop-list m xs)) ∷ [])
+  exits : (n : ℕ) (ys : List Record) (vs : List ℕ) → Is RS d (mach ∷ []) → Is RO (opened n (ys ++ drop-list m xs)) (O′.lowered (opened n (ys ++ drop-list m xs)) ∷ [])
       → length ys ≡ m → length (ys ++ drop-list m xs) ≡ 64 → length vs ≡ length ws → n ≡ made-of .number → ys ≡ made-of .state .records → vs ≡ made-of .state .words
-      → ent 𝓤 (⋆ 𝓤 H A ((‵ (flft κ q) ⊛ ‵ ftrue) ∷ ‵ (finally u64 (u .name) vs) ∷ [])) (Post (O′.lowered (result n (ys ++ drop-list m xs))))
+      → ent 𝓤 (⋆ 𝓤 H A ((‵ (flft κ q) ⊛ ‵ ftrue) ∷ ‵ (finally u64 (u .name) vs) ∷ [])) (Post (O′.lowered (opened n (ys ++ drop-list m xs))))
   exits n ys vs g is k long l e e′ e″ =
       qed W ((‵ (flft κ q) ⊛ ‵ ftrue) ∷ ‵ (finally u64 (u .name) vs) ∷ []) ∵
-      suffices ! _ (ends-at 𝓤 H A this.ended stayed (this.clauses 𝓤 H A mem run) W (((κ, tt), (q, tt), tt, a, vals), tt) (O′.lowered (result n (ys ++ drop-list m xs))) (result n (ys ++ drop-list m xs)) (tt, (tt, (vs, (tt, tt)))) (tt, (tt, (l, (tt, tt))))) $
+      suffices ! _ (ends-at 𝓤 H A this.ended stayed (this.clauses 𝓤 H A mem run) W (((κ, tt), (q, tt), tt, a, vals), tt) (O′.lowered (opened n (ys ++ drop-list m xs))) (opened n (ys ++ drop-list m xs)) (tt, (tt, (vs, (tt, tt)))) (tt, (tt, (l, (tt, tt))))) $
       shows-that ! (five-facts 𝓤 e (front-first m xs ys _ k e′) (front-rest m xs ys k) long e″) $ frame ! $
       nothing ! $ owned ! RG (Is RG) ((LL.makes G.the-type G′.the-plain) 𝓤 H A) st _ gs $ fjoin ! $
       move ! (1 ∷ 0 ∷ []) $ fjoin ! $ owned ! usize (Is usize) (uint-makes 𝓤 H A W w64) m _ (refl, m-fits) $ fjoin ! $
       owned ! RS (Is RS) ((LL.makes S.the-type S′.the-plain) 𝓤 H A) d _ g $ fjoin ! $ frame ! $
-      owned ! RO (Is RO) ((LL.makes O.the-type O′.the-plain) 𝓤 H A) (result n (ys ++ drop-list m xs)) _ is $ done !
+      owned ! RO (Is RO) ((LL.makes O.the-type O′.the-plain) 𝓤 H A) (opened n (ys ++ drop-list m xs)) _ is $ done !
 
   module _ (C : Calls 𝓤 H) (Λ : Loops 𝓤 H) (fm : FmC 𝓤 H (W .laws) C) (known : Triple 𝓤 (C #callee) (Callee 𝓤 H A mem run)) where
     walk : m ≤ 64 → Is RS d (mach ∷ []) → Is AR xs (lowered xs ∷ []) → Room u64 (length ws)
@@ -189,8 +189,8 @@ module _ {M : Type 1} (𝓤 : URA M) (H : Heap 𝓤) (A : Atoms 𝓤) (W : Given
         calls-at ! fm (Callee 𝓤 H A mem run) known (to l₅ α γ) (and-then ! (load ! (from ! (stop !)) (look ! 11 refl)) (and-then ! (load ! (from ! (stop !)) (look ! 7 refl)) (and-then ! (load ! (from ! (stop !)) (look ! 18 refl)) (no-more !)))) (λ w.
         use1 W (later (some (λ (n : ℕ). ((‵ (flft (α ∷ []) fullShare) ⊛ (‵ (flft κ q) ⊛ ‵ ftrue)) ⊛ ‵ (u64 .own n (w ∷ []))) ⊛ raw (ensured 𝓤 H A callee.ended (callee.clauses 𝓤 H A mem run) (α ∷ [], (κ, tt)) (passed l₅ γ) tt n)))) (id⊢ 𝓤 _) $
         await ! tt $ pick ! (λ n. split ! $ move ! (1 ∷ []) $
-        use1 W (some (λ (vs : List Record × (List ℕ × (Unit {0} × Unit {0}))). ‵ (lasts callee.ended (α ∷ [], (κ, tt)) (passed l₅ γ) vs) ⊛ raw (fact 𝓤 (left n 0 (vs .0) (vs .1 .0) ≡ made-of)))) (id⊢ 𝓤 _) $
-        pick ! (λ vs. let zs = vs .0 ++ drop-list m xs in split ! $ move ! (1 ∷ []) $ heard ! (left n 0 (vs .0) (vs .1 .0) ≡ made-of) (λ h.
+        use1 W (some (λ (vs : List Record × (List ℕ × (Unit {0} × Unit {0}))). ‵ (lasts callee.ended (α ∷ [], (κ, tt)) (passed l₅ γ) vs) ⊛ raw (fact 𝓤 (result n (vs .0) (vs .1 .0) 0 ≡ made-of)))) (id⊢ 𝓤 _) $
+        pick ! (λ vs. let zs = vs .0 ++ drop-list m xs in split ! $ move ! (1 ∷ []) $ heard ! (result n (vs .0) (vs .1 .0) 0 ≡ made-of) (λ h.
         fsplit ! $ fsplit ! $ move ! (1 ∷ []) $ feqL ! (λ k. move ! (1 ∷ []) $ fsplit ! $ fsplit ! $ move ! (1 ∷ []) $ feqL ! (λ l. move ! (1 ∷ []) $ drop ! $
         move ! (2 ∷ []) $ split ! $ split ! $
         -- [its token; the token; the result; words' last list; the array's; the lender's part; the elements that stayed; _12; …]: the lifetime is ended, and the array taken back
@@ -207,7 +207,7 @@ module _ {M : Type 1} (𝓤 : URA M) (H : Heap 𝓤) (A : Atoms 𝓤) (W : Given
         let made = result-made n zs (is .1) gz in
         assigns ! (of-opd ! (load ! (from ! (stop !)) (look ! 16 refl))) (from ! (stop !)) (init ! 4 refl (array-typed R typed 64 zs _ gz .0)) $
         assigns ! (agg ! (and-then ! (load ! (from ! (stop !)) (look ! 4 refl)) (no-more !))) (from ! (stop !)) (init ! 2 refl (LL.lawful S.the-type S′.the-laws 𝓤 H A W .typed (on-shelf zs) _ (shelf-made zs gz) .0)) $
-        assigns ! (agg ! (and-then ! (load ! (from ! (stop !)) (look ! 14 refl)) (and-then ! (load ! (from ! (stop !)) (look ! 2 refl)) (no-more !)))) (from ! (stop !)) (init ! 26 refl (LL.lawful O.the-type O′.the-laws 𝓤 H A W .typed (result n zs) _ made .0)) $
+        assigns ! (agg ! (and-then ! (load ! (from ! (stop !)) (look ! 14 refl)) (and-then ! (load ! (from ! (stop !)) (look ! 2 refl)) (no-more !)))) (from ! (stop !)) (init ! 26 refl (LL.lawful O.the-type O′.the-laws 𝓤 H A W .typed (opened n zs) _ made .0)) $
         returns ! (look ! 26 refl) $ forget ! 2 refl $ forget ! 4 refl $ forget ! 6 refl $ forget ! 8 refl $ forget ! 10 refl $ forget ! 12 refl $
         forget ! 14 refl $ forget ! 16 refl $ forget ! 18 refl $ forget ! 20 refl $ forget ! 22 refl $ forget ! 24 refl $ forget ! 26 refl $
         move ! (26 ∷ 27 ∷ []) $ free1 ! $ move ! (24 ∷ 25 ∷ []) $ free1 ! $ move ! (22 ∷ 23 ∷ []) $ free1 ! $ move ! (20 ∷ 21 ∷ []) $ free1 ! $

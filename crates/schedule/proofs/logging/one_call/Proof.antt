@@ -4,13 +4,13 @@ use mathlib.Core.Path.{refl, sym, ap, _∙_}
 use Prim.Native.Nat.{ℕ}
 use native.Mathlib.Omega.{arith}
 use lib.ListN.{take, getD}
-use Rattle.tree.specs.Tree.{last}
-use Rattle.lock.specs.rules.Types.{idleWith}
+use Rattle.tree.specs.rules.Tree.{last}
+use Rattle.lock.specs.rules.Records.{idleWith}
 use Rattle.lock.specs.rules.Table.{clientOf}
-use Rattle.table.specs.Promises.{lent, callOf}
-use Rattle.schedule.specs.FormatLaws.{call-read}
-use Rattle.table.specs.ByValueLaws.{client-of-kind}
-use Rattle.schedule.specs.Running.{made-one}
+use Rattle.table.specs.rules.Lent.{lent, callOf}
+use Rattle.schedule.specs.laws.FormatLaws.{call-read}
+use Rattle.table.specs.laws.ByValueLaws.{client-of-kind}
+use Rattle.schedule.specs.laws.Running.{made-one}
 use borrow.Author.Needs.{needs}
 use Rattle.schedule.proofs.logging.one_call.Statement.{statement}
 use Rattle.schedule.proofs.logging.one_call.Tie as tie

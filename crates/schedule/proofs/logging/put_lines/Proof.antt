@@ -3,10 +3,10 @@ use mathlib.Core.Path.{_≡_, refl, _∙_}
 use Prim.Native.Nat.{_-_}
 use native.Mathlib.Omega.{arith}
 use lib.ListN.{length}
-use Rattle.schedule.specs.Format.{callsIn}
-use Rattle.schedule.specs.Running.{stateOf, Written, written-more, written-all, written-first, few-calls}
-use Rattle.schedule.specs.Log.{headerLine, lines}
-use Rattle.schedule.specs.WellFormed.{call-inside}
+use Rattle.schedule.specs.rules.Format.{callsIn}
+use Rattle.schedule.specs.laws.Running.{stateOf, Written, written-more, written-all, written-first, few-calls}
+use Rattle.schedule.specs.rules.Log.{headerLine, lines}
+use Rattle.schedule.specs.laws.WellFormed.{call-inside}
 use mathlib.Core.List.{_++_}
 use borrow.Author.Needs.{needs}
 use Rattle.schedule.proofs.logging.put_lines.Statement.{statement}

@@ -4,10 +4,10 @@ use mathlib.Core.Path.{refl, ap, ap₂, _∙_}
 use Prim.Native.Nat.{ℕ}
 use native.Mathlib.Omega.{arith}
 use lib.ListN.{replicate}
-use Rattle.tree.specs.Level.{word-count}
-use Rattle.schedule.specs.Format.{callsIn}
-use Rattle.schedule.specs.Running.{log-refused, log-run, lent-for, tree-words, tree-length, opened-state}
-use Rattle.schedule.specs.Log.{logOfCalls}
+use Rattle.tree.specs.laws.Level.{word-count}
+use Rattle.schedule.specs.rules.Format.{callsIn}
+use Rattle.schedule.specs.laws.Running.{log-refused, log-run, lent-for, tree-words, tree-length, opened-state}
+use Rattle.schedule.specs.rules.Log.{logOfCalls}
 use Rattle.lock.specs.declared.Settings.{Settings}
 use borrow.Author.Needs.{needs}
 use Rattle.schedule.proofs.logging.run_file.Statement.{statement}

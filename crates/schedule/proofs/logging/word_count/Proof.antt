@@ -2,9 +2,9 @@
 use mathlib.Core.Path.{sym, ap, _∙_}
 use Prim.Native.Nat.{suc}
 use native.Mathlib.Omega.{arith}
-use Rattle.tree.specs.Tree.{last, wordCount}
-use Rattle.tree.specs.Climb.{first-mono, first-closed}
-use Rattle.tree.specs.Level.{word-count}
+use Rattle.tree.specs.rules.Tree.{last, wordCount}
+use Rattle.tree.specs.laws.Climb.{first-mono, first-closed}
+use Rattle.tree.specs.laws.Level.{word-count}
 use borrow.Author.Needs.{needs}
 use Rattle.schedule.proofs.logging.word_count.Statement.{statement}
 use Rattle.schedule.proofs.logging.word_count.Tie as tie

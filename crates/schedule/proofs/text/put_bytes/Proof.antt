@@ -2,7 +2,7 @@
 use Prim.Native.Nat.{_≤_, _+_, _-_}
 use lib.ListN.{length, take}
 use borrow.Author.Needs.{needs}
-use Rattle.schedule.specs.Appended.{Appended}
+use Rattle.schedule.specs.laws.Appended.{Appended}
 use Rattle.schedule.proofs.Copied.{none-copied, next-copied, all-copied}
 use Rattle.schedule.proofs.text.put_bytes.Statement.{statement}
 use Rattle.schedule.proofs.text.put_bytes.Tie as tie

@@ -2,8 +2,8 @@
 use mathlib.Core.Path.{_∙_}
 use native.Mathlib.Omega.{arith}
 use lib.ListN.{length-take}
-use Rattle.schedule.specs.Appended.{restated}
-use Rattle.schedule.specs.Decimal.{digits-decimal, fewest-short}
+use Rattle.schedule.specs.laws.Appended.{restated}
+use Rattle.schedule.specs.laws.Decimal.{digits-decimal, fewest-short}
 use borrow.Author.Needs.{needs}
 use Rattle.schedule.proofs.text.put_decimal.Statement.{statement}
 use Rattle.schedule.proofs.text.put_decimal.Tie as tie

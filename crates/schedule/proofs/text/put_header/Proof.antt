@@ -1,6 +1,6 @@
 -- `schedule::text::put_header` meets its contract. Assumes nothing.
-use Rattle.schedule.specs.Appended.{joined}
-use Rattle.schedule.specs.Log.{headerLine}
+use Rattle.schedule.specs.laws.Appended.{joined}
+use Rattle.schedule.specs.rules.Log.{headerLine}
 use borrow.Author.Needs.{needs}
 use Rattle.schedule.proofs.text.put_header.Statement.{statement}
 use Rattle.schedule.proofs.text.put_header.Tie as tie

@@ -1,8 +1,8 @@
 -- `schedule::text::put_kind` meets its contract. Assumes nothing.
 use mathlib.Core.Path.{sym, ap}
-use Rattle.schedule.specs.Appended.{restated}
-use Rattle.table.specs.ByValueLaws.{kind-request, kind-step, kind-release, kind-cancel}
-use Rattle.schedule.specs.Log.{kindText}
+use Rattle.schedule.specs.laws.Appended.{restated}
+use Rattle.table.specs.laws.ByValueLaws.{kind-request, kind-step, kind-release, kind-cancel}
+use Rattle.schedule.specs.rules.Log.{kindText}
 use borrow.Author.Needs.{needs}
 use Rattle.schedule.proofs.text.put_kind.Statement.{statement}
 use Rattle.schedule.proofs.text.put_kind.Tie as tie

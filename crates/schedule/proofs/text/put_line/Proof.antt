@@ -1,7 +1,7 @@
 -- `schedule::text::put_line` meets its contract. Assumes nothing.
-use Rattle.schedule.specs.Appended.{joined, restated}
-use Rattle.schedule.specs.Lines.{line-of}
-use Rattle.table.specs.ByValueLaws.{client-of-kind}
+use Rattle.schedule.specs.laws.Appended.{joined, restated}
+use Rattle.schedule.specs.laws.Lines.{line-of}
+use Rattle.table.specs.laws.ByValueLaws.{client-of-kind}
 use native.Mathlib.Omega.{arith}
 use borrow.Author.Needs.{needs}
 use Rattle.schedule.proofs.text.put_line.Statement.{statement}

@@ -1,5 +1,5 @@
 -- `schedule::text::put_named` meets its contract. Assumes nothing.
-use Rattle.schedule.specs.Appended.{joined}
+use Rattle.schedule.specs.laws.Appended.{joined}
 use borrow.Author.Needs.{needs}
 use Rattle.schedule.proofs.text.put_named.Statement.{statement}
 use Rattle.schedule.proofs.text.put_named.Tie as tie

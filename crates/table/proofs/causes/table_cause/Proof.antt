@@ -1,7 +1,7 @@
 -- `table::causes::table_cause` meets its contract. Assumes nothing.
 use mathlib.Core.Path.{sym, _∙_}
 use borrow.Author.Needs.{needs}
-use Rattle.table.specs.CauseLaws.{table-opening, table-client, table-passed}
+use Rattle.table.specs.laws.CauseLaws.{table-opening, table-client, table-passed}
 use Rattle.table.proofs.causes.table_cause.Statement.{statement}
 use Rattle.table.proofs.causes.table_cause.Tie as tie
 

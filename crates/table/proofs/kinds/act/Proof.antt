@@ -1,6 +1,6 @@
 -- `table::kinds::act` meets its contract. Assumes nothing.
 use borrow.Author.Needs.{needs}
-use Rattle.table.specs.ByValueLaws.{acts-request, acts-step, acts-release, acts-cancel}
+use Rattle.table.specs.laws.ByValueLaws.{acts-request, acts-step, acts-release, acts-cancel}
 use Rattle.table.proofs.kinds.act.Statement.{statement}
 use Rattle.table.proofs.kinds.act.Tie as tie
 

@@ -1,0 +1,33 @@
+-- Laws of tests joined by `||`. Assumes nothing.
+use mathlib.Core.Path.{_≡_, refl, sym, ap, _∙_, subst}
+use mathlib.Core.Bool.{Bool, true, false, not, _||_}
+use lib.Dec.{T}
+
+pub or-first : (a b : Bool) → T a → T (a || b)
+or-first true b t = tt
+or-first false b t = absurd t
+
+pub or-second : (a b : Bool) → T b → T (a || b)
+or-second true b t = tt
+or-second false b t = t
+
+pub or-none : (a b : Bool) → T (not a) → T (not b) → T (not (a || b))
+or-none true b s t = absurd s
+or-none false b s t = t
+
+-- ---- by the outcome
+
+pub true-first : (a b : Bool) → a ≡ true → true ≡ (a || b)
+true-first a b e = ap (λ c. c || b) (sym e)
+
+pub true-later : (a b : Bool) → true ≡ b → true ≡ (a || b)
+true-later true b e = refl
+true-later false b e = e
+
+pub next-test : (x a b : Bool) → a ≡ false → x ≡ b → x ≡ (a || b)
+next-test x a b e f = f ∙ ap (λ c. c || b) (sym e)
+
+-- none of two tests is true
+pub both-false : (a b : Bool) → (a || b) ≡ false → (a ≡ false) × (b ≡ false)
+both-false true b e = absurd (subst T e tt)
+both-false false b e = (refl, e)

@@ -1,0 +1,203 @@
+-- Laws: what the code of the cover computes, over plain numbers. Assumes nothing.
+use mathlib.Core.Path.{_≡_, sym, ap, ap₂, _∙_}
+use Prim.Native.Nat.{ℕ, suc, _+_, _-_, _*_, _/_, _%_, _^_, _≤_, _<_}
+use native.Mathlib.Omega.{arith}
+use lib.Dec.{leb, ltb, lt→ltb, le→leb, not-T, leb→le, ltb→lt}
+use native.Mathlib.Nat.{mod-eq-of-lt, div-mul-le-self}
+use lib.Pow.{shr-shr, pow-add}
+use Rattle.base.specs.rules.Choice.{choose}
+use Rattle.base.specs.laws.ChoiceLaws.{choose-yes, choose-no}
+use Rattle.base.specs.laws.TestLaws.{or-first, or-second, or-none}
+use Rattle.tree.specs.rules.Tree.{holder, level, left, size, units, first}
+use Rattle.tree.specs.laws.Range.{holder-level, right-in}
+use Rattle.tree.specs.laws.Closed.{four, holder-is, left-edge-is, node-small}
+use Rattle.tree.specs.laws.Code.{four-small, shifted}
+use Rattle.cover.specs.declared.Answer.{Answer}
+use Rattle.cover.specs.declared.Piece.{Piece}
+use Rattle.cover.specs.rules.Cover.{over, total}
+use Rattle.cover.specs.rules.Search.{leastCover}
+use Rattle.cover.specs.rules.Answer.{levelsOutside, windowOutside, refused, accepted, answer}
+use Rattle.cover.specs.laws.Rise.{rise}
+use Rattle.cover.specs.laws.Over.{over-le, over-leaf, over-inner, over-part, part-all, part-ends, part-starts, units-small}
+use Rattle.cover.specs.laws.Lowest.{lowest, Window, rise-le, low-level, low-has}
+use Rattle.cover.specs.laws.Split.{edgeChild, cut, halves, same-leaf}
+use Rattle.cover.specs.laws.Two.{split-one, split-two, split-least}
+
+unfoldable pub lowestPiece : ℕ → ℕ → ℕ → Piece
+lowestPiece h l r = record { node = lowest h l r; over = over h l r (lowest h l r) }
+
+unfoldable pub one : ℕ → ℕ → ℕ → Answer
+one h l r = record { number = 0; first = lowest h l r; second = 0; over = over h l r (lowest h l r) }
+
+unfoldable pub pair : ℕ → ℕ → ℕ → ℕ → Answer
+pair h l t r = record { number = 0; first = lowest h l t; second = lowest h t r; over = over h l t (lowest h l t) + over h t r (lowest h t r) }
+
+-- ---- the lowest node
+
+-- a unit's place among the nodes that are k levels above the leaves
+place-code : (u k : ℕ) → u / 2 ^ (2 * k + 6) ≡ u / 64 / 4 ^ k
+place-code u k =
+    let e : 2 * k + 6 ≡ 6 + 2 * k = omega arith in
+    ap (λ (x : ℕ). u / 2 ^ x) e ∙ sym (shr-shr u 6 (2 * k)) ∙ ap (λ (p : ℕ). u / 64 / p) (four k)
+
+module _ (h l r k : ℕ) (w : Window h l r) (ek : k ≡ rise l (r - 1)) where
+  pub levels-left : k < h
+  levels-left = omega (arith, rise-le h l r w, w .levels)
+
+  pub node-code : (f : ℕ) → f ≡ first (h - k) → f + l / 2 ^ (2 * k + 6) ≡ lowest h l r
+  unfolding lowest
+  node-code f e =
+      let b = levels-left in
+      let s : h - (h - k) ≡ k = omega arith in
+      ap₂ _+_ e (place-code l k ∙ ap (λ (x : ℕ). l / 64 / 4 ^ x) (sym s)) ∙ sym (holder-is h (h - k) l (omega arith) (omega arith)) ∙ ap (λ (x : ℕ). holder h (h - x) l) ek
+
+  pub leaf-code : k ≡ 0 → 0 ≡ over h l r (lowest h l r)
+  leaf-code z = sym (over-leaf h l r (lowest h l r) (low-level h l r w ∙ omega arith))
+
+  size-is : size h (lowest h l r) ≡ 64 * 4 ^ k
+  unfolding size
+  size-is = let e : h - level (lowest h l r) ≡ k = omega (arith, low-level h l r w, levels-left) in ap (λ (x : ℕ). 64 * 4 ^ x) e
+
+  pub shift-code : (64 * 2 ^ (2 * k)) % 2 ^ 64 ≡ size h (lowest h l r)
+  shift-code = shifted 64 k (omega (arith, four-small k (omega (arith, levels-left, w .most)))) ∙ sym size-is
+
+  pub window-le : r - l ≤ (64 * 2 ^ (2 * k)) % 2 ^ 64
+  window-le = let v = low-has h l r w in omega (arith, shift-code, v .low, v .high)
+
+  pub inner-code : (k ≡ 0 → ⊥) → (64 * 2 ^ (2 * k)) % 2 ^ 64 - (r - l) ≡ over h l r (lowest h l r)
+  inner-code z =
+      let v = low-has h l r w in
+      ap (λ (x : ℕ). x - (r - l)) shift-code
+      ∙ sym (over-inner h l r (lowest h l r) (omega (arith, low-level h l r w, levels-left)) ∙ ap (λ (x : ℕ). size h (lowest h l r) - x) (part-all h l r (lowest h l r) (v .low) (v .high)))
+
+  pub low-small : lowest h l r < 5592406
+  low-small = let v = low-has h l r w in node-small (lowest h l r) (record { some = v .node .some; inside = omega (arith, v .node .inside, w .most) })
+
+  pub leaf-piece : (f : ℕ) → f ≡ first (h - k) → k ≡ 0 → record { node = f + l / 2 ^ (2 * k + 6); over = 0 } ≡ lowestPiece h l r
+  unfolding lowestPiece
+  leaf-piece f e z = λ i. record { node = node-code f e i; over = leaf-code z i }
+
+  pub inner-piece : (f : ℕ) → f ≡ first (h - k) → (k ≡ 0 → ⊥) → record { node = f + l / 2 ^ (2 * k + 6); over = (64 * 2 ^ (2 * k)) % 2 ^ 64 - (r - l) } ≡ lowestPiece h l r
+  unfolding lowestPiece
+  inner-piece f e z = λ i. record { node = node-code f e i; over = inner-code z i }
+
+-- ---- one piece or two
+
+-- the answers from the code's pieces
+pub one-is : (h l r : ℕ) (p : Piece) → p ≡ lowestPiece h l r → record { number = 0; first = p .node; second = 0; over = p .over } ≡ one h l r
+unfolding lowestPiece one
+one-is h l r p e = λ i. record { number = 0; first = e i .node; second = 0; over = e i .over }
+
+pub pair-is : (h l t r : ℕ) (p q : Piece) → p ≡ lowestPiece h l t → q ≡ lowestPiece h t r
+    → record { number = 0; first = p .node; second = q .node; over = p .over + q .over } ≡ pair h l t r
+unfolding lowestPiece pair
+pair-is h l t r p q e f = λ i. record { number = 0; first = e i .node; second = f i .node; over = e i .over + f i .over }
+
+over-small : (h l r : ℕ) (p : Piece) → Window h l r → p ≡ lowestPiece h l r → p .over ≤ 268435456
+unfolding lowestPiece
+over-small h l r p w e =
+    let v = low-has h l r w in
+    let o : p .over ≡ over h l r (lowest h l r) = ap (λ q. q .over) e in
+    omega (arith, over-le h l r (lowest h l r), right-in h (lowest h l r) (v .node) (w .levels), units-small h (w .most))
+
+pub sum-small : (h l t r : ℕ) (p q : Piece) → Window h l t × Window h t r → p ≡ lowestPiece h l t → q ≡ lowestPiece h t r → p .over + q .over < 2 ^ 64
+sum-small h l t r p q w e f = omega (arith, over-small h l t p (w .0) e, over-small h t r q (w .1) f)
+
+module _ (h l r : ℕ) (w : Window h l r) where
+  pub one-code : (edgeChild h l r (r - 1) ≡ suc (edgeChild h l r l) → ⊥) → one h l r ≡ accepted h l r (leastCover 2 h l r)
+  unfolding one accepted total
+  one-code e =
+      let z : over h l r (lowest h l r) ≡ over h l r (lowest h l r) + 0 = omega arith in
+      (λ i. record { number = 0; first = lowest h l r; second = 0; over = z i }) ∙ ap (accepted h l r) (sym (split-least h l r w ∙ split-one h l r w e))
+
+  pub pair-code : (t : ℕ) → t ≡ cut h l r → edgeChild h l r (r - 1) ≡ suc (edgeChild h l r l) → pair h l t r ≡ accepted h l r (leastCover 2 h l r)
+  unfolding pair accepted total
+  pair-code t et e =
+      let s = halves h l r w e in
+      let c = cut h l r in
+      let p = lowest h l c in
+      let q = lowest h c r in
+      let op : over h l c p ≡ over h l r p =
+      over-part h l c l r p (part-all h l c p (s .hasP .low) (s .hasP .high) ∙ sym (part-ends h l r p c (s .hasP .low) (s .endP) (omega (arith, s .before)))) in
+      let oq : over h c r q ≡ over h l r q =
+      over-part h c r l r q (part-all h c r q (s .hasQ .low) (s .hasQ .high) ∙ sym (part-starts h l r q c (s .startQ) (omega (arith, s .after)) (s .hasQ .high))) in
+      let z : over h l c p + over h c r q ≡ over h l r p + (over h l r q + 0) = omega arith in
+      ap (λ (x : ℕ). pair h l x r) et
+      ∙ (λ i. record { number = 0; first = p; second = q; over = z i }) ∙ ap (accepted h l r) (sym (split-least h l r w ∙ split-two h l r w e))
+
+  pub halves-fit : (t : ℕ) → t ≡ cut h l r → edgeChild h l r (r - 1) ≡ suc (edgeChild h l r l) → Window h l t × Window h t r
+  halves-fit t et e =
+      let s = halves h l r w e in (
+        record { levels = w .levels; most = w .most; some = omega (arith, s .after); fits = omega (arith, s .before, w .fits) },
+        record { levels = w .levels; most = w .most; some = omega (arith, s .before); fits = w .fits },
+      )
+
+module _ (h l r k : ℕ) (w : Window h l r) (ek : k ≡ rise l (r - 1)) where
+  pub leaf-apart : k ≡ 0 → edgeChild h l r (r - 1) ≡ suc (edgeChild h l r l) → ⊥
+  leaf-apart z e = omega (arith, same-leaf h l r w (omega (arith, low-level h l r w)))
+
+  module _ (inner : 0 < k) where
+    -- the child of the lowest node that stands for unit u, by its place in its level
+    child-place : (u : ℕ) → edgeChild h l r u ≡ first (h - k + 1) + u / 2 ^ (2 * k + 4)
+    child-place u =
+        let b = levels-left h l r k w ek in
+        let d : suc (level (lowest h l r)) ≡ h - k + 1 = omega (arith, low-level h l r w) in
+        let e : h - (h - k + 1) ≡ k - 1 = omega arith in
+        let f : 2 * (k - 1) + 6 ≡ 2 * k + 4 = omega arith in
+        ap (λ (x : ℕ). holder h x u) d ∙ holder-is h (h - k + 1) u (omega arith) (omega arith)
+        ∙ ap (λ (x : ℕ). first (h - k + 1) + x) (ap (λ (x : ℕ). u / 64 / 4 ^ x) e ∙ sym (place-code u (k - 1)) ∙ ap (λ (x : ℕ). u / 2 ^ x) f)
+
+    pub neighbours : (r - 1) / 2 ^ (2 * k + 4) ≡ l / 2 ^ (2 * k + 4) + 1 → edgeChild h l r (r - 1) ≡ suc (edgeChild h l r l)
+    neighbours e = omega (arith, child-place (r - 1), child-place l)
+
+    pub not-neighbours : ((r - 1) / 2 ^ (2 * k + 4) ≡ l / 2 ^ (2 * k + 4) + 1 → ⊥) → edgeChild h l r (r - 1) ≡ suc (edgeChild h l r l) → ⊥
+    not-neighbours d e = d (omega (arith, child-place (r - 1), child-place l))
+
+    pub cut-code : ((r - 1) / 2 ^ (2 * k + 4) * 2 ^ (2 * k + 4)) % 2 ^ 64 ≡ cut h l r
+    cut-code =
+        let y = (r - 1) / 2 ^ (2 * k + 4) in
+        let d = h - k + 1 in
+        let b = levels-left h l r k w ek in
+        let e : h - d ≡ k - 1 = omega arith in
+        let f : 6 + 2 * (k - 1) ≡ 2 * k + 4 = omega arith in
+        let p : 2 ^ (2 * k + 4) ≡ 64 * 4 ^ (k - 1) = ap (λ (x : ℕ). 2 ^ x) (sym f) ∙ pow-add 2 6 (2 * (k - 1)) ∙ ap (λ (x : ℕ). 64 * x) (four (k - 1)) in
+        let v : level (first d + y) ≡ d = ap level (sym (child-place (r - 1))) ∙ holder-level h (r - 1) (w .levels) (omega (arith, w .some, w .fits)) (suc (level (lowest h l r))) (omega arith) (omega (arith, low-level h l r w)) ∙ omega (arith, low-level h l r w) in
+        let c : cut h l r ≡ 64 * (4 ^ (k - 1) * y) = ap (left h) (child-place (r - 1)) ∙ left-edge-is h d y (omega arith) (omega arith) v ∙ ap (λ (x : ℕ). 64 * (4 ^ x * y)) e in
+        mod-eq-of-lt (omega (arith, div-mul-le-self (r - 1) (2 ^ (2 * k + 4)), w .fits, units-small h (w .most))) ∙ ap (λ (x : ℕ). y * x) p ∙ omega arith
+
+-- ---- the tests of the call
+
+module _ (h l r : ℕ) where
+  pub levels-few : h < 2 → refused 1 ≡ answer h l r
+  unfolding answer levelsOutside
+  levels-few b = sym (choose-yes (levelsOutside h) _ _ (or-first (ltb h 2) (ltb 12 h) (lt→ltb h 2 b)))
+
+  pub levels-many : 12 < h → refused 1 ≡ answer h l r
+  unfolding answer levelsOutside
+  levels-many b = sym (choose-yes (levelsOutside h) _ _ (or-second (ltb h 2) (ltb 12 h) (lt→ltb 12 h b)))
+
+  module _ (h2 : 2 ≤ h) (h12 : h ≤ 12) where
+    levels-fine : choose (windowOutside h l r) (refused 7) (accepted h l r (leastCover 2 h l r)) ≡ answer h l r
+    unfolding answer levelsOutside
+    levels-fine =
+        sym (choose-no (levelsOutside h) _ _
+        (or-none (ltb h 2) (ltb 12 h) (not-T (ltb h 2) (λ t. omega (arith, ltb→lt h 2 t))) (not-T (ltb 12 h) (λ t. omega (arith, ltb→lt 12 h t)))))
+
+    pub window-empty : r ≤ l → refused 7 ≡ answer h l r
+    unfolding windowOutside
+    window-empty b = sym (choose-yes (windowOutside h l r) _ _ (or-first (leb r l) (ltb (units h) r) (le→leb r l b))) ∙ levels-fine
+
+    pub window-long : units h < r → refused 7 ≡ answer h l r
+    unfolding windowOutside
+    window-long b = sym (choose-yes (windowOutside h l r) _ _ (or-second (leb r l) (ltb (units h) r) (lt→ltb (units h) r b))) ∙ levels-fine
+
+    pub window-fine : l < r → r ≤ units h → accepted h l r (leastCover 2 h l r) ≡ answer h l r
+    unfolding windowOutside
+    window-fine a b =
+        sym (choose-no (windowOutside h l r) _ _
+        (or-none (leb r l) (ltb (units h) r) (not-T (leb r l) (λ t. omega (arith, leb→le r l t))) (not-T (ltb (units h) r) (λ t. omega (arith, ltb→lt (units h) r t)))))
+        ∙ levels-fine
+
+  pub units-code : 1 ≤ h → h ≤ 12 → (64 * 2 ^ (2 * (h - 1))) % 2 ^ 64 ≡ units h
+  unfolding units
+  units-code a b = shifted 64 (h - 1) (omega (arith, four-small (h - 1) (omega arith)))

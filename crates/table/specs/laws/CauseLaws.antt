@@ -1,0 +1,127 @@
+-- Laws of the chains of tests: a chain that goes on behind another, and the causes that the functions of this crate find. Assumes nothing.
+use mathlib.Core.Path.{_≡_, refl, sym, ap, _∙_}
+use mathlib.Core.Bool.{Bool, true, false, not, _||_}
+use mathlib.Core.List.{[], _∷_, _++_}
+use Prim.Native.Nat.{ℕ, _<_, _≤_}
+use native.Mathlib.Omega.{arith}
+use borrow.Author.Tests.{eq-eqb, ne-eqb, lt-ltb, le-ltb}
+use lib.Dec.{T, eqb, leb, ltb, nleb→lt}
+use Rattle.base.specs.rules.Choice.{choose}
+use Rattle.base.specs.laws.ChoiceLaws.{choose-le, choose-gt}
+use Rattle.lock.specs.declared.Settings.{Settings}
+use Rattle.lock.specs.rules.Calls.{Tests, firstCause, treeTests}
+use Rattle.lock.specs.laws.CallLaws.{TreeTested, tree-passed}
+use Rattle.table.specs.laws.Causes.{openingCause, tableCause}
+
+-- ---- a chain behind another
+
+-- every test of a chain has a number of its own that is not 0
+abbrev pub Numbered : Tests → Type 0
+Numbered [] = Unit {0}
+Numbered (test ∷ tests) = (test .1 ≡ 0 → ⊥) × Numbered tests
+
+one-hit : (b : Bool) (n x y : ℕ) → ((x ≡ 0 → ⊥) → y ≡ x) → (choose b n x ≡ 0 → ⊥) → choose b n y ≡ choose b n x
+unfolding choose
+one-hit true n x y f h = refl
+one-hit false n x y f h = f h
+
+-- a cause of the first chain is the cause of both
+pub first-hits : (ts us : Tests) → (firstCause ts ≡ 0 → ⊥) → firstCause (ts ++ us) ≡ firstCause ts
+unfolding firstCause
+first-hits [] us h = absurd (h refl)
+first-hits (t ∷ ts) us h = one-hit (t .0) (t .1) (firstCause ts) (firstCause (ts ++ us)) (first-hits ts us) h
+
+one-passes : (b : Bool) (n x y z : ℕ) → (n ≡ 0 → ⊥) → (x ≡ 0 → y ≡ z) → choose b n x ≡ 0 → choose b n y ≡ z
+unfolding choose
+one-passes true n x y z d f h = absurd (d h)
+one-passes false n x y z d f h = f h
+
+-- where the first chain has none, the second decides
+pub first-passes : (ts us : Tests) → Numbered ts → firstCause ts ≡ 0 → firstCause (ts ++ us) ≡ firstCause us
+unfolding firstCause
+first-passes [] us d h = refl
+first-passes (t ∷ ts) us d h = one-passes (t .0) (t .1) (firstCause ts) (firstCause (ts ++ us)) (firstCause us) (d .0) (first-passes ts us (d .1)) h
+
+one-none : (b : Bool) (n x y : ℕ) → (x ≡ 0 → y ≡ 0) → choose b n x ≡ 0 → choose b n y ≡ 0
+unfolding choose
+one-none true n x y f h = h
+one-none false n x y f h = f h
+
+-- where both have none, the first has none
+pub both-none : (ts us : Tests) → firstCause (ts ++ us) ≡ 0 → firstCause ts ≡ 0
+unfolding firstCause
+both-none [] us h = refl
+both-none (t ∷ ts) us h = one-none (t .0) (t .1) (firstCause (ts ++ us)) (firstCause ts) (both-none ts us) h
+
+-- ---- causes 1 to 3
+
+either-true : (a b : Bool) → a ≡ true → (a || b) ≡ true
+either-true a b e = ap (λ (x : Bool). x || b) e
+
+second-true : (a b : Bool) → b ≡ true → (a || b) ≡ true
+second-true true b e = refl
+second-true false b e = e
+
+neither-true : (a b : Bool) → a ≡ false → b ≡ false → (a || b) ≡ false
+neither-true a b e f = ap (λ (x : Bool). x || b) e ∙ f
+
+module _ (s : Settings) (words records n : ℕ) (t : TreeTested s words n) where
+  pub opening-tree : (n ≡ 0 → ⊥) → n ≡ openingCause s words records
+  unfolding openingCause
+  opening-tree d = sym (t .refused d _)
+
+  module _ (z : n ≡ 0) where
+    behind : (b : Bool) → b ≡ (eqb records 0 || ltb 32767 records) → openingCause s words records ≡ firstCause ((b, 3) ∷ [])
+    unfolding openingCause
+    behind b e = tree-passed s words _ (t .settings z) (t .count-right z) ∙ ap (λ (x : Bool). firstCause ((x, 3) ∷ [])) (sym e)
+
+    pub opening-none : records ≡ 0 → 3 ≡ openingCause s words records
+    unfolding firstCause choose
+    opening-none e = sym (behind true (sym (either-true _ _ (eq-eqb records 0 e))))
+
+    pub opening-many : 32767 < records → 3 ≡ openingCause s words records
+    unfolding firstCause choose
+    opening-many e = sym (behind true (sym (second-true (eqb records 0) _ (lt-ltb 32767 records e))))
+
+    pub opening-passed : (records ≡ 0 → ⊥) → records ≤ 32767 → 0 ≡ openingCause s words records
+    unfolding firstCause choose
+    opening-passed d e = sym (behind false (sym (neither-true _ _ (ne-eqb records 0 d) (le-ltb 32767 records e))))
+
+-- ---- causes 1 to 4
+
+module _ (s : Settings) (words records client : ℕ) where
+  -- the chain of 1 to 3, and the test of 4 behind it
+  abbrev opening-tests : Tests
+  opening-tests = treeTests s words ++ ((eqb records 0 || ltb 32767 records, 3) ∷ [])
+
+  abbrev client-test : Tests
+  client-test = (leb records client, 4) ∷ []
+
+  pub table-opening : (openingCause s words records ≡ 0 → ⊥) → openingCause s words records ≡ tableCause s words records client
+  unfolding openingCause tableCause treeTests
+  table-opening d = sym (first-hits opening-tests client-test d)
+
+  behind-opening : openingCause s words records ≡ 0 → tableCause s words records client ≡ firstCause client-test
+  unfolding openingCause tableCause treeTests
+  behind-opening z = first-passes opening-tests client-test ((λ e. omega (arith, e)), ((λ e. omega (arith, e)), ((λ e. omega (arith, e)), tt))) z
+
+  pub table-client : openingCause s words records ≡ 0 → records ≤ client → 4 ≡ tableCause s words records client
+  unfolding firstCause
+  table-client z h = sym (behind-opening z ∙ choose-le records client 4 0 h)
+
+  pub table-passed : openingCause s words records ≡ 0 → client < records → 0 ≡ tableCause s words records client
+  unfolding firstCause
+  table-passed z h = sym (behind-opening z ∙ choose-gt records client 4 0 h)
+
+  four-none : (b : Bool) → firstCause ((b, 4) ∷ []) ≡ 0 → T (not b)
+  unfolding firstCause choose
+  four-none true h = absurd (omega (arith, h))
+  four-none false h = tt
+
+  opening-none-of : tableCause s words records client ≡ 0 → openingCause s words records ≡ 0
+  unfolding openingCause tableCause treeTests
+  opening-none-of z = both-none opening-tests client-test z
+
+  -- a client that passed
+  pub client-below : tableCause s words records client ≡ 0 → client < records
+  client-below z = nleb→lt records client (four-none (leb records client) (sym (behind-opening (opening-none-of z)) ∙ z))
