@@ -9,7 +9,7 @@ pub mod Pieces
 pub mod Placed
 pub mod ReadableLaws
 pub mod Ready
-pub mod RequestLaws
 pub mod ReturnLaws
 pub mod StepLaws
 pub mod Touched
+pub mod WordLaws

@@ -4,12 +4,11 @@ ghost use mathlib.Core.List.{List, [], _∷_, _++_};
 ghost use Prim.Native.Nat.{ℕ, _≤_, _<_};
 ghost use lib.ListN.{length, getD};
 ghost use Rattle.lock.specs.declared.Stepped.{Stepped};
-ghost use Rattle.lock.specs.rules.Records.{wordAt, written, toPhase, withOutcome};
+ghost use Rattle.lock.specs.rules.Records.{coverOf, wordAt, written, toPhase, withOutcome};
 ghost use Rattle.lock.specs.rules.Unreadable.{unreadable};
 ghost use Rattle.lock.specs.rules.Calls.{firstCause, treeTests, requested, cancelled, requestAnswer, releaseAnswer, cancelAnswer, stepAnswer, stepWords};
 ghost use Rattle.lock.specs.laws.Active.{Settled};
 ghost use Rattle.cover.specs.laws.Lowest.{Window};
-ghost use Rattle.cover.specs.rules.Search.{leastCover};
 use crate::Call;
 use crate::Record;
 use crate::Settings;
@@ -94,7 +93,7 @@ impl Record {
 
     // "A request sets window and pieces, zeroes the rest".
     fn requested(settings: Settings, a: u64, b: u64, first: u64, second: u64) -> Record
-        requires { ⌜ Settled settings × Window (settings .levels) a b × (first ≡ getD (leastCover 2 (settings .levels) a b) 0 0) × (second ≡ getD (leastCover 2 (settings .levels) a b) 1 0) ⌝ }
+        requires { ⌜ Settled settings × Window (settings .levels) a b × (first ≡ getD (coverOf settings a b) 0 0) × (second ≡ getD (coverOf settings a b) 1 0) ⌝ }
         ensures { λ r. ⌜ r ≡ requested settings a b ⌝ }
     {
         let phase = settings.start_phase(first);

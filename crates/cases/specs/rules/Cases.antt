@@ -5,7 +5,6 @@ use Prim.Native.Nat.{ℕ}
 use Rattle.word.specs.rules.Word.{occ, tcnt, tmax, returnOcc}
 use Rattle.tree.specs.rules.Tree.{parent}
 use Rattle.tree.specs.rules.Lists.{notifyLevels}
-use Rattle.cover.specs.declared.Answer.{Answer}
 use Rattle.cover.specs.rules.Answer.{answer}
 
 pub data Case : Type 0 where

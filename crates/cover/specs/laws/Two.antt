@@ -30,9 +30,6 @@ module _ (h l r : ℕ) (w : Window h l r) where
   abbrev Q : ℕ
   Q = lowest h t r
 
-  abbrev Neighbours : Type 0
-  Neighbours = edgeChild h l r (r - 1) ≡ suc (edgeChild h l r l)
-
   has : Has h l r n
   has = low-has h l r w
 

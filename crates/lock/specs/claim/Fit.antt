@@ -15,12 +15,11 @@ use Rattle.tree.specs.rules.Lists.{notifyList}
 use Rattle.tree.specs.laws.Level.{level-pos}
 use Rattle.tree.specs.laws.Notify.{notifyCount, Bounded, notify-count, notify-place, notify-once}
 use Rattle.cover.specs.rules.Cover.{Covers, Rising}
-use Rattle.cover.specs.rules.Search.{leastCover}
 use Rattle.cover.specs.laws.Lowest.{Window}
 use Rattle.cover.specs.laws.Least.{least-cover}
 use Rattle.lock.specs.declared.Record.{Record}
 use Rattle.lock.specs.declared.Settings.{Settings}
-use Rattle.lock.specs.rules.Records.{pieces, pieceAt, currentPiece, idleWith}
+use Rattle.lock.specs.rules.Records.{coverOf, pieces, pieceAt, currentPiece, idleWith}
 use Rattle.lock.specs.laws.Pieces.{notices-before, notices-current}
 use Rattle.lock.specs.laws.Active.{Settled}
 use Rattle.lock.specs.laws.ActiveLaws.{in-at}
@@ -29,7 +28,7 @@ use Rattle.lock.specs.claim.Owned.{returned, gripped, noticed, reaches, 
 -- a record that is not idle
 pub record Live (s : Settings) (r : Record) (last : ℕ) : Type 0 where
   pub window : Window (s .levels) (r .left) (r .right)
-  pub cover : pieces r ≡ leastCover 2 (s .levels) (r .left) (r .right)
+  pub cover : pieces r ≡ coverOf s (r .left) (r .right)
   pub exists : r .current < length (pieces r)
   pub some : 1 ≤ r .phase
   pub most : r .phase ≤ 10
@@ -66,7 +65,7 @@ pub record Apart (s : Settings) (r : Record) : Type 0 where
   pub node : (i : ℕ) → i < length (pieces r) → Node (s .levels) (pieceAt r i)
   pub apart : (i j : ℕ) → i < length (pieces r) → j < length (pieces r) → i ≢ j → pieceAt r i ≢ pieceAt r j
 
-module _ (s : Settings) (r : Record) (w : Window (s .levels) (r .left) (r .right)) (c : pieces r ≡ leastCover 2 (s .levels) (r .left) (r .right)) where
+module _ (s : Settings) (r : Record) (w : Window (s .levels) (r .left) (r .right)) (c : pieces r ≡ coverOf s (r .left) (r .right)) where
   pub covers : Covers (s .levels) (r .left) (r .right) (pieces r)
   covers = subst (Covers (s .levels) (r .left) (r .right)) (sym c) (least-cover (s .levels) (r .left) (r .right) (w .levels) (w .some) (w .fits) 2 (omega arith) .covers)
 

@@ -11,13 +11,12 @@ use lib.ListN.{length, getD}
 use Rattle.base.specs.laws.ChoiceLaws.{on-choose, by-lt}
 use Rattle.tree.specs.rules.Tree.{units}
 use Rattle.cover.specs.rules.Cover.{In}
-use Rattle.cover.specs.rules.Search.{leastCover}
 use Rattle.cover.specs.rules.Answer.{windowOutside}
 use Rattle.cover.specs.laws.Lowest.{Window}
 use Rattle.cover.specs.laws.Least.{least-cover}
 use Rattle.lock.specs.declared.Record.{Record}
 use Rattle.lock.specs.declared.Settings.{Settings}
-use Rattle.lock.specs.rules.Records.{Phase, phaseOf, pieces, pieceAt, gripOf, wordAt, written, toPhase, withOutcome, idleWith}
+use Rattle.lock.specs.rules.Records.{coverOf, Phase, phaseOf, pieces, pieceAt, gripOf, wordAt, written, toPhase, withOutcome, idleWith}
 use Rattle.lock.specs.laws.Phases.{on-phase}
 use Rattle.lock.specs.laws.Pieces.{grip-before, grip-current}
 use Rattle.lock.specs.rules.Unreadable.{unreadable}
@@ -66,12 +65,12 @@ module _ (s : Settings) (g : Settled s) (l r : ℕ) (inside : windowOutside (s .
       let w = window in
       let least = least-cover h l r (w .levels) (w .some) (w .fits) 2 (omega arith) in
       let held = least .covers .holds l (omega arith) (w .some) in
-      let is : pieces q ≡ leastCover 2 h l r = pieces-are q (leastCover 2 h l r) (held .node) (held .among) (least .few) (λ m i. least .covers .meets m i .node .some) refl refl in
-      let low = start-low s (getD (leastCover 2 h l r) 0 0) in
+      let is : pieces q ≡ coverOf s l r = pieces-are q (coverOf s l r) (held .node) (held .among) (least .few) (λ m i. least .covers .meets m i .node .some) refl refl in
+      let low = start-low s (getD (coverOf s l r) 0 0) in
       record {
         window = w;
         cover = is;
-        exists = omega (arith, ap length is, some-piece (held .node) (leastCover 2 h l r) (held .among));
+        exists = omega (arith, ap length is, some-piece (held .node) (coverOf s l r) (held .among));
         some = low .0;
         most = omega (arith, low .1);
         claimed = λ a _. absurd (omega (arith, low .1));
@@ -85,7 +84,7 @@ module _ (s : Settings) (g : Settled s) (l r : ℕ) (inside : windowOutside (s .
   unfolding requested
   request-keeps rs r′ now v w =
       let q = requested s l r in
-      let low = start-low s (getD (leastCover 2 (s .levels) l r) 0 0) in
+      let low = start-low s (getD (coverOf s l r) 0 0) in
       record {
         node = λ d. absurd (d refl);
         effect = quiet refl (empty-same s r′ q v (fresh-empty s q (λ e. omega (arith, low .1)) refl refl refl));

@@ -5,11 +5,10 @@ use Prim.Native.Nat.{ℕ, _≤_, _<_}
 use lib.ListN.{length}
 use Rattle.tree.specs.rules.Lists.{ancestors, notifyList, checkList}
 use Rattle.cover.specs.rules.Cover.{Meets}
-use Rattle.cover.specs.rules.Search.{leastCover}
 use Rattle.cover.specs.laws.Lowest.{Window}
 use Rattle.lock.specs.declared.Record.{Record}
 use Rattle.lock.specs.declared.Settings.{Settings}
-use Rattle.lock.specs.rules.Records.{pieces, pieceAt, currentPiece, noticesOf}
+use Rattle.lock.specs.rules.Records.{coverOf, pieces, pieceAt, currentPiece, noticesOf}
 
 pub record Settled (s : Settings) : Type 0 where
   pub levels-some : 2 ≤ s .levels
@@ -22,7 +21,7 @@ pub record Settled (s : Settings) : Type 0 where
 pub record Active (s : Settings) (r : Record) (last : ℕ) : Type 0 where
   pub phase-most : r .phase ≤ 10
   pub window : Window (s .levels) (r .left) (r .right)
-  pub cover : pieces r ≡ leastCover 2 (s .levels) (r .left) (r .right)
+  pub cover : pieces r ≡ coverOf s (r .left) (r .right)
   pub few : length (pieces r) ≤ 2
   pub exists : r .current < length (pieces r)
   pub meets : (i : ℕ) → i < length (pieces r) → Meets (s .levels) (r .left) (r .right) (pieceAt r i)

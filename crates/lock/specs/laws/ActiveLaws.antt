@@ -1,12 +1,12 @@
 -- Laws: what is known of settings within their ranges, and of a readable record. Assumes nothing.
 use mathlib.Core.Path.{_≡_, refl, sym, ap, ap₂, _∙_, subst}
 use mathlib.Core.Logic.{inl, inr, ⊎-elim}
-use mathlib.Core.Bool.{Bool, true, false, not, _&&_, _||_}
+use mathlib.Core.Bool.{false, not, _&&_}
 use mathlib.Core.List.{List, [], _∷_}
 use Prim.Native.Nat.{ℕ, zero, suc, _-_, _≤_, _<_, min}
 use native.Mathlib.Omega.{arith}
 use borrow.Author.Tests.{ltb-false, leb-false, eqb-false, eqb-true, not-false}
-use lib.Dec.{T, eqb, leb, ltb}
+use lib.Dec.{eqb, leb, ltb}
 use lib.ListN.{length, getD}
 use Rattle.base.specs.laws.TestLaws.{both-false}
 use Rattle.base.specs.laws.ChoiceLaws.{choose-eq, choose-ne, by-lt}
@@ -19,13 +19,12 @@ use Rattle.tree.specs.laws.Notify.{notify-count}
 use Rattle.tree.specs.laws.Check.{checkCount, check-count}
 use Rattle.tree.specs.laws.Code.{bounded, count-one, count-more}
 use Rattle.cover.specs.rules.Cover.{In, Meets}
-use Rattle.cover.specs.rules.Search.{leastCover}
 use Rattle.cover.specs.rules.Answer.{levelsOutside, windowOutside}
 use Rattle.cover.specs.laws.Lowest.{Window}
 use Rattle.cover.specs.laws.Least.{least-cover}
 use Rattle.lock.specs.declared.Record.{Record}
 use Rattle.lock.specs.declared.Settings.{Settings}
-use Rattle.lock.specs.rules.Records.{phaseOf, pieces, pieceAt, currentPiece, isLeaf, isRoot, idleWith}
+use Rattle.lock.specs.rules.Records.{coverOf, phaseOf, pieces, pieceAt, currentPiece, isLeaf, isRoot, idleWith}
 use Rattle.lock.specs.laws.Pieces.{few-pieces}
 use Rattle.lock.specs.rules.Unreadable.{numberTooLarge, idleFilled, notCovered, noCurrent, ticketTooLarge, listLength, placePast, noticesWrong, timeAhead, phaseElsewhere, heldEarly, outcomeWrong, gripLacking, givingWrong, unreadable, fieldsWrong, differ}
 use Rattle.lock.specs.laws.Active.{Settled, Active}
@@ -70,14 +69,14 @@ pieces-are r (p ∷ q ∷ m ∷ c) n i b v f g = absurd (omega arith)
 module _ (s : Settings) (r : Record) where
   record Covered : Type 0 where
     window : Window (s .levels) (r .left) (r .right)
-    cover : pieces r ≡ leastCover 2 (s .levels) (r .left) (r .right)
+    cover : pieces r ≡ coverOf s (r .left) (r .right)
     meets : (i : ℕ) → i < length (pieces r) → Meets (s .levels) (r .left) (r .right) (pieceAt r i)
 
   covered : Settled s → notCovered s r ≡ false → Covered
   unfolding notCovered windowOutside pieceAt
   covered v e =
       let h = s .levels in
-      let c = leastCover 2 h (r .left) (r .right) in
+      let c = coverOf s (r .left) (r .right) in
       let b = both-false _ (not (eqb (r .second) (getD c 1 0))) e in
       let a = both-false (windowOutside h (r .left) (r .right)) (not (eqb (r .first) (getD c 0 0))) (b .0) in
       let w = both-false (leb (r .right) (r .left)) (ltb (units h) (r .right)) (a .0) in

@@ -1,16 +1,26 @@
--- Laws: what the answer of `cover` says, where the levels are within their range. Assumes nothing.
-use mathlib.Core.Path.{_≡_, refl, ap, _∙_}
+-- Laws of a window's cover: what the answer of `cover` says, where the levels are within their range, and that its first piece is a node. Assumes nothing.
+use mathlib.Core.Path.{_≡_, refl, sym, ap, _∙_, subst}
 use mathlib.Core.Bool.{Bool, true, false}
+use mathlib.Core.List.{List, [], _∷_}
 use Prim.Native.Nat.{ℕ, _≤_}
 use native.Mathlib.Omega.{arith}
-use lib.Dec.{ltb, ltb→lt, not-T}
+use borrow.Author.Tests.{ltb-false, leb-false}
+use lib.Dec.{leb, ltb, ltb→lt, not-T}
 use lib.ListN.{getD}
 use Rattle.base.specs.rules.Choice.{choose}
 use Rattle.base.specs.laws.ChoiceLaws.{choose-no}
-use Rattle.base.specs.laws.TestLaws.{or-none}
+use Rattle.base.specs.laws.TestLaws.{or-none, both-false}
+use Rattle.tree.specs.rules.Tree.{Node, units}
 use Rattle.cover.specs.declared.Answer.{Answer}
 use Rattle.cover.specs.rules.Search.{leastCover}
 use Rattle.cover.specs.rules.Answer.{levelsOutside, windowOutside, refused, accepted, answer}
+use Rattle.cover.specs.laws.Lowest.{Window}
+use Rattle.cover.specs.laws.Least.{least-chain}
+use Rattle.cover.specs.laws.Chain.{Chain}
+use Rattle.lock.specs.declared.Settings.{Settings}
+use Rattle.lock.specs.rules.Records.{coverOf}
+use Rattle.lock.specs.laws.Active.{Settled}
+use Rattle.lock.specs.laws.Placed.{widen}
 
 module _ (h l r : ℕ) (h2 : 2 ≤ h) (h12 : h ≤ 12) (a : Answer) (e : a ≡ answer h l r) where
   abbrev least : Answer
@@ -46,3 +56,21 @@ module _ (h l r : ℕ) (h2 : 2 ≤ h) (h12 : h ≤ 12) (a : Answer) (e : a ≡ a
     pub cover-second : a .second ≡ getD (leastCover 2 h l r) 1 0
     unfolding accepted
     cover-second = ap (λ x. x .second) (accepted-inside (windowOutside h l r) answer-is z .1)
+
+-- a window that is not outside is one of the tree
+pub inside-window : (h l r : ℕ) → 1 ≤ h → h ≤ 12 → windowOutside h l r ≡ false → Window h l r
+unfolding windowOutside
+inside-window h l r a b e =
+    let t = both-false (leb r l) _ e in
+    record { levels = a; most = b; some = leb-false r l (t .0); fits = ltb-false (units h) r (t .1) }
+
+-- the first piece of the least cover is a node
+chain-first : (h l r : ℕ) (c : List ℕ) → Chain h l r c → Node h (getD c 0 0)
+unfolding Chain
+chain-first h l r [] v = absurd v
+chain-first h l r (p ∷ c) v = v .0
+
+pub first-node : (s : Settings) (l r n : ℕ) → Settled s → Window (s .levels) l r → n ≡ getD (coverOf s l r) 0 0 → Node 12 n
+first-node s l r n v w e =
+    subst (λ (x : ℕ). Node 12 x) (sym e)
+    (widen (s .levels) _ (v .levels-most) (chain-first (s .levels) l r (coverOf s l r) (least-chain (s .levels) l r (w .levels) (w .some) (w .fits) 2 (omega arith) .0)))

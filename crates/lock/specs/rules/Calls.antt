@@ -7,12 +7,11 @@ use lib.Dec.{eqb, leb, ltb}
 use lib.ListN.{length, getD, set}
 use Rattle.base.specs.rules.Choice.{choose}
 use Rattle.tree.specs.rules.Tree.{wordCount}
-use Rattle.cover.specs.rules.Search.{leastCover}
 use Rattle.cover.specs.rules.Answer.{levelsOutside, windowOutside}
 use Rattle.lock.specs.declared.Record.{Record}
 use Rattle.lock.specs.declared.Settings.{Settings}
 use Rattle.lock.specs.declared.Stepped.{Stepped}
-use Rattle.lock.specs.rules.Records.{gripOf, wordAt, written, toPhase, withOutcome, idleWith}
+use Rattle.lock.specs.rules.Records.{coverOf, gripOf, wordAt, written, toPhase, withOutcome, idleWith}
 use Rattle.lock.specs.rules.Unreadable.{differ, unreadable}
 use Rattle.lock.specs.rules.Steps.{touched, moved, startPhase}
 
@@ -80,7 +79,7 @@ windowed phase left right first second = record {
 
 unfoldable pub requested : Settings → ℕ → ℕ → Record
 requested s a b =
-    windowed (startPhase s (getD (leastCover 2 (s .levels) a b) 0 0)) a b (getD (leastCover 2 (s .levels) a b) 0 0) (getD (leastCover 2 (s .levels) a b) 1 0)
+    windowed (startPhase s (getD (coverOf s a b) 0 0)) a b (getD (coverOf s a b) 0 0) (getD (coverOf s a b) 1 0)
 
 -- "Release (from 9) and cancel (from 1..8) touch no word and set outcome 1 or 3 and phase 10; a cancel with nothing to give back makes the record
 -- idle with outcome 3."

@@ -8,6 +8,7 @@ use lib.ListN.{length, getD, set}
 use Rattle.base.specs.rules.Choice.{choose}
 use Rattle.tree.specs.rules.Tree.{level}
 use Rattle.tree.specs.rules.Lists.{notifyList}
+use Rattle.cover.specs.rules.Search.{leastCover}
 use Rattle.lock.specs.declared.Record.{Record}
 use Rattle.lock.specs.declared.Settings.{Settings}
 
@@ -22,6 +23,10 @@ phaseOf p =
     (choose (eqb p 8) check (choose (eqb p 9) held (choose (eqb p 10) returning unknown))))))))))
 
 -- ---- pieces
+
+-- the cover of the window [l, r), "one or two nodes"
+abbrev pub coverOf : Settings → ℕ → ℕ → List ℕ
+coverOf s l r = leastCover 2 (s .levels) l r
 
 -- "the numbers of its two pieces (0 for none)", as a list
 unfoldable pub pieces : Record → List ℕ

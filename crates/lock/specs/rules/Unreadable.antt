@@ -6,11 +6,10 @@ use lib.Dec.{eqb, leb, ltb}
 use lib.ListN.{length, getD}
 use Rattle.base.specs.rules.Choice.{choose}
 use Rattle.tree.specs.rules.Lists.{ancestors, notifyList, checkList}
-use Rattle.cover.specs.rules.Search.{leastCover}
 use Rattle.cover.specs.rules.Answer.{windowOutside}
 use Rattle.lock.specs.declared.Record.{Record}
 use Rattle.lock.specs.declared.Settings.{Settings}
-use Rattle.lock.specs.rules.Records.{Phase, idle, ticket, turn, climb, blocked, claim, notify, wait, check, held, returning, unknown, phaseOf, pieces, currentPiece, isLeaf, isRoot, gripOf, noticesOf}
+use Rattle.lock.specs.rules.Records.{coverOf, Phase, idle, ticket, turn, climb, blocked, claim, notify, wait, check, held, returning, unknown, phaseOf, pieces, currentPiece, isLeaf, isRoot, gripOf, noticesOf}
 
 abbrev pub nonzero : ℕ → Bool
 nonzero n = ltb 0 n
@@ -32,8 +31,8 @@ idleFilled r =
 unfoldable pub notCovered : Settings → Record → Bool
 notCovered s r =
     windowOutside (s .levels) (r .left) (r .right)
-    || differ (r .first) (getD (leastCover 2 (s .levels) (r .left) (r .right)) 0 0)
-    || differ (r .second) (getD (leastCover 2 (s .levels) (r .left) (r .right)) 1 0)
+    || differ (r .first) (getD (coverOf s (r .left) (r .right)) 0 0)
+    || differ (r .second) (getD (coverOf s (r .left) (r .right)) 1 0)
 
 -- "a current piece that doesn't exist"
 unfoldable pub noCurrent : Record → Bool

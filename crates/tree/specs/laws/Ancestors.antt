@@ -1,11 +1,10 @@
 -- Laws of the list of ancestors: its length, and the node at each place. Assumes nothing.
 use mathlib.Core.Path.{_≡_, refl, ap}
-use Prim.Native.Nat.{ℕ, zero, suc, _-_, _≤_, _<_}
+use Prim.Native.Nat.{ℕ, zero, suc, _-_, _<_}
 use native.Mathlib.Omega.{arith}
 use lib.ListN.{length, getD}
-use Rattle.tree.specs.rules.Tree.{parent, climb, level, Above}
+use Rattle.tree.specs.rules.Tree.{parent, climb, level}
 use Rattle.tree.specs.rules.Lists.{upward, ancestors}
-use Rattle.tree.specs.laws.Level.{climb-level}
 
 upward-length : (k n : ℕ) → length (upward k n) ≡ k
 unfolding upward
@@ -25,9 +24,3 @@ ancestors-count n = upward-length (level n - 1) n
 pub ancestors-place : (n i : ℕ) → i < level n - 1 → getD (ancestors n) i 0 ≡ climb (suc i) n
 unfolding ancestors
 ancestors-place n i b = upward-place (level n - 1) n i b
-
--- each of them is an ancestor, one level higher from place to place
-pub ancestors-above : (n i : ℕ) → 1 ≤ n → i < level n - 1 → Above (climb (suc i) n) n
-ancestors-above n i some b =
-    let g = climb-level (suc i) n some (omega arith) in
-    record { higher = omega (arith, g .1); meets = ap (λ (k : ℕ). climb k n) (let z : level n - level (climb (suc i) n) ≡ suc i = omega (arith, g .1) in z) }

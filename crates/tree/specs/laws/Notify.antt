@@ -8,7 +8,7 @@ use lib.ListN.{length, getD, length-map}
 use lib.Dec.{T, eqb, leb, ltb, eqb→eq, ltb→lt}
 use Rattle.base.specs.rules.Choice.{choose}
 use Rattle.base.specs.laws.Every.{both, both-l, both-r, every, every-at}
-use Rattle.tree.specs.rules.Tree.{climb, level, Above}
+use Rattle.tree.specs.rules.Tree.{level}
 use Rattle.tree.specs.rules.Lists.{ancestor, notifies, notifiedFrom, notifyLevels, notifyList}
 use Rattle.tree.specs.laws.Level.{climb-level}
 
@@ -106,12 +106,6 @@ module _ (m n : ℕ) (b : Bounded m (level n)) where
         let t = notify-higher m d i b l in
         let g = climb-level (d - e) n some (omega arith) in
         (g .0, omega (arith, g .1))
-
-    pub notify-above : 1 ≤ n → Above (notifyNode m n i) n
-    unfolding ancestor
-    notify-above some =
-        let g = notify-node some in
-        record { higher = omega (arith, g .1, notify-higher m (level n) i b l); meets = ap (λ (k : ℕ). climb (level n - k) n) (g .1) }
 
 -- the list has no node twice
 pub notify-once : (m n : ℕ) → Bounded m (level n) → 1 ≤ n → (i j : ℕ) → i < notifyCount m (level n) → j < i → notifyNode m n j ≡ notifyNode m n i → ⊥

@@ -14,7 +14,7 @@ use Rattle.lock.specs.rules.Calls.{requested, firstCause, requestTests, 
 use Rattle.lock.specs.laws.CallLaws.{cause-hit, cause-skip, answer-accepted, refused-by, own-unreadable, own-rest, tree-tested}
 use Rattle.lock.specs.laws.CoverLaws.{cover-refused, cover-inside, cover-first, cover-second}
 use Rattle.lock.specs.laws.ActiveLaws.{settled}
-use Rattle.lock.specs.laws.RequestLaws.{inside-window}
+use Rattle.lock.specs.laws.CoverLaws.{inside-window}
 use borrow.Author.Needs.{needs}
 use Rattle.lock.proofs.Record.request.Statement.{statement}
 use Rattle.lock.proofs.Record.request.Tie as tie

@@ -6,7 +6,7 @@ use mathlib.Core.List.{[]}
 use Rattle.lock.specs.rules.Calls.{firstCause, treeTests}
 use Rattle.lock.specs.laws.CallLaws.{tree-settings, tree-count, tree-passed}
 use Rattle.lock.specs.laws.ActiveLaws.{settled}
-use Rattle.lock.specs.laws.RequestLaws.{last-is-count}
+use Rattle.lock.specs.laws.WordLaws.{last-is-count}
 use Rattle.lock.proofs.Settings.tree_cause.Statement.{statement}
 use Rattle.lock.proofs.Settings.tree_cause.Tie as tie
 

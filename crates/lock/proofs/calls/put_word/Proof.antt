@@ -2,7 +2,7 @@
 use mathlib.Core.Path.{sym}
 use native.Mathlib.Omega.{arith}
 use borrow.Author.Needs.{needs}
-use Rattle.lock.specs.laws.RequestLaws.{written-none, written-some}
+use Rattle.lock.specs.laws.WordLaws.{written-none, written-some}
 use borrow.Author.Needs.{needs}
 use Rattle.lock.proofs.calls.put_word.Statement.{statement}
 use Rattle.lock.proofs.calls.put_word.Tie as tie

@@ -2,7 +2,7 @@
 use mathlib.Core.Path.{sym}
 use native.Mathlib.Omega.{arith}
 use borrow.Author.Needs.{needs}
-use Rattle.lock.specs.laws.RequestLaws.{word-none, word-some}
+use Rattle.lock.specs.laws.WordLaws.{word-none, word-some}
 use borrow.Author.Needs.{needs}
 use Rattle.lock.proofs.calls.word_at.Statement.{statement}
 use Rattle.lock.proofs.calls.word_at.Tie as tie
