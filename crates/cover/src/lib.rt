@@ -107,16 +107,10 @@ fn refuse(cause: u64) -> Answer
 pub fn cover(h: u64, l: u64, r: u64) -> Answer
     ensures { λ a. ⌜ a ≡ answer h l r ⌝ }
 {
-    if h < 2 {
+    if (h < 2) | (12 < h) {
         return refuse(1);
     }
-    if 12 < h {
-        return refuse(1);
-    }
-    if r <= l {
-        return refuse(7);
-    }
-    if (64u64 << (2 * (h - 1))) < r {
+    if (r <= l) | ((64u64 << (2 * (h - 1))) < r) {
         return refuse(7);
     }
     pieces(h, l, r)

@@ -1,21 +1,7 @@
 -- Laws of tests joined by `||`. Assumes nothing.
 use mathlib.Core.Path.{_≡_, refl, sym, ap, _∙_, subst}
-use mathlib.Core.Bool.{Bool, true, false, not, _||_}
+use mathlib.Core.Bool.{Bool, true, false, _||_}
 use lib.Dec.{T}
-
-pub or-first : (a b : Bool) → T a → T (a || b)
-or-first true b t = tt
-or-first false b t = absurd t
-
-pub or-second : (a b : Bool) → T b → T (a || b)
-or-second true b t = tt
-or-second false b t = t
-
-pub or-none : (a b : Bool) → T (not a) → T (not b) → T (not (a || b))
-or-none true b s t = absurd s
-or-none false b s t = t
-
--- ---- by the outcome
 
 pub true-first : (a b : Bool) → a ≡ true → true ≡ (a || b)
 true-first a b e = ap (λ c. c || b) (sym e)

@@ -1,7 +1,8 @@
 -- `cover::cover` meets its contract. Assumes nothing.
-use mathlib.Core.Path.{_∙_}
+use mathlib.Core.Path.{sym, _∙_}
 use native.Mathlib.Omega.{arith}
-use Rattle.cover.specs.laws.Code.{levels-few, levels-many, window-empty, window-long, window-fine, units-code}
+use Rattle.cover.specs.rules.Answer.{levelsOutside}
+use Rattle.cover.specs.laws.Code.{levels-refused, window-refused, window-covered, levels-inside, window-tested, window-inside}
 use borrow.Author.Needs.{needs}
 use Rattle.cover.proofs.cover.Statement.{statement}
 use Rattle.cover.proofs.cover.Tie as tie
@@ -10,73 +11,47 @@ refuse-requires : tie.Need-refuse-requires
 refuse-requires c κs = search needs
 
 returns : tie.Need-returns
+unfolding levelsOutside
 returns c =
     let a = c .before .before .args in
-    c .refuse .ensures ∙ levels-few (a .h) (a .l) (a .r) (c .before .if1 .taken)
+    c .refuse .ensures ∙ levels-refused (a .h) (a .l) (a .r) (c .before .if1 .taken)
+
+sub-if2 : tie.Need-sub-if2
+unfolding levelsOutside
+sub-if2 c = omega (arith, levels-inside (c .before .args .h) (c .before .args .l) (c .before .args .r) (c .if1 .left) .0)
+
+mul-if2 : tie.Need-mul-if2
+unfolding levelsOutside
+mul-if2 c = omega (arith, levels-inside (c .before .args .h) (c .before .args .l) (c .before .args .r) (c .if1 .left) .1)
+
+shl-if2 : tie.Need-shl-if2
+unfolding levelsOutside
+shl-if2 c = omega (arith, levels-inside (c .before .args .h) (c .before .args .l) (c .before .args .r) (c .if1 .left) .1)
 
 refuse-requires-2 : tie.Need-refuse-requires-2
 refuse-requires-2 c κs = search needs
 
 returns-2 : tie.Need-returns-2
+unfolding levelsOutside
 returns-2 c =
     let a = c .before .before .before .args in
-    c .refuse2 .ensures ∙ levels-many (a .h) (a .l) (a .r) (c .before .if2 .taken)
-
-refuse-requires-3 : tie.Need-refuse-requires-3
-refuse-requires-3 c κs = search needs
-
-returns-3 : tie.Need-returns-3
-returns-3 c =
-    let a = c .before .before .before .before .args in
-    c .refuse3 .ensures ∙ window-empty (a .h) (a .l) (a .r) (omega arith) (omega arith) (c .before .if3 .taken)
-
-sub-if4 : tie.Need-sub-if4
-sub-if4 c = search needs
-
-mul-if4 : tie.Need-mul-if4
-mul-if4 c = search needs
-
-shl-if4 : tie.Need-shl-if4
-shl-if4 c = search needs
-
-refuse-requires-4 : tie.Need-refuse-requires-4
-refuse-requires-4 c κs = search needs
-
-returns-4 : tie.Need-returns-4
-returns-4 c =
-    let a = c .before .before .before .before .before .args in
-    c .refuse4 .ensures ∙ window-long (a .h) (a .l) (a .r) (omega arith) (omega arith) (omega (arith, units-code (a .h) (a .l) (a .r) (omega arith) (omega arith), c .before .if4 .taken))
+    let levels = c .before .before .if1 .left in
+    c .refuse2 .ensures ∙ window-refused (a .h) (a .l) (a .r) levels (sym (window-tested (a .h) (a .l) (a .r) levels) ∙ c .before .if2 .taken)
 
 pieces-requires : tie.Need-pieces-requires
+unfolding levelsOutside
 pieces-requires c κs =
-    let a = c .before .before .before .before .args in
-    record {
-      levels = omega arith;
-      most = omega arith;
-      some = omega arith;
-      fits = omega (arith, units-code (a .h) (a .l) (a .r) (omega arith) (omega arith), c .if4 .left);
-    }
+    let a = c .before .before .args in
+    let levels = c .before .if1 .left in
+    let v = levels-inside (a .h) (a .l) (a .r) levels in
+    window-inside (a .h) (a .l) (a .r) (omega (arith, v .0)) (v .1) (sym (window-tested (a .h) (a .l) (a .r) levels) ∙ c .if2 .left)
 
-returns-5 : tie.Need-returns-5
-returns-5 c =
-    let a = c .before .before .before .before .before .args in
-    c .pieces .ensures
-    ∙ window-fine (a .h) (a .l) (a .r) (omega arith) (omega arith) (omega arith) (omega (arith, units-code (a .h) (a .l) (a .r) (omega arith) (omega arith), c .before .if4 .left))
+returns-3 : tie.Need-returns-3
+unfolding levelsOutside
+returns-3 c =
+    let a = c .before .before .before .args in
+    let levels = c .before .before .if1 .left in
+    c .pieces .ensures ∙ window-covered (a .h) (a .l) (a .r) levels (sym (window-tested (a .h) (a .l) (a .r) levels) ∙ c .before .if2 .left)
 
 pub cover-spec : {M : Type 1} → statement M
-cover-spec =
-    tie.close
-    (tie.spec
-    refuse-requires
-    returns
-    refuse-requires-2
-    returns-2
-    refuse-requires-3
-    returns-3
-    sub-if4
-    mul-if4
-    shl-if4
-    refuse-requires-4
-    returns-4
-    pieces-requires
-    returns-5)
+cover-spec = tie.close (tie.spec refuse-requires returns sub-if2 mul-if2 shl-if2 refuse-requires-2 returns-2 pieces-requires returns-3)

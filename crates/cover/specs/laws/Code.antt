@@ -2,12 +2,13 @@
 use mathlib.Core.Path.{_≡_, sym, ap, ap₂, _∙_}
 use Prim.Native.Nat.{ℕ, suc, _+_, _-_, _*_, _/_, _%_, _^_, _≤_, _<_}
 use native.Mathlib.Omega.{arith}
-use lib.Dec.{leb, ltb, lt→ltb, le→leb, not-T, leb→le, ltb→lt}
+use mathlib.Core.Bool.{true, false, _||_}
+use borrow.Author.Tests.{ltb-false, leb-false}
+use lib.Dec.{leb, ltb}
 use native.Mathlib.Nat.{mod-eq-of-lt, div-mul-le-self}
 use lib.Pow.{shr-shr, pow-add}
 use Rattle.base.specs.rules.Choice.{choose}
-use Rattle.base.specs.laws.ChoiceLaws.{choose-yes, choose-no}
-use Rattle.base.specs.laws.TestLaws.{or-first, or-second, or-none}
+use Rattle.base.specs.laws.TestLaws.{both-false}
 use Rattle.tree.specs.rules.Tree.{holder, level, left, size, units, first}
 use Rattle.tree.specs.laws.Range.{holder-level, right-in}
 use Rattle.tree.specs.laws.Closed.{four, holder-is, left-edge-is, node-small}
@@ -168,36 +169,34 @@ module _ (h l r k : ℕ) (w : Window h l r) (ek : k ≡ rise l (r - 1)) where
 -- ---- the tests of the call
 
 module _ (h l r : ℕ) where
-  pub levels-few : h < 2 → refused 1 ≡ answer h l r
-  unfolding answer levelsOutside
-  levels-few b = sym (choose-yes (levelsOutside h) _ _ (or-first (ltb h 2) (ltb 12 h) (lt→ltb h 2 b)))
+  pub levels-refused : levelsOutside h ≡ true → refused 1 ≡ answer h l r
+  unfolding answer choose
+  levels-refused e = rw e
 
-  pub levels-many : 12 < h → refused 1 ≡ answer h l r
-  unfolding answer levelsOutside
-  levels-many b = sym (choose-yes (levelsOutside h) _ _ (or-second (ltb h 2) (ltb 12 h) (lt→ltb 12 h b)))
+  pub window-refused : levelsOutside h ≡ false → windowOutside h l r ≡ true → refused 7 ≡ answer h l r
+  unfolding answer choose
+  window-refused e f = rw (e, f)
 
-  module _ (h2 : 2 ≤ h) (h12 : h ≤ 12) where
-    levels-fine : choose (windowOutside h l r) (refused 7) (accepted h l r (leastCover 2 h l r)) ≡ answer h l r
-    unfolding answer levelsOutside
-    levels-fine =
-        sym (choose-no (levelsOutside h) _ _
-        (or-none (ltb h 2) (ltb 12 h) (not-T (ltb h 2) (λ t. omega (arith, ltb→lt h 2 t))) (not-T (ltb 12 h) (λ t. omega (arith, ltb→lt 12 h t)))))
-
-    pub window-empty : r ≤ l → refused 7 ≡ answer h l r
-    unfolding windowOutside
-    window-empty b = sym (choose-yes (windowOutside h l r) _ _ (or-first (leb r l) (ltb (units h) r) (le→leb r l b))) ∙ levels-fine
-
-    pub window-long : units h < r → refused 7 ≡ answer h l r
-    unfolding windowOutside
-    window-long b = sym (choose-yes (windowOutside h l r) _ _ (or-second (leb r l) (ltb (units h) r) (lt→ltb (units h) r b))) ∙ levels-fine
-
-    pub window-fine : l < r → r ≤ units h → accepted h l r (leastCover 2 h l r) ≡ answer h l r
-    unfolding windowOutside
-    window-fine a b =
-        sym (choose-no (windowOutside h l r) _ _
-        (or-none (leb r l) (ltb (units h) r) (not-T (leb r l) (λ t. omega (arith, leb→le r l t))) (not-T (ltb (units h) r) (λ t. omega (arith, ltb→lt (units h) r t)))))
-        ∙ levels-fine
+  pub window-covered : levelsOutside h ≡ false → windowOutside h l r ≡ false → accepted h l r (leastCover 2 h l r) ≡ answer h l r
+  unfolding answer choose
+  window-covered e f = rw (e, f)
 
   pub units-code : 1 ≤ h → h ≤ 12 → (64 * 2 ^ (2 * (h - 1))) % 2 ^ 64 ≡ units h
   unfolding units
   units-code a b = shifted 64 (h - 1) (omega (arith, four-small (h - 1) (omega arith)))
+
+  -- the levels that are left, and the window's test with them
+  pub levels-inside : levelsOutside h ≡ false → (2 ≤ h) × (h ≤ 12)
+  unfolding levelsOutside
+  levels-inside e = let t = both-false (ltb h 2) _ e in (ltb-false h 2 (t .0), ltb-false 12 h (t .1))
+
+  pub window-tested : levelsOutside h ≡ false → (leb r l || ltb ((64 * 2 ^ (2 * (h - 1))) % 2 ^ 64) r) ≡ windowOutside h l r
+  unfolding windowOutside
+  window-tested e = let v = levels-inside e in ap (λ (n : ℕ). leb r l || ltb n r) (units-code (omega (arith, v .0)) (v .1))
+
+  -- a window that is not outside is one of the tree
+  pub window-inside : 1 ≤ h → h ≤ 12 → windowOutside h l r ≡ false → Window h l r
+  unfolding windowOutside
+  window-inside a b e =
+      let t = both-false (leb r l) _ e in
+      record { levels = a; most = b; some = leb-false r l (t .0); fits = ltb-false (units h) r (t .1) }

@@ -5,14 +5,13 @@ use mathlib.Core.Bool.{false}
 use mathlib.Core.List.{List, [], _∷_}
 use Prim.Native.Nat.{ℕ, _≤_, _<_}
 use native.Mathlib.Omega.{arith}
-use borrow.Author.Tests.{ltb-false, leb-false}
-use lib.Dec.{eqb, leb, ltb, eqb→eq}
+use lib.Dec.{eqb, eqb→eq}
 use lib.ListN.{length, getD}
 use Rattle.base.specs.laws.ChoiceLaws.{on-choose, by-lt}
-use Rattle.tree.specs.rules.Tree.{units}
 use Rattle.cover.specs.rules.Cover.{In}
 use Rattle.cover.specs.rules.Answer.{windowOutside}
 use Rattle.cover.specs.laws.Lowest.{Window}
+use Rattle.cover.specs.laws.Code.{window-inside}
 use Rattle.cover.specs.laws.Least.{least-cover}
 use Rattle.lock.specs.declared.Record.{Record}
 use Rattle.lock.specs.declared.Settings.{Settings}
@@ -25,7 +24,6 @@ use Rattle.lock.specs.rules.Calls.{requested, released, cancelled}
 use Rattle.lock.specs.rules.Table.{State, Call, request, step, release, cancel, clientOf, recordAt, numberOf, after, call}
 use Rattle.lock.specs.rules.History.{run}
 use Rattle.lock.specs.laws.Active.{Settled}
-use Rattle.base.specs.laws.TestLaws.{both-false}
 use Rattle.lock.specs.laws.ActiveLaws.{pieces-are}
 use Rattle.lock.specs.laws.Accepted.{accepted, request-tested, step-tested, release-tested, cancel-tested}
 use Rattle.lock.specs.laws.Ready.{Ready, ready}
@@ -47,10 +45,7 @@ use Rattle.lock.specs.claim.Returning.{returning-keeps}
 
 module _ (s : Settings) (g : Settled s) (l r : ℕ) (inside : windowOutside (s .levels) l r ≡ false) where
   window : Window (s .levels) l r
-  unfolding windowOutside
-  window =
-      let w = both-false (leb r l) (ltb (units (s .levels)) r) inside in
-      record { levels = omega (arith, g .levels-some); most = g .levels-most; some = leb-false r l (w .0); fits = ltb-false (units (s .levels)) r (w .1) }
+  window = window-inside (s .levels) l r (omega (arith, g .levels-some)) (g .levels-most) inside
 
   some-piece : (n : ℕ) (c : List ℕ) → In n c → 0 < length c
   unfolding In

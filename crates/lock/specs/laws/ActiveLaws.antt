@@ -6,11 +6,11 @@ use mathlib.Core.List.{List, [], _∷_}
 use Prim.Native.Nat.{ℕ, zero, suc, _-_, _≤_, _<_, min}
 use native.Mathlib.Omega.{arith}
 use borrow.Author.Tests.{ltb-false, leb-false, eqb-false, eqb-true, not-false}
-use lib.Dec.{eqb, leb, ltb}
+use lib.Dec.{eqb, ltb}
 use lib.ListN.{length, getD}
 use Rattle.base.specs.laws.TestLaws.{both-false}
 use Rattle.base.specs.laws.ChoiceLaws.{choose-eq, choose-ne, by-lt}
-use Rattle.tree.specs.rules.Tree.{level, units, Node}
+use Rattle.tree.specs.rules.Tree.{level, Node}
 use Rattle.tree.specs.rules.Lists.{ancestors, notifyList, checkList}
 use Rattle.tree.specs.laws.Level.{level-pos, level-root-only, first-one}
 use Rattle.tree.specs.laws.Climb.{first-width, first-mono}
@@ -21,6 +21,7 @@ use Rattle.tree.specs.laws.Code.{bounded, count-one, count-more}
 use Rattle.cover.specs.rules.Cover.{In, Meets}
 use Rattle.cover.specs.rules.Answer.{levelsOutside, windowOutside}
 use Rattle.cover.specs.laws.Lowest.{Window}
+use Rattle.cover.specs.laws.Code.{window-inside}
 use Rattle.cover.specs.laws.Least.{least-cover}
 use Rattle.lock.specs.declared.Record.{Record}
 use Rattle.lock.specs.declared.Settings.{Settings}
@@ -73,21 +74,19 @@ module _ (s : Settings) (r : Record) where
     meets : (i : ℕ) → i < length (pieces r) → Meets (s .levels) (r .left) (r .right) (pieceAt r i)
 
   covered : Settled s → notCovered s r ≡ false → Covered
-  unfolding notCovered windowOutside pieceAt
+  unfolding notCovered pieceAt
   covered v e =
       let h = s .levels in
       let c = coverOf s (r .left) (r .right) in
       let b = both-false _ (not (eqb (r .second) (getD c 1 0))) e in
       let a = both-false (windowOutside h (r .left) (r .right)) (not (eqb (r .first) (getD c 0 0))) (b .0) in
-      let w = both-false (leb (r .right) (r .left)) (ltb (units h) (r .right)) (a .0) in
-      let some = leb-false (r .right) (r .left) (w .0) in
-      let fits = ltb-false (units h) (r .right) (w .1) in
-      let least = least-cover h (r .left) (r .right) (omega arith) some fits 2 (omega arith) in
-      let held = least .covers .holds (r .left) (omega arith) some in
+      let w = window-inside h (r .left) (r .right) (omega (arith, v .levels-some)) (v .levels-most) (a .0) in
+      let least = least-cover h (r .left) (r .right) (w .levels) (w .some) (w .fits) 2 (omega arith) in
+      let held = least .covers .holds (r .left) (omega arith) (w .some) in
       let is : pieces r ≡ c = pieces-are r c (held .node) (held .among) (least .few) (λ m i. least .covers .meets m i .node .some)
       (eqb-true (r .first) (getD c 0 0) (not-false _ (a .1))) (eqb-true (r .second) (getD c 1 0) (not-false _ (b .1))) in
       record {
-        window = record { levels = omega arith; most = v .levels-most; some = some; fits = fits };
+        window = w;
         cover = is;
         meets = λ i l. subst (λ (x : List ℕ). i < length x → Meets h (r .left) (r .right) (getD x i 0)) (sym is) (λ b. least .covers .meets _ (in-at c i b)) l;
       }

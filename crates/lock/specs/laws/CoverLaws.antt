@@ -1,16 +1,13 @@
 -- Laws of a window's cover: what the answer of `cover` says, where the levels are within their range, and that its first piece is a node. Assumes nothing.
-use mathlib.Core.Path.{_≡_, refl, sym, ap, _∙_, subst}
-use mathlib.Core.Bool.{Bool, true, false}
+use mathlib.Core.Path.{_≡_, refl, sym, ap, ap₂, _∙_, subst}
+use mathlib.Core.Bool.{Bool, true, false, _||_}
 use mathlib.Core.List.{List, [], _∷_}
 use Prim.Native.Nat.{ℕ, _≤_}
 use native.Mathlib.Omega.{arith}
-use borrow.Author.Tests.{ltb-false, leb-false}
-use lib.Dec.{leb, ltb, ltb→lt, not-T}
+use borrow.Author.Tests.{le-ltb}
 use lib.ListN.{getD}
 use Rattle.base.specs.rules.Choice.{choose}
-use Rattle.base.specs.laws.ChoiceLaws.{choose-no}
-use Rattle.base.specs.laws.TestLaws.{or-none, both-false}
-use Rattle.tree.specs.rules.Tree.{Node, units}
+use Rattle.tree.specs.rules.Tree.{Node}
 use Rattle.cover.specs.declared.Answer.{Answer}
 use Rattle.cover.specs.rules.Search.{leastCover}
 use Rattle.cover.specs.rules.Answer.{levelsOutside, windowOutside, refused, accepted, answer}
@@ -27,10 +24,8 @@ module _ (h l r : ℕ) (h2 : 2 ≤ h) (h12 : h ≤ 12) (a : Answer) (e : a ≡ a
   least = accepted h l r (leastCover 2 h l r)
 
   answer-is : a ≡ choose (windowOutside h l r) (refused 7) least
-  unfolding answer levelsOutside
-  answer-is =
-      e ∙ choose-no (levelsOutside h) _ _
-      (or-none (ltb h 2) (ltb 12 h) (not-T (ltb h 2) (λ t. omega (arith, ltb→lt h 2 t))) (not-T (ltb 12 h) (λ t. omega (arith, ltb→lt 12 h t))))
+  unfolding answer levelsOutside choose
+  answer-is = e ∙ ap₂ (λ b d. choose (b || d) (refused 1) (choose (windowOutside h l r) (refused 7) least)) (le-ltb h 2 h2) (le-ltb 12 h h12)
 
   refused-outside : (b : Bool) → a ≡ choose b (refused 7) least → (a .number ≡ 0 → ⊥) → b ≡ true
   unfolding choose accepted
@@ -56,13 +51,6 @@ module _ (h l r : ℕ) (h2 : 2 ≤ h) (h12 : h ≤ 12) (a : Answer) (e : a ≡ a
     pub cover-second : a .second ≡ getD (leastCover 2 h l r) 1 0
     unfolding accepted
     cover-second = ap (λ x. x .second) (accepted-inside (windowOutside h l r) answer-is z .1)
-
--- a window that is not outside is one of the tree
-pub inside-window : (h l r : ℕ) → 1 ≤ h → h ≤ 12 → windowOutside h l r ≡ false → Window h l r
-unfolding windowOutside
-inside-window h l r a b e =
-    let t = both-false (leb r l) _ e in
-    record { levels = a; most = b; some = leb-false r l (t .0); fits = ltb-false (units h) r (t .1) }
 
 -- the first piece of the least cover is a node
 chain-first : (h l r : ℕ) (c : List ℕ) → Chain h l r c → Node h (getD c 0 0)

@@ -14,7 +14,7 @@ use Rattle.lock.specs.rules.Calls.{requested, firstCause, requestTests, 
 use Rattle.lock.specs.laws.CallLaws.{cause-hit, cause-skip, answer-accepted, refused-by, own-unreadable, own-rest, tree-tested}
 use Rattle.lock.specs.laws.CoverLaws.{cover-refused, cover-inside, cover-first, cover-second}
 use Rattle.lock.specs.laws.ActiveLaws.{settled}
-use Rattle.lock.specs.laws.CoverLaws.{inside-window}
+use Rattle.cover.specs.laws.Code.{window-inside}
 use borrow.Author.Needs.{needs}
 use Rattle.lock.proofs.Record.request.Statement.{statement}
 use Rattle.lock.proofs.Record.request.Tie as tie
@@ -129,7 +129,7 @@ requested-requires c κs =
     let ce = c .before .before .before .before .cover .ensures in
     let k = cover-inside (s .levels) (a .call .a) (a .call .b) (v .levels-some) (v .levels-most) cr ce (c .before .before .if3 .left) in (
       v,
-      inside-window (s .levels) (a .call .a) (a .call .b) (omega (arith, v .levels-some)) (v .levels-most) k,
+      window-inside (s .levels) (a .call .a) (a .call .b) (omega (arith, v .levels-some)) (v .levels-most) k,
       cover-first (s .levels) (a .call .a) (a .call .b) (v .levels-some) (v .levels-most) cr ce (c .before .before .if3 .left),
       cover-second (s .levels) (a .call .a) (a .call .b) (v .levels-some) (v .levels-most) cr ce (c .before .before .if3 .left),
     )
