@@ -127,25 +127,12 @@ fn wrong_at(bytes: &[u8], at: usize) -> bool
     ensures { λ r. ⌜ r ≡ wrongAt (now (bytes .entry)) at ⌝ }
 {
     let kind = u8_at(bytes, at);
-    if 3 < kind {
-        return true;
-    }
-    if u8_at(bytes, at + 1) != 0 {
-        return true;
-    }
-    if u32_at(bytes, at + 4) != 0 {
-        return true;
-    }
-    if kind == 0 {
-        return false;
-    }
-    if u64_at(bytes, at + 16) != 0 {
-        return true;
-    }
-    if kind == 1 {
-        return false;
-    }
-    u64_at(bytes, at + 8) != 0
+    let a = u64_at(bytes, at + 8);
+    let b = u64_at(bytes, at + 16);
+    (3 < kind)
+        | (u8_at(bytes, at + 1) != 0)
+        | (u32_at(bytes, at + 4) != 0)
+        | ((kind != 0) & ((b != 0) | ((kind != 1) & (a != 0))))
 }
 
 pub fn call_wrong(bytes: &[u8], k: usize) -> bool
@@ -207,10 +194,7 @@ fn file_too_large(bytes: &[u8]) -> bool
     requires { ⌜ 16 ≤ length (now bytes) ⌝ }
     ensures { λ r. ⌜ r ≡ tooLarge (now (bytes .entry)) ⌝ }
 {
-    if 6 < u16_at(bytes, 0) {
-        return true;
-    }
-    64 < clients_in(bytes)
+    (6 < u16_at(bytes, 0)) | (64 < clients_in(bytes))
 }
 
 // The number by which a file is refused, 0 if it is not: the whole file is looked at before anything is run.

@@ -1,15 +1,14 @@
 -- A call as the code reads it, and the laws by which the reading and the tests of the calls are proved. Assumes nothing.
-use mathlib.Core.Path.{_≡_, refl, sym, _∙_, ap, subst}
-use mathlib.Core.Bool.{Bool, true, false, not, _||_}
+use mathlib.Core.Path.{_≡_, refl, sym, _∙_, subst}
+use mathlib.Core.Bool.{Bool, true, false, _&&_, _||_}
 use mathlib.Core.List.{List}
 use Prim.Native.Nat.{ℕ, zero, suc, _+_, _*_, _≤_, _<_}
 use native.Mathlib.Numerals.{add-one}
 use native.Mathlib.Omega.{arith}
-use borrow.Author.Tests.{lt-ltb, le-ltb, eq-eqb, ne-eqb}
 use lib.Dec.{eqb, ltb}
 use lib.ListN.{length, getD}
 use Rattle.base.specs.rules.Choice.{choose}
-use Rattle.base.specs.laws.ChoiceLaws.{choose-eq, choose-ne, by-lt}
+use Rattle.base.specs.laws.ChoiceLaws.{choose-unless, by-lt}
 use Rattle.lock.specs.declared.Call.{Call as CallStruct}
 use Rattle.lock.specs.rules.Unreadable.{differ}
 use Rattle.base.specs.laws.TestLaws.{true-first, true-later, next-test}
@@ -68,64 +67,25 @@ module _ (bytes : List ℕ) (k : ℕ) where
 
 -- ---- the tests of a call
 
--- over the bytes from `at` on: those that go by the kind, and all of them
-abbrev pub wrongByKind : List ℕ → ℕ → Bool
-wrongByKind bytes at =
-    choose (eqb (getD bytes at 0) 0) false (differ (little 8 bytes (at + 16)) 0
-    || choose (eqb (getD bytes at 0) 1) false (differ (little 8 bytes (at + 8)) 0))
-
+-- over the bytes from `at` on
 unfoldable pub wrongAt : List ℕ → ℕ → Bool
 wrongAt bytes at =
-    ltb 3 (getD bytes at 0) || (differ (getD bytes (at + 1) 0) 0 || (differ (little 4 bytes (at + 4)) 0 || wrongByKind bytes at))
+    ltb 3 (getD bytes at 0) || differ (getD bytes (at + 1) 0) 0 || differ (little 4 bytes (at + 4)) 0
+    || choose (eqb (getD bytes at 0) 0) false (differ (little 8 bytes (at + 16)) 0 || choose (eqb (getD bytes at 0) 1) false (differ (little 8 bytes (at + 8)) 0))
 
 pub wrong-at-place : (bytes : List ℕ) (k at : ℕ) → at ≡ placeOf bytes k → wrongAt bytes at ≡ callWrong bytes k
 unfolding wrongAt callWrong kindIn bIn aIn
 wrong-at-place bytes k at e = rw e
 
-module _ (bytes : List ℕ) (at kind : ℕ) (ek : kind ≡ getD bytes at 0) where
-  pub unknown-kind : 3 < kind → true ≡ wrongAt bytes at
-  unfolding wrongAt
-  unknown-kind h = true-first _ _ (lt-ltb _ _ (subst (λ (n : ℕ). 3 < n) ek h))
-
-  module _ (known : kind ≤ 3) (one : ℕ) (e1 : one ≡ getD bytes (at + 1) 0) where
-    kind-passes : ltb 3 (getD bytes at 0) ≡ false
-    kind-passes = le-ltb 3 _ (subst (λ (n : ℕ). n ≤ 3) ek known)
-
-    pub first-filled : (one ≡ 0 → ⊥) → true ≡ wrongAt bytes at
-    unfolding wrongAt
-    first-filled h = next-test _ _ _ kind-passes (true-first _ _ (ap not (ne-eqb _ 0 (λ z. h (e1 ∙ z)))))
-
-    module _ (z1 : one ≡ 0) (four : ℕ) (e4 : four ≡ little 4 bytes (at + 4)) where
-      first-passes : differ (getD bytes (at + 1) 0) 0 ≡ false
-      first-passes = ap not (eq-eqb _ 0 (sym e1 ∙ z1))
-
-      pub second-filled : (four ≡ 0 → ⊥) → true ≡ wrongAt bytes at
-      unfolding wrongAt
-      second-filled h = next-test _ _ _ kind-passes (next-test _ _ _ first-passes (true-first _ _ (ap not (ne-eqb _ 0 (λ z. h (e4 ∙ z))))))
-
-      module _ (z4 : four ≡ 0) where
-        -- what is left is the test by the kind
-        by-kind : (x : Bool) → x ≡ wrongByKind bytes at → x ≡ wrongAt bytes at
-        unfolding wrongAt
-        by-kind x h = next-test _ _ _ kind-passes (next-test _ _ _ first-passes (next-test _ _ _ (ap not (eq-eqb _ 0 (sym e4 ∙ z4))) h))
-
-        pub request-right : kind ≡ 0 → false ≡ wrongAt bytes at
-        request-right h = by-kind _ (sym (choose-eq _ 0 _ _ (sym ek ∙ h)))
-
-        module _ (other : kind ≡ 0 → ⊥) (b : ℕ) (eb : b ≡ little 8 bytes (at + 16)) where
-          pub b-filled : (b ≡ 0 → ⊥) → true ≡ wrongAt bytes at
-          b-filled h = by-kind _ (true-first _ _ (ap not (ne-eqb _ 0 (λ z. h (eb ∙ z)))) ∙ sym (choose-ne _ 0 _ _ (λ z. other (ek ∙ z))))
-
-          module _ (zb : b ≡ 0) where
-            by-clock : (x : Bool) → x ≡ choose (eqb (getD bytes at 0) 1) false (differ (little 8 bytes (at + 8)) 0) → x ≡ wrongAt bytes at
-            by-clock x h =
-                by-kind _ (next-test _ _ _ (ap not (eq-eqb _ 0 (sym eb ∙ zb))) h ∙ sym (choose-ne _ 0 _ _ (λ z. other (ek ∙ z))))
-
-            pub step-right : kind ≡ 1 → false ≡ wrongAt bytes at
-            step-right h = by-clock _ (sym (choose-eq _ 1 _ _ (sym ek ∙ h)))
-
-            pub a-tested : (kind ≡ 1 → ⊥) → (a : ℕ) → a ≡ little 8 bytes (at + 8) → differ a 0 ≡ wrongAt bytes at
-            a-tested h a ea = by-clock _ (ap (λ (n : ℕ). differ n 0) ea ∙ sym (choose-ne _ 1 _ _ (λ z. h (ek ∙ z))))
+-- as the code asks it, of the numbers that it reads
+pub wrong-tested : (bytes : List ℕ) (at kind one four a b : ℕ) → kind ≡ getD bytes at 0 → one ≡ getD bytes (at + 1) 0 → four ≡ little 4 bytes (at + 4)
+    → a ≡ little 8 bytes (at + 8) → b ≡ little 8 bytes (at + 16)
+    → (ltb 3 kind || differ one 0 || differ four 0 || (differ kind 0 && (differ b 0 || (differ kind 1 && differ a 0)))) ≡ wrongAt bytes at
+unfolding wrongAt
+wrong-tested bytes at kind one four a b ek e1 e4 ea eb =
+    (λ i. ltb 3 kind || differ one 0 || differ four 0 || (differ kind 0 && (differ b 0 || choose-unless (eqb kind 1) (differ a 0) i)))
+    ∙ (λ i. ltb 3 kind || differ one 0 || differ four 0 || choose-unless (eqb kind 0) (differ b 0 || choose (eqb kind 1) false (differ a 0)) i)
+    ∙ (λ i. ltb 3 (ek i) || differ (e1 i) 0 || differ (e4 i) 0 || choose (eqb (ek i) 0) false (differ (eb i) 0 || choose (eqb (ek i) 1) false (differ (ea i) 0)))
 
 -- ---- all calls
 

@@ -1,5 +1,5 @@
 -- What is known of a file that is not refused, and the laws by which the file is tested. Assumes nothing.
-use mathlib.Core.Path.{_≡_, refl, ap, subst}
+use mathlib.Core.Path.{_≡_, refl, subst}
 use mathlib.Core.Bool.{Bool, true, false, _||_}
 use mathlib.Core.List.{List, [], _∷_}
 use Prim.Native.Nat.{ℕ, suc, _≤_, _<_}
@@ -53,14 +53,9 @@ module _ (bytes : List ℕ) where
         pub calls-tested : end ≤ length bytes → (x : Bool) → x ≡ anyWrong bytes (countIn bytes) → x ≡ malformed bytes
         calls-tested h x e = from-end _ (next-test _ _ _ (le-ltb _ _ (subst (λ (n : ℕ). n ≤ length bytes) ee h)) e)
 
-  module _ (levels : ℕ) (el : levels ≡ little 2 bytes 0) where
-    pub levels-large : 6 < levels → true ≡ tooLarge bytes
-    unfolding tooLarge settingsIn
-    levels-large h = true-first _ _ (lt-ltb _ _ (subst (λ (n : ℕ). 6 < n) el h))
-
-    pub clients-tested : levels ≤ 6 → (clients : ℕ) → clients ≡ clientsIn bytes → ltb 64 clients ≡ tooLarge bytes
-    unfolding tooLarge settingsIn
-    clients-tested h clients e = next-test _ _ _ (le-ltb _ _ (subst (λ (n : ℕ). n ≤ 6) el h)) (ap (ltb 64) e)
+  pub large-tested : (levels clients : ℕ) → levels ≡ little 2 bytes 0 → clients ≡ clientsIn bytes → (ltb 6 levels || ltb 64 clients) ≡ tooLarge bytes
+  unfolding tooLarge settingsIn
+  large-tested levels clients e f = λ i. ltb 6 (e i) || ltb 64 (f i)
 
 -- ---- 10 before 11
 

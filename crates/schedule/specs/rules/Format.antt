@@ -64,8 +64,8 @@ callsIn bytes = callsFrom bytes 0 (countIn bytes)
 
 unfoldable pub callWrong : List ℕ → ℕ → Bool
 callWrong bytes k =
-    ltb 3 (kindIn bytes k) || (differ (getD bytes (placeOf bytes k + 1) 0) 0 || (differ (little 4 bytes (placeOf bytes k + 4)) 0
-    || choose (eqb (kindIn bytes k) 0) false (differ (bIn bytes k) 0 || choose (eqb (kindIn bytes k) 1) false (differ (aIn bytes k) 0))))
+    ltb 3 (kindIn bytes k) || differ (getD bytes (placeOf bytes k + 1) 0) 0 || differ (little 4 bytes (placeOf bytes k + 4)) 0
+    || choose (eqb (kindIn bytes k) 0) false (differ (bIn bytes k) 0 || choose (eqb (kindIn bytes k) 1) false (differ (aIn bytes k) 0))
 
 -- one of the calls below n is
 unfoldable pub anyWrong : List ℕ → ℕ → Bool
