@@ -20,12 +20,6 @@ pub struct Acted {
     pub shelf: Shelf,
 }
 
-// What an opening of the shelf gives: its number (0 accepted), and the shelf after it.
-pub struct Opened {
-    pub number: u64,
-    pub shelf: Shelf,
-}
-
 // How far a run of a schedule has come: the shelf, how many clients it has, the last clock, and where the log's text ends.
 pub struct Run {
     pub shelf: Shelf,

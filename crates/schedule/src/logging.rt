@@ -1,12 +1,13 @@
-// The log of a schedule: the file is examined, the table opened, each call made, and its line written.
+// The log of a schedule: the file is examined, its opening too, each call made, and its line written.
 ghost use mathlib.Core.Path.{_≡_};
 ghost use mathlib.Core.List.{_++_};
 ghost use Prim.Native.Nat.{suc, _+_, _≤_, _<_};
 ghost use lib.ListN.{length, take, replicate};
 ghost use Rattle.io.specs.Counts.{Counts};
 ghost use Rattle.tree.specs.rules.Tree.{wordCount};
+ghost use Rattle.lock.specs.rules.Table as Table;
 ghost use Rattle.schedule.specs.rules.Format.{settingsIn, clientsIn, countIn, placeOf, callIn, callsIn};
-ghost use Rattle.schedule.specs.rules.Log.{room, headerLine, lines, logOfCalls, Logged};
+ghost use Rattle.schedule.specs.rules.Log.{room, headerLine, lines, lentFor, logOfCalls, Logged};
 ghost use Rattle.schedule.specs.laws.Appended.{Appended};
 ghost use Rattle.schedule.specs.laws.WellFormed.{WellFormed};
 ghost use Rattle.schedule.specs.laws.Running.{stateOf, Made};
@@ -15,6 +16,7 @@ use crate::format;
 use crate::front;
 use crate::text;
 use lock::Settings;
+use table::opening_cause;
 
 // Makes call k of the file, and writes its line.
 fn one_call(
@@ -88,23 +90,32 @@ fn zero_words() -> [u64; 1365]
     [0; 1365]
 }
 
-// Opens the table and makes the calls, or writes by which number the opening is refused.
+// The number of a schedule's opening (0 accepted). What is lent to it is fresh, words of 0 and idle records, and that is also what it leaves: only the number is to
+// be found.
+fn opening_number(settings: Settings, clients: usize) -> u64
+    requires { ⌜ settings .levels ≤ 6 ⌝ }
+    ensures { λ n. ⌜ n ≡ Table.opening settings (lentFor settings clients) .number ⌝ }
+{
+    let count = word_count(settings.levels);
+    opening_cause(settings, count, clients)
+}
+
+// Makes the calls on a fresh table, or writes by which number its opening is refused.
 fn run_file(bytes: &[u8], out: &mut [u8]) -> usize
     requires { ⌜ WellFormed (now bytes) × (room ≤ length (now out)) ⌝ }
     ensures { λ r. ⌜ (take r (now (out .exit)) ≡ logOfCalls (settingsIn (now (bytes .entry))) (clientsIn (now (bytes .entry))) (callsIn (now (bytes .entry)))) × (r ≤ length (now (out .exit))) ⌝ }
 {
     let settings = format::settings_in(bytes);
     let clients = format::clients_in(bytes);
+    let number = opening_number(settings, clients);
+    if number != 0 {
+        return text::put_refused(out, 0, number);
+    }
     let count = word_count(settings.levels);
     let mut words = zero_words();
     let tree: &mut [u64] = &mut words[..count];
-    let opened = front::open_front(front::empty_shelf(), clients, tree, settings);
-    if opened.number != 0 {
-        return text::put_refused(out, 0, opened.number);
-    }
-    let shelf = opened.shelf;
     let run = Run {
-        shelf: shelf,
+        shelf: front::empty_shelf(),
         clients: clients,
         clock: 0,
         end: 0,

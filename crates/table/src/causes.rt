@@ -1,11 +1,12 @@
 // The tests that stand before a client's own: causes 1 to 4.
 ghost use mathlib.Core.Path.{_≡_};
-ghost use Rattle.table.specs.laws.Causes.{openingCause, tableCause};
+ghost use Rattle.lock.specs.rules.Table.{openingNumber};
+ghost use Rattle.table.specs.laws.Causes.{tableCause};
 use lock::Settings;
 
 // Causes 1 to 3: settings outside their ranges, a word count that is not the tree's, "no clients, or over 32,767".
 pub fn opening_cause(settings: Settings, words: usize, records: usize) -> u64
-    ensures { λ n. ⌜ n ≡ openingCause settings words records ⌝ }
+    ensures { λ n. ⌜ n ≡ openingNumber settings words records ⌝ }
 {
     let cause = settings.tree_cause(words as u64);
     if cause != 0 {

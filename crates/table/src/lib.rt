@@ -11,6 +11,8 @@ mod causes;
 mod kinds;
 mod zeroes;
 
+pub use causes::opening_cause;
+
 // What a call over the table answers: its number (0 accepted) and the clock after it.
 #[repr(C)]
 pub struct Answer {

@@ -24,7 +24,7 @@ use Rattle.cover.specs.laws.Overlap.{overlap}
 use Rattle.lock.specs.declared.Record.{Record}
 use Rattle.lock.specs.declared.Settings.{Settings}
 use Rattle.lock.specs.rules.Records.{pieces, pieceAt, wordAt}
-use Rattle.lock.specs.rules.Table.{State, Call, recordAt, openingNumber, opened, opening}
+use Rattle.lock.specs.rules.Table.{State, Call, recordAt, opened, opening}
 use Rattle.lock.specs.rules.History.{run, CleanInner, Clean, Demand3}
 use Rattle.lock.specs.claim.HistoryRecord.{holds-record, all-idle}
 use Rattle.lock.specs.claim.Owned.{owns, ownsUnit, ownsNotice}
@@ -190,7 +190,7 @@ idle-opened st c = ap (λ x. x .phase) (getD-fresh (length (st .records)) c nobo
 pub demand-3 : (s : Settings) (lent : State) → opening s lent .number ≡ 0 → (ks : List Call) → Demand3 s (opening s lent .state) ks
 unfolding opening
 demand-3 s lent e ks =
-    subst (λ st. Demand3 s st ks) (sym (choose-eq (openingNumber s lent) 0 (opened lent) lent e))
+    subst (λ st. Demand3 s st ks) (sym (choose-eq (opening s lent .number) 0 (opened lent) lent e))
     (let st = opened lent in
     let after = run-keeps s st (opened-invariant s lent e) ks in (
       λ c d l r k q n x y o.

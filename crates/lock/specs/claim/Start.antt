@@ -49,7 +49,7 @@ module _ (s : Settings) where
     checks = λ i j k l a b _ _ _. absurd (omega (arith, idle-stage 0 j));
   }
 
-  pub opened-invariant : (st : State) → openingNumber s st ≡ 0 → Invariant s (opened st)
+  pub opened-invariant : (st : State) → openingNumber s (length (st .words)) (length (st .records)) ≡ 0 → Invariant s (opened st)
   unfolding opened recordAt
   opened-invariant st e =
       let a = opened-accepted s st e in

@@ -1,7 +1,7 @@
 -- Laws: what an accepted call and an accepted opening have passed, test by test. Assumes nothing.
 use mathlib.Core.Path.{_≡_, refl}
 use mathlib.Core.Bool.{Bool, true, false, _||_}
-use mathlib.Core.List.{List, [], _∷_, _++_}
+use mathlib.Core.List.{[], _∷_, _++_}
 use Prim.Native.Nat.{ℕ, _≤_, _<_}
 use native.Mathlib.Omega.{arith}
 use borrow.Author.Tests.{ltb-false, leb-false, eqb-true, eqb-false, not-false}
@@ -40,9 +40,9 @@ tree-tested s count ts e =
     let b = test-passed (differ count (wordCount (s .levels))) 2 ts (omega arith) (a .1) in
     (settled s (a .0), same-number count (wordCount (s .levels)) (b .0), b .1)
 
-few-clients : (records : List Record) → clientsOutside records ≡ false → length records ≤ 32767
+few-clients : (count : ℕ) → clientsOutside count ≡ false → count ≤ 32767
 unfolding clientsOutside
-few-clients records e = ltb-false 32767 (length records) (both-false (eqb (length records) 0) (ltb 32767 (length records)) e .1)
+few-clients count e = ltb-false 32767 count (both-false (eqb count 0) (ltb 32767 count) e .1)
 
 pub record Tested (s : Settings) (st : State) (k : Call) : Type 0 where
   pub settled : Settled s
@@ -56,22 +56,22 @@ unfolding numberOf clientTests
 accepted s st k e =
     let rest = ownTests s st k in
     let a = tree-tested s (length (st .words)) (clientTests (st .records) (clientOf k) ++ rest) e in
-    let b = test-passed (clientsOutside (st .records)) 3 ((leb (length (st .records)) (clientOf k), 4) ∷ rest) (omega arith) (a .2) in
+    let b = test-passed (clientsOutside (length (st .records))) 3 ((leb (length (st .records)) (clientOf k), 4) ∷ rest) (omega arith) (a .2) in
     let c = test-passed (leb (length (st .records)) (clientOf k)) 4 rest (omega arith) (b .1) in
     record {
       settled = a .0;
       count = a .1;
-      few = few-clients (st .records) (b .0);
+      few = few-clients (length (st .records)) (b .0);
       client = leb-false (length (st .records)) (clientOf k) (c .0);
       own = c .1;
     }
 
-pub opened-accepted : (s : Settings) (st : State) → openingNumber s st ≡ 0
+pub opened-accepted : (s : Settings) (st : State) → openingNumber s (length (st .words)) (length (st .records)) ≡ 0
     → Settled s × (length (st .words) ≡ wordCount (s .levels)) × (length (st .records) ≤ 32767)
 unfolding openingNumber
 opened-accepted s st e =
-    let a = tree-tested s (length (st .words)) ((clientsOutside (st .records), 3) ∷ []) e in
-    (a .0, a .1, few-clients (st .records) (test-passed (clientsOutside (st .records)) 3 [] (omega arith) (a .2) .0))
+    let a = tree-tested s (length (st .words)) ((clientsOutside (length (st .records)), 3) ∷ []) e in
+    (a .0, a .1, few-clients (length (st .records)) (test-passed (clientsOutside (length (st .records))) 3 [] (omega arith) (a .2) .0))
 
 -- ---- 5 to 9, by the kind of call
 

@@ -62,12 +62,15 @@ after s st (cancel c) = record { words = st .words; records = set (st .records) 
 unfoldable pub call : Settings → State → Call → Out
 call s st k = record { number = numberOf s st k; state = choose (eqb (numberOf s st k) 0) (after s st k) st }
 
--- "Opening tests 1 to 3, then zeroes words, records and clock."
-unfoldable pub openingNumber : Settings → State → ℕ
-openingNumber s st = firstCause (treeTests s (length (st .words)) ++ ((clientsOutside (st .records), 3) ∷ []))
+-- "Opening tests 1 to 3, then zeroes words, records and clock." The tests ask only how many words and how many records are lent
+unfoldable pub openingNumber : Settings → ℕ → ℕ → ℕ
+openingNumber s words records = firstCause (treeTests s words ++ ((clientsOutside records, 3) ∷ []))
 
 unfoldable pub opened : State → State
 opened st = record { words = replicate (length (st .words)) 0; records = replicate (length (st .records)) (idleWith 0); clock = 0 }
 
 unfoldable pub opening : Settings → State → Out
-opening s st = record { number = openingNumber s st; state = choose (eqb (openingNumber s st) 0) (opened st) st }
+opening s st = record {
+  number = openingNumber s (length (st .words)) (length (st .records));
+  state = choose (eqb (openingNumber s (length (st .words)) (length (st .records))) 0) (opened st) st;
+}

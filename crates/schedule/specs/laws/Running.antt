@@ -1,5 +1,5 @@
 -- Laws: one call of a schedule after another, and the lines that they add to the log. Assumes nothing.
-use mathlib.Core.Path.{_≡_, refl, sym, ap, subst, _∙_}
+use mathlib.Core.Path.{_≡_, refl, sym, ap, ap₂, subst, _∙_}
 use mathlib.Core.List.{List, _++_, append-assoc, append-nil}
 use Prim.Native.Nat.{ℕ, suc, _+_, _-_, _*_, _≤_, _<_}
 use native.Mathlib.Omega.{arith}
@@ -13,9 +13,9 @@ use Rattle.tree.specs.rules.Tree.{wordCount}
 use Rattle.lock.specs.declared.Record.{Record}
 use Rattle.lock.specs.declared.Settings.{Settings}
 use Rattle.lock.specs.rules.Records.{idleWith}
-use Rattle.lock.specs.rules.Table.{State, Call, clientOf, recordAt, call, openingNumber, opened, opening}
+use Rattle.lock.specs.rules.Table.{State, Call, clientOf, recordAt, Out, call, openingNumber, opened, opening}
 use Rattle.table.specs.declared.Answer.{Answer}
-use Rattle.table.specs.rules.Lent.{lent, answer}
+use Rattle.table.specs.rules.Lent.{lent, result}
 use Rattle.schedule.specs.declared.Run.{Run}
 use Rattle.schedule.specs.rules.Format.{settingsIn, clientsIn, countIn, placeOf, callIn, callsFrom, callsIn, fileCause}
 use Rattle.schedule.specs.rules.Log.{headerLine, line, lines, refusedLine, lentFor, logOfCalls, logOf, room, Logged}
@@ -43,17 +43,17 @@ no-record l clients client b = sym (getD-past (take clients l) client (idleWith 
 -- ---- one call
 
 pub made-one : (s : Settings) (st : State) (k : ℕ) (c : Call) (old new : List ℕ) (at end : ℕ) (d : Call) (asked : State) (a : Answer) (records : List Record) (words : List ℕ) (r : Record)
-    → d ≡ c → asked ≡ st → a ≡ answer (call s asked d) → records ≡ call s asked d .state .records → words ≡ call s asked d .state .words
+    → d ≡ c → asked ≡ st → result (a .number) records words (a .clock) ≡ call s asked d
     → r ≡ getD records (clientOf c) (idleWith 0)
     → ((x : Record) → x .phase ≡ r .phase → x .left ≡ r .left → x .right ≡ r .right → Appended old at new end (line k d (a .number) x))
     → Made s st k c old new at end (lent records words (a .clock))
 unfolding recordAt
-made-one s st k c old new at end d asked a records words r e f g h i j t =
+made-one s st k c old new at end d asked a records words r e f g j t =
+    let out : result (a .number) records words (a .clock) ≡ call s st c = g ∙ ap₂ (call s) f e in
     let next : lent records words (a .clock) ≡ call s st c .state
-    = (λ p. record { words = i p; records = h p; clock = g p .clock }) ∙ subst (λ (y : State). call s y d .state ≡ call s st c .state) (sym f) (ap (λ (z : Call). call s st z .state) e) in
+    = ap (λ (o : Out). o .state) out in
     let seen : r ≡ recordAt (call s st c .state) (clientOf c) = j ∙ ap (λ (y : State). getD (y .records) (clientOf c) (idleWith 0)) next in
-    let number : a .number ≡ call s st c .number
-    = ap (λ (y : Answer). y .number) g ∙ subst (λ (y : State). call s y d .number ≡ call s st c .number) (sym f) (ap (λ (z : Call). call s st z .number) e) in
+    let number : a .number ≡ call s st c .number = ap (λ (o : Out). o .number) out in
     record {
       state = next;
       text = subst (λ (n : ℕ). Appended old at new end (line k c n (recordAt (call s st c .state) (clientOf c)))) number
@@ -112,22 +112,33 @@ pub few-calls : (bytes : List ℕ) → WellFormed bytes → countIn bytes ≤ 27
 unfolding placeOf
 few-calls bytes w = omega (arith, w .inside, w .offset, w .short)
 
+-- ---- the opening: a fresh table is lent to it, and that is also what it leaves, accepted or refused
+
+pub opening-number : (s : Settings) (clients words n : ℕ) → words ≡ wordCount (s .levels) → n ≡ openingNumber s words clients → n ≡ opening s (lentFor s clients) .number
+unfolding opening lentFor
+opening-number s clients words n e f =
+    f ∙ ap (λ (w : ℕ). openingNumber s w clients) (e ∙ sym (length-replicate (wordCount (s .levels)) 0))
+    ∙ ap (openingNumber s (length (lentFor s clients .words))) (sym (length-replicate clients (idleWith 0)))
+
+pub opening-fresh : (s : Settings) (clients : ℕ) → opening s (lentFor s clients) .state ≡ lentFor s clients
+unfolding opening opened lentFor
+opening-fresh s clients =
+    let left : opened (lentFor s clients) ≡ lentFor s clients
+    = ap₂ (λ (records words : ℕ). lent (replicate records (idleWith 0)) (replicate words 0) 0) (length-replicate clients (idleWith 0)) (length-replicate (wordCount (s .levels)) 0) in
+    on-choose (λ (st : State). st ≡ lentFor s clients) (eqb (opening s (lentFor s clients) .number) 0) _ _ (λ _. left) (λ _. refl)
+
 -- ---- the log of a file
 
-module _ (s : Settings) (clients : ℕ) (calls : List Call) (asked : State) (e : asked ≡ lentFor s clients) where
-  pub log-refused : (n : ℕ) → n ≡ opening s asked .number → (n ≡ 0 → ⊥) → (old out : List ℕ) (end : ℕ) → Appended old 0 out end (refusedLine n)
-      → take end out ≡ logOfCalls s clients calls
+module _ (s : Settings) (clients : ℕ) (calls : List Call) (n : ℕ) (f : n ≡ opening s (lentFor s clients) .number) where
+  pub log-refused : (n ≡ 0 → ⊥) → (old out : List ℕ) (end : ℕ) → Appended old 0 out end (refusedLine n) → take end out ≡ logOfCalls s clients calls
   unfolding logOfCalls
-  log-refused n f d old out end a =
-      let number : n ≡ opening s (lentFor s clients) .number = f ∙ ap (λ (st : State). opening s st .number) e in
-      a .text ∙ ap refusedLine number ∙ sym (choose-ne (opening s (lentFor s clients) .number) 0 _ _ (λ z. d (number ∙ z)))
+  log-refused d old out end a = a .text ∙ ap refusedLine f ∙ sym (choose-ne (opening s (lentFor s clients) .number) 0 _ _ (λ z. d (f ∙ z)))
 
-  pub log-run : (n : ℕ) → n ≡ opening s asked .number → n ≡ 0 → (st : State) → st ≡ opening s asked .state → (text : List ℕ) → text ≡ headerLine s clients ++ lines s st 0 calls
-      → text ≡ logOfCalls s clients calls
+  pub log-run : n ≡ 0 → (st : State) → st ≡ lentFor s clients → (text : List ℕ) → text ≡ headerLine s clients ++ lines s st 0 calls → text ≡ logOfCalls s clients calls
   unfolding logOfCalls
-  log-run n f z st g text t =
-      t ∙ ap (λ (y : State). headerLine s clients ++ lines s y 0 calls) (g ∙ ap (λ (y : State). opening s y .state) e)
-      ∙ sym (choose-eq (opening s (lentFor s clients) .number) 0 _ _ (sym (ap (λ (st : State). opening s st .number) e) ∙ sym f ∙ z))
+  log-run z st g text t =
+      t ∙ ap (λ (y : State). headerLine s clients ++ lines s y 0 calls) (g ∙ sym (opening-fresh s clients))
+      ∙ sym (choose-eq (opening s (lentFor s clients) .number) 0 _ _ (sym f ∙ z))
 
 -- what is lent to the opening is of the tree's size
 pub lent-for : (s : Settings) (clients : ℕ) (records : List Record) (words : List ℕ) → records ≡ replicate 64 (idleWith 0) → clients ≤ 64 → words ≡ replicate (wordCount (s .levels)) 0
@@ -142,14 +153,6 @@ tree-words l n e b = ap (take n) e ∙ take-replicate n 1365 0 b
 
 pub tree-length : (l : List ℕ) (n : ℕ) → l ≡ replicate 1365 0 → n ≤ 1365 → n ≡ length (take n l)
 tree-length l n e b = sym (ap length (tree-words l n e b) ∙ length-replicate n 0)
-
--- the table that an opening leaves, whose clock is 0
-pub opened-state : (s : Settings) (asked : State) (records : List Record) (words : List ℕ) → asked .clock ≡ 0 → records ≡ opening s asked .state .records
-    → words ≡ opening s asked .state .words → lent records words 0 ≡ opening s asked .state
-unfolding opening opened
-opened-state s asked records words z e f =
-    let clock : 0 ≡ opening s asked .state .clock = on-choose (λ (st : State). 0 ≡ st .clock) (eqb (openingNumber s asked) 0) (opened asked) asked (λ _. refl) (λ _. sym z) in
-    λ i. record { words = f i; records = e i; clock = clock i }
 
 -- ---- the three ways through a file
 

@@ -63,7 +63,6 @@ use Rattle.lock.proofs.Record.idle_with.Symbol as idle-with-def
 use Rattle.lock.proofs.Record.idle_with.Symbol.{name as #idle-with}
 use Rattle.lock.proofs.Record.idle_with.Met as idle-with-thm
 use Rattle.table.specs.rules.Lent.{lent, result}
-use Rattle.table.specs.laws.Causes.{openingCause}
 use Rattle.table.specs.laws.OpeningLaws.{opening-refuses, opening-takes}
 use Rattle.table.proofs.Filled.{filled, filled-length, filled-none, filled-next, filled-all}
 use Rattle.table.proofs.Thin.{bytes}
@@ -110,10 +109,10 @@ blanks-length ys = ap length (sym (filled-all (idleWith 0) ys)) ∙ filled-lengt
 abbrev Said : List Record → List ℕ → Settings → ℕ → List Record → List ℕ → Type 0
 Said ys ws st n zs vs = result n zs vs 0 ≡ Table.opening st (lent ys ws 0)
 
-refused : (ys : List Record) (ws : List ℕ) (st : Settings) (e : ℕ) → e ≡ openingCause st (length ws) (length ys) → T (ltb 0 e) → Said ys ws st e ys ws
+refused : (ys : List Record) (ws : List ℕ) (st : Settings) (e : ℕ) → e ≡ Table.openingNumber st (length ws) (length ys) → T (ltb 0 e) → Said ys ws st e ys ws
 refused ys ws st e ge h = opening-refuses st ys ws 0 e ge (some-found e h)
 
-taken : (ys : List Record) (ws : List ℕ) (st : Settings) (e : ℕ) → e ≡ openingCause st (length ws) (length ys) → T (not (ltb 0 e))
+taken : (ys : List Record) (ws : List ℕ) (st : Settings) (e : ℕ) → e ≡ Table.openingNumber st (length ws) (length ys) → T (not (ltb 0 e))
     → Said ys ws st e (blanks ys) (zeros ws)
 taken ys ws st e ge h = opening-takes st ys ws 0 e ge (none-found e h)
 
@@ -196,8 +195,8 @@ module _ {M : Type 1} (𝓤 : URA M) (H : Heap 𝓤) (A : Atoms 𝓤) (W : Given
       owned ! RG (Is RG) ((LL.makes G.the-type G′.the-plain) 𝓤 H A) st _ gs $ fjoin ! $ nothing ! $ join ! $ nothing ! $ move ! (1 ∷ 0 ∷ []) $ done !
 
   cause-of : (e : ℕ)
-      → ent 𝓤 (ensured 𝓤 H A opening-cause.ended (opening-cause.clauses 𝓤 H A mem run) tt tested tt e) (fact 𝓤 (e ≡ openingCause st (length ws) (length ys)))
-  cause-of e = exE 𝓤 _ (λ vs. snd∗ 𝓤 (sem 𝓤 H A (lasts opening-cause.ended tt tested vs)) (fact 𝓤 (e ≡ openingCause st (length ws) (length ys))))
+      → ent 𝓤 (ensured 𝓤 H A opening-cause.ended (opening-cause.clauses 𝓤 H A mem run) tt tested tt e) (fact 𝓤 (e ≡ Table.openingNumber st (length ws) (length ys)))
+  cause-of e = exE 𝓤 _ (λ vs. snd∗ 𝓤 (sem 𝓤 H A (lasts opening-cause.ended tt tested vs)) (fact 𝓤 (e ≡ Table.openingNumber st (length ws) (length ys))))
 
   abbrev wanted : Idle 𝓤 H A mem run .Ghost
   wanted = ((tt, tt, tt, (0, tt), (vint w64 0 ∷ [], tt)), tt)
@@ -226,7 +225,7 @@ module _ {M : Type 1} (𝓤 : URA M) (H : Heap 𝓤) (A : Atoms 𝓤) (W : Given
   Nearer-wf = InvImage·wf (λ (i : Upto). n - i .0) (Nat·lt-wfRel .wf)
 
   module _ (𝓣 : Tables 𝓤 H) where
-    module _ (e : ℕ) (e-fits : e < 2 ^ 64) (ge : e ≡ openingCause st (length ws) (length ys)) (below : T (not (ltb 0 e))) (long′ : length (zeros ws) ≡ length ws) (l₀ l₁ l₂ l₃ l₄ l₅ l₆ l₇ l₈ l₉ l₁₀ l₁₁ l₁₂ l₁₃ l₁₄ l₁₅ : ℕ) where
+    module _ (e : ℕ) (e-fits : e < 2 ^ 64) (ge : e ≡ Table.openingNumber st (length ws) (length ys)) (below : T (not (ltb 0 e))) (long′ : length (zeros ws) ≡ length ws) (l₀ l₁ l₂ l₃ l₄ l₅ l₆ l₇ l₈ l₉ l₁₀ l₁₁ l₁₂ l₁₃ l₁₄ l₁₅ : ℕ) where
       -- the invariant: the open borrow, the row at `filled ys i`, the words' last list, and the locals
       abbrev At : Upto → List (Item 𝓤)
       At i = ‵ (row R fullShare (filled (idleWith 0) ys (i .0)) b o) ∷ ‵ (fobor κ q (Held R n b o (x .name))) ∷ ‵ (fobs (x .name) (codedHoleys R .code (heres R ys)))
@@ -292,8 +291,8 @@ module _ {M : Type 1} (𝓤 : URA M) (H : Heap 𝓤) (A : Atoms 𝓤) (W : Given
           calls-at ! fm (Cause 𝓤 H A mem run) sure asked (and-then ! (load ! (from ! (stop !)) (look ! 30 refl)) (and-then ! (load ! (from ! (stop !)) (look ! 22 refl)) (and-then ! (load ! (from ! (stop !)) (look ! 20 refl)) (no-more !)))) (λ v.
           use1 W (later (some (λ (e : ℕ). (‵ ftrue ⊛ ‵ (u64 .own e (v ∷ []))) ⊛ raw (ensured 𝓤 H A opening-cause.ended (opening-cause.clauses 𝓤 H A mem run) tt tested tt e)))) (id⊢ 𝓤 _) $
           await ! tt $ pick ! (λ e.
-          split ! $ move ! (1 ∷ []) $ use1 W (raw (fact 𝓤 (e ≡ openingCause st (length ws) (length ys)))) (cause-of e) $
-          heard ! (e ≡ openingCause st (length ws) (length ys)) (λ ge. split ! $ drop ! $
+          split ! $ move ! (1 ∷ []) $ use1 W (raw (fact 𝓤 (e ≡ Table.openingNumber st (length ws) (length ys)))) (cause-of e) $
+          heard ! (e ≡ Table.openingNumber st (length ws) (length ys)) (λ ge. split ! $ drop ! $
           peeks ! u64 (Is u64) (shows 𝓤 H A u64) e (v ∷ []) (λ ie. land ! (from ! (stop !)) (init ! 28 refl (uint-lawful 𝓤 H A W w64 .typed e _ ie .0)) $
           rewrite ! 28 (λ (z : Val). ‵ (fat fullShare word l₄ 0 z)) (ap only (ie .0)) refl $ drop ! $
           assigns ! (bin ! (lit ! tt) (load ! (from ! (stop !)) (look ! 27 refl)) tt) (from ! (stop !)) (init ! 17 refl (tt, tt)) $

@@ -5,13 +5,14 @@ use mathlib.Core.List.{[], _∷_, _++_}
 use Prim.Native.Nat.{ℕ, _<_, _≤_}
 use native.Mathlib.Omega.{arith}
 use borrow.Author.Tests.{eq-eqb, ne-eqb, lt-ltb, le-ltb}
-use lib.Dec.{T, eqb, leb, ltb, nleb→lt}
+use lib.Dec.{T, eqb, leb, nleb→lt}
 use Rattle.base.specs.rules.Choice.{choose}
 use Rattle.base.specs.laws.ChoiceLaws.{choose-le, choose-gt}
 use Rattle.lock.specs.declared.Settings.{Settings}
-use Rattle.lock.specs.rules.Calls.{Tests, firstCause, treeTests}
+use Rattle.lock.specs.rules.Calls.{Tests, firstCause, treeTests, clientsOutside}
+use Rattle.lock.specs.rules.Table.{openingNumber}
 use Rattle.lock.specs.laws.CallLaws.{TreeTested, tree-passed}
-use Rattle.table.specs.laws.Causes.{openingCause, tableCause}
+use Rattle.table.specs.laws.Causes.{tableCause}
 
 -- ---- a chain behind another
 
@@ -66,25 +67,25 @@ neither-true : (a b : Bool) → a ≡ false → b ≡ false → (a || b) ≡ fal
 neither-true a b e f = ap (λ (x : Bool). x || b) e ∙ f
 
 module _ (s : Settings) (words records n : ℕ) (t : TreeTested s words n) where
-  pub opening-tree : (n ≡ 0 → ⊥) → n ≡ openingCause s words records
-  unfolding openingCause
+  pub opening-tree : (n ≡ 0 → ⊥) → n ≡ openingNumber s words records
+  unfolding openingNumber
   opening-tree d = sym (t .refused d _)
 
   module _ (z : n ≡ 0) where
-    behind : (b : Bool) → b ≡ (eqb records 0 || ltb 32767 records) → openingCause s words records ≡ firstCause ((b, 3) ∷ [])
-    unfolding openingCause
+    behind : (b : Bool) → b ≡ clientsOutside records → openingNumber s words records ≡ firstCause ((b, 3) ∷ [])
+    unfolding openingNumber
     behind b e = tree-passed s words _ (t .settings z) (t .count-right z) ∙ ap (λ (x : Bool). firstCause ((x, 3) ∷ [])) (sym e)
 
-    pub opening-none : records ≡ 0 → 3 ≡ openingCause s words records
-    unfolding firstCause choose
+    pub opening-none : records ≡ 0 → 3 ≡ openingNumber s words records
+    unfolding firstCause clientsOutside choose
     opening-none e = sym (behind true (sym (either-true _ _ (eq-eqb records 0 e))))
 
-    pub opening-many : 32767 < records → 3 ≡ openingCause s words records
-    unfolding firstCause choose
+    pub opening-many : 32767 < records → 3 ≡ openingNumber s words records
+    unfolding firstCause clientsOutside choose
     opening-many e = sym (behind true (sym (second-true (eqb records 0) _ (lt-ltb 32767 records e))))
 
-    pub opening-passed : (records ≡ 0 → ⊥) → records ≤ 32767 → 0 ≡ openingCause s words records
-    unfolding firstCause choose
+    pub opening-passed : (records ≡ 0 → ⊥) → records ≤ 32767 → 0 ≡ openingNumber s words records
+    unfolding firstCause clientsOutside choose
     opening-passed d e = sym (behind false (sym (neither-true _ _ (ne-eqb records 0 d) (le-ltb 32767 records e))))
 
 -- ---- causes 1 to 4
@@ -92,24 +93,24 @@ module _ (s : Settings) (words records n : ℕ) (t : TreeTested s words n) where
 module _ (s : Settings) (words records client : ℕ) where
   -- the chain of 1 to 3, and the test of 4 behind it
   abbrev opening-tests : Tests
-  opening-tests = treeTests s words ++ ((eqb records 0 || ltb 32767 records, 3) ∷ [])
+  opening-tests = treeTests s words ++ ((clientsOutside records, 3) ∷ [])
 
   abbrev client-test : Tests
   client-test = (leb records client, 4) ∷ []
 
-  pub table-opening : (openingCause s words records ≡ 0 → ⊥) → openingCause s words records ≡ tableCause s words records client
-  unfolding openingCause tableCause treeTests
+  pub table-opening : (openingNumber s words records ≡ 0 → ⊥) → openingNumber s words records ≡ tableCause s words records client
+  unfolding openingNumber tableCause treeTests
   table-opening d = sym (first-hits opening-tests client-test d)
 
-  behind-opening : openingCause s words records ≡ 0 → tableCause s words records client ≡ firstCause client-test
-  unfolding openingCause tableCause treeTests
+  behind-opening : openingNumber s words records ≡ 0 → tableCause s words records client ≡ firstCause client-test
+  unfolding openingNumber tableCause treeTests
   behind-opening z = first-passes opening-tests client-test ((λ e. omega (arith, e)), ((λ e. omega (arith, e)), ((λ e. omega (arith, e)), tt))) z
 
-  pub table-client : openingCause s words records ≡ 0 → records ≤ client → 4 ≡ tableCause s words records client
+  pub table-client : openingNumber s words records ≡ 0 → records ≤ client → 4 ≡ tableCause s words records client
   unfolding firstCause
   table-client z h = sym (behind-opening z ∙ choose-le records client 4 0 h)
 
-  pub table-passed : openingCause s words records ≡ 0 → client < records → 0 ≡ tableCause s words records client
+  pub table-passed : openingNumber s words records ≡ 0 → client < records → 0 ≡ tableCause s words records client
   unfolding firstCause
   table-passed z h = sym (behind-opening z ∙ choose-gt records client 4 0 h)
 
@@ -118,8 +119,8 @@ module _ (s : Settings) (words records client : ℕ) where
   four-none true h = absurd (omega (arith, h))
   four-none false h = tt
 
-  opening-none-of : tableCause s words records client ≡ 0 → openingCause s words records ≡ 0
-  unfolding openingCause tableCause treeTests
+  opening-none-of : tableCause s words records client ≡ 0 → openingNumber s words records ≡ 0
+  unfolding openingNumber tableCause treeTests
   opening-none-of z = both-none opening-tests client-test z
 
   -- a client that passed

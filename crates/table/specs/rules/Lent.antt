@@ -6,15 +6,10 @@ use lib.Dec.{eqb}
 use Rattle.base.specs.rules.Choice.{choose}
 use Rattle.lock.specs.declared.Record.{Record}
 use Rattle.lock.specs.rules.Table.{State, Call, request, step, release, cancel, Out}
-use Rattle.table.specs.declared.Answer.{Answer}
 
 -- "The client table is lent as a list of records. The last clock, H, m and wait T .. travel beside it.": what a call is made on
 abbrev pub lent : List Record → List ℕ → ℕ → State
 lent records words last = record { words = words; records = records; clock = last }
-
--- what is returned of a call: its number, and the clock after it
-abbrev pub answer : Out → Answer
-answer out = record { number = out .number; clock = out .state .clock }
 
 -- what comes back of a call: its number, the clock after it, and the records and words that were lent
 abbrev pub result : ℕ → List Record → List ℕ → ℕ → Out

@@ -40,7 +40,7 @@ returns c =
     let x = c .before .before .before .before .before .before .before .before .before .before .before .before .call-in .result in
     let named = call-read _ _ _ x read in
     let whose = sym (client-of-kind (x .kind) (x .client) (x .a) (x .b)) ∙ ap clientOf named in (
-      made-one _ _ _ _ _ _ _ _ (callOf (x .kind) (x .client) (x .a) (x .b)) (lent (take (c .before .before .before .before .before .before .before .before .before .before .before .before .before .before .before .before .args .run .clients) (c .before .before .before .before .before .before .before .before .before .before .before .before .before .before .before .before .args .run .shelf .records)) (now (c .before .before .before .before .before .before .before .before .before .before .before .before .before .before .before .before .args .words)) (x .last)) (c .before .before .before .before .before .before .before .before .before .act-front .result .answer) (take (c .before .before .before .before .before .before .before .before .before .before .before .before .before .before .before .before .args .run .clients) (c .before .before .before .before .before .before .before .before .before .act-front .result .shelf .records)) (c .before .before .before .before .before .before .before .before .before .act-front .last .1 .1 .0) (c .before .before .before .before .record-of .result) named (ap (λ (l : ℕ). lent (take (c .before .before .before .before .before .before .before .before .before .before .before .before .before .before .before .before .args .run .clients) (c .before .before .before .before .before .before .before .before .before .before .before .before .before .before .before .before .args .run .shelf .records)) (now (c .before .before .before .before .before .before .before .before .before .before .before .before .before .before .before .before .args .words)) l) (read .clock)) (c .before .before .before .before .before .before .before .before .before .act-front .ensures .0) (c .before .before .before .before .before .before .before .before .before .act-front .ensures .1 .0) (c .before .before .before .before .before .before .before .before .before .act-front .ensures .1 .1 .1 .1)
+      made-one _ _ _ _ _ _ _ _ (callOf (x .kind) (x .client) (x .a) (x .b)) (lent (take (c .before .before .before .before .before .before .before .before .before .before .before .before .before .before .before .before .args .run .clients) (c .before .before .before .before .before .before .before .before .before .before .before .before .before .before .before .before .args .run .shelf .records)) (now (c .before .before .before .before .before .before .before .before .before .before .before .before .before .before .before .before .args .words)) (x .last)) (c .before .before .before .before .before .before .before .before .before .act-front .result .answer) (take (c .before .before .before .before .before .before .before .before .before .before .before .before .before .before .before .before .args .run .clients) (c .before .before .before .before .before .before .before .before .before .act-front .result .shelf .records)) (c .before .before .before .before .before .before .before .before .before .act-front .last .1 .1 .0) (c .before .before .before .before .record-of .result) named (ap (λ (l : ℕ). lent (take (c .before .before .before .before .before .before .before .before .before .before .before .before .before .before .before .before .args .run .clients) (c .before .before .before .before .before .before .before .before .before .before .before .before .before .before .before .before .args .run .shelf .records)) (now (c .before .before .before .before .before .before .before .before .before .before .before .before .before .before .before .before .args .words)) l) (read .clock)) (c .before .before .before .before .before .before .before .before .before .act-front .ensures)
           (c .before .before .before .before .record-of .ensures ∙ ap (λ (i : ℕ). getD (take (c .before .before .before .before .before .before .before .before .before .before .before .before .before .before .before .before .args .run .clients) (c .before .before .before .before .before .before .before .before .before .act-front .result .shelf .records)) i (idleWith 0)) whose) (c .before .before .put-line .ensures .0),
       (refl, c .before .before .put-line .ensures .1),
     )
