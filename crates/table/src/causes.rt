@@ -12,10 +12,7 @@ pub fn opening_cause(settings: Settings, words: usize, records: usize) -> u64
     if cause != 0 {
         return cause;
     }
-    if records == 0 {
-        return 3;
-    }
-    if 32767 < records {
+    if (records == 0) | (32767 < records) {
         return 3;
     }
     0

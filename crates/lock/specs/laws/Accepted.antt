@@ -55,7 +55,7 @@ pub accepted : (s : Settings) (st : State) (k : Call) → numberOf s st k ≡ 0 
 unfolding numberOf clientTests
 accepted s st k e =
     let rest = ownTests s st k in
-    let a = tree-tested s (length (st .words)) (clientTests (st .records) (clientOf k) ++ rest) e in
+    let a = tree-tested s (length (st .words)) (clientTests (length (st .records)) (clientOf k) ++ rest) e in
     let b = test-passed (clientsOutside (length (st .records))) 3 ((leb (length (st .records)) (clientOf k), 4) ∷ rest) (omega arith) (a .2) in
     let c = test-passed (leb (length (st .records)) (clientOf k)) 4 rest (omega arith) (b .1) in
     record {

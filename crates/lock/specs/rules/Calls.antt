@@ -36,8 +36,8 @@ treeTests s count = (settingsOutside s, 1) ∷ (differ count (wordCount (s .leve
 unfoldable pub clientsOutside : ℕ → Bool
 clientsOutside count = eqb count 0 || ltb 32767 count
 
-unfoldable pub clientTests : List Record → ℕ → Tests
-clientTests records client = (clientsOutside (length records), 3) ∷ (leb (length records) client, 4) ∷ []
+unfoldable pub clientTests : ℕ → ℕ → Tests
+clientTests count client = (clientsOutside count, 3) ∷ (leb count client, 4) ∷ []
 
 -- request: 6, 7, 8
 unfoldable pub requestTests : Settings → Record → ℕ → ℕ → ℕ → Tests

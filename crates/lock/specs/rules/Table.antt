@@ -46,7 +46,7 @@ ownTests s st (release c) = releaseTests s (recordAt st c) (st .clock)
 ownTests s st (cancel c) = cancelTests s (recordAt st c) (st .clock)
 
 unfoldable pub numberOf : Settings → State → Call → ℕ
-numberOf s st k = firstCause (treeTests s (length (st .words)) ++ (clientTests (st .records) (clientOf k) ++ ownTests s st k))
+numberOf s st k = firstCause (treeTests s (length (st .words)) ++ (clientTests (length (st .records)) (clientOf k) ++ ownTests s st k))
 
 -- what an accepted call leaves
 unfoldable pub after : Settings → State → Call → State

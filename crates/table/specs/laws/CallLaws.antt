@@ -12,7 +12,7 @@ use Rattle.lock.specs.declared.Record.{Record}
 use Rattle.lock.specs.declared.Settings.{Settings}
 use Rattle.lock.specs.declared.Stepped.{Stepped}
 use Rattle.lock.specs.rules.Records.{idleWith}
-use Rattle.lock.specs.rules.Calls.{firstCause, treeTests, clientsOutside, clientTests, requested, released, cancelled, answered as answeredBy, requestNumber, requestAnswer, releaseAnswer, cancelAnswer, stepNumber, stepAnswer, stepWords}
+use Rattle.lock.specs.rules.Calls.{firstCause, treeTests, clientTests, requested, released, cancelled, answered as answeredBy, requestNumber, requestAnswer, releaseAnswer, cancelAnswer, stepNumber, stepAnswer, stepWords}
 use Rattle.lock.specs.rules.Table.{State, Call, request, step, release, cancel, clientOf, recordAt, Out, ownTests, numberOf, after, call}
 use Rattle.table.specs.declared.Answer.{Answer}
 use Rattle.table.specs.rules.Lent.{lent, result}
@@ -44,15 +44,15 @@ module _ (s : Settings) (records : List Record) (words : List ℕ) (last : ℕ) 
 
   module _ (k : Call) where
     pub cause-refuses : (tableCause s (length words) (length records) (clientOf k) ≡ 0 → ⊥) → numberOf s st k ≡ tableCause s (length words) (length records) (clientOf k)
-    unfolding numberOf tableCause treeTests clientTests clientsOutside
-    cause-refuses d = first-hits (treeTests s (length words) ++ clientTests records (clientOf k)) (ownTests s st k) d
+    unfolding numberOf tableCause treeTests clientTests
+    cause-refuses d = first-hits (treeTests s (length words) ++ clientTests (length records) (clientOf k)) (ownTests s st k) d
 
     pub cause-passes : tableCause s (length words) (length records) (clientOf k) ≡ 0 → numberOf s st k ≡ firstCause (treeTests s (length words) ++ ownTests s st k)
-    unfolding numberOf tableCause treeTests clientTests clientsOutside
+    unfolding numberOf tableCause treeTests clientTests
     cause-passes z =
-        first-passes (treeTests s (length words) ++ clientTests records (clientOf k)) (ownTests s st k)
+        first-passes (treeTests s (length words) ++ clientTests (length records) (clientOf k)) (ownTests s st k)
         ((λ e. omega (arith, e)), ((λ e. omega (arith, e)), ((λ e. omega (arith, e)), ((λ e. omega (arith, e)), tt)))) z
-        ∙ sym (first-passes (treeTests s (length words)) (ownTests s st k) ((λ e. omega (arith, e)), ((λ e. omega (arith, e)), tt)) (both-none (treeTests s (length words)) (clientTests records (clientOf k)) z))
+        ∙ sym (first-passes (treeTests s (length words)) (ownTests s st k) ((λ e. omega (arith, e)), ((λ e. omega (arith, e)), tt)) (both-none (treeTests s (length words)) (clientTests (length records) (clientOf k)) z))
 
   -- ---- refused by 1, 2, 3 or 4: all as it was
 

@@ -1,17 +1,16 @@
 -- Laws of the chains of tests: a chain that goes on behind another, and the causes that the functions of this crate find. Assumes nothing.
-use mathlib.Core.Path.{_≡_, refl, sym, ap, _∙_}
-use mathlib.Core.Bool.{Bool, true, false, not, _||_}
+use mathlib.Core.Path.{_≡_, refl, sym, _∙_}
+use mathlib.Core.Bool.{Bool, true, false, not}
 use mathlib.Core.List.{[], _∷_, _++_}
 use Prim.Native.Nat.{ℕ, _<_, _≤_}
 use native.Mathlib.Omega.{arith}
-use borrow.Author.Tests.{eq-eqb, ne-eqb, lt-ltb, le-ltb}
-use lib.Dec.{T, eqb, leb, nleb→lt}
+use lib.Dec.{T, leb, nleb→lt}
 use Rattle.base.specs.rules.Choice.{choose}
 use Rattle.base.specs.laws.ChoiceLaws.{choose-le, choose-gt}
 use Rattle.lock.specs.declared.Settings.{Settings}
-use Rattle.lock.specs.rules.Calls.{Tests, firstCause, treeTests, clientsOutside}
+use Rattle.lock.specs.rules.Calls.{Tests, firstCause, treeTests, clientsOutside, clientTests}
 use Rattle.lock.specs.rules.Table.{openingNumber}
-use Rattle.lock.specs.laws.CallLaws.{TreeTested, tree-passed}
+use Rattle.lock.specs.laws.CallLaws.{TreeTested, tree-passed, cause-hit, cause-skip}
 use Rattle.table.specs.laws.Causes.{tableCause}
 
 -- ---- a chain behind another
@@ -56,37 +55,19 @@ both-none (t ∷ ts) us h = one-none (t .0) (t .1) (firstCause (ts ++ us)) (firs
 
 -- ---- causes 1 to 3
 
-either-true : (a b : Bool) → a ≡ true → (a || b) ≡ true
-either-true a b e = ap (λ (x : Bool). x || b) e
-
-second-true : (a b : Bool) → b ≡ true → (a || b) ≡ true
-second-true true b e = refl
-second-true false b e = e
-
-neither-true : (a b : Bool) → a ≡ false → b ≡ false → (a || b) ≡ false
-neither-true a b e f = ap (λ (x : Bool). x || b) e ∙ f
-
 module _ (s : Settings) (words records n : ℕ) (t : TreeTested s words n) where
   pub opening-tree : (n ≡ 0 → ⊥) → n ≡ openingNumber s words records
   unfolding openingNumber
   opening-tree d = sym (t .refused d _)
 
   module _ (z : n ≡ 0) where
-    behind : (b : Bool) → b ≡ clientsOutside records → openingNumber s words records ≡ firstCause ((b, 3) ∷ [])
+    pub opening-clients : clientsOutside records ≡ true → 3 ≡ openingNumber s words records
     unfolding openingNumber
-    behind b e = tree-passed s words _ (t .settings z) (t .count-right z) ∙ ap (λ (x : Bool). firstCause ((x, 3) ∷ [])) (sym e)
+    opening-clients e = sym (tree-passed s words _ (t .settings z) (t .count-right z) ∙ cause-hit (clientsOutside records) 3 [] e)
 
-    pub opening-none : records ≡ 0 → 3 ≡ openingNumber s words records
-    unfolding firstCause clientsOutside choose
-    opening-none e = sym (behind true (sym (either-true _ _ (eq-eqb records 0 e))))
-
-    pub opening-many : 32767 < records → 3 ≡ openingNumber s words records
-    unfolding firstCause clientsOutside choose
-    opening-many e = sym (behind true (sym (second-true (eqb records 0) _ (lt-ltb 32767 records e))))
-
-    pub opening-passed : (records ≡ 0 → ⊥) → records ≤ 32767 → 0 ≡ openingNumber s words records
-    unfolding firstCause clientsOutside choose
-    opening-passed d e = sym (behind false (sym (neither-true _ _ (ne-eqb records 0 d) (le-ltb 32767 records e))))
+    pub opening-passed : clientsOutside records ≡ false → 0 ≡ openingNumber s words records
+    unfolding openingNumber firstCause
+    opening-passed e = sym (tree-passed s words _ (t .settings z) (t .count-right z) ∙ cause-skip (clientsOutside records) 3 [] e)
 
 -- ---- causes 1 to 4
 
@@ -99,11 +80,11 @@ module _ (s : Settings) (words records client : ℕ) where
   client-test = (leb records client, 4) ∷ []
 
   pub table-opening : (openingNumber s words records ≡ 0 → ⊥) → openingNumber s words records ≡ tableCause s words records client
-  unfolding openingNumber tableCause treeTests
+  unfolding openingNumber tableCause treeTests clientTests
   table-opening d = sym (first-hits opening-tests client-test d)
 
   behind-opening : openingNumber s words records ≡ 0 → tableCause s words records client ≡ firstCause client-test
-  unfolding openingNumber tableCause treeTests
+  unfolding openingNumber tableCause treeTests clientTests
   behind-opening z = first-passes opening-tests client-test ((λ e. omega (arith, e)), ((λ e. omega (arith, e)), ((λ e. omega (arith, e)), tt))) z
 
   pub table-client : openingNumber s words records ≡ 0 → records ≤ client → 4 ≡ tableCause s words records client
@@ -120,7 +101,7 @@ module _ (s : Settings) (words records client : ℕ) where
   four-none false h = tt
 
   opening-none-of : tableCause s words records client ≡ 0 → openingNumber s words records ≡ 0
-  unfolding openingNumber tableCause treeTests
+  unfolding openingNumber tableCause treeTests clientTests
   opening-none-of z = both-none opening-tests client-test z
 
   -- a client that passed

@@ -1,7 +1,8 @@
 -- `table::causes::opening_cause` meets its contract. Assumes nothing.
 use borrow.Author.Needs.{needs}
+use Rattle.lock.specs.rules.Calls.{clientsOutside}
 use Rattle.lock.specs.laws.CallLaws.{tree-tested}
-use Rattle.table.specs.laws.CauseLaws.{opening-tree, opening-none, opening-many, opening-passed}
+use Rattle.table.specs.laws.CauseLaws.{opening-tree, opening-clients, opening-passed}
 use Rattle.table.proofs.causes.opening_cause.Statement.{statement}
 use Rattle.table.proofs.causes.opening_cause.Tie as tie
 
@@ -14,19 +15,16 @@ returns c =
     opening-tree (a .settings) (a .words) (a .records) _ (tree-tested _ _ _ (c .before .tree-cause .ensures)) (c .if1 .taken)
 
 returns-2 : tie.Need-returns-2
+unfolding clientsOutside
 returns-2 c =
     let a = c .before .before .before .args in
-    opening-none (a .settings) (a .words) (a .records) _ (tree-tested _ _ _ (c .before .before .tree-cause .ensures)) (c .before .if1 .left) (c .if2 .taken)
+    opening-clients (a .settings) (a .words) (a .records) _ (tree-tested _ _ _ (c .before .before .tree-cause .ensures)) (c .before .if1 .left) (c .if2 .taken)
 
 returns-3 : tie.Need-returns-3
+unfolding clientsOutside
 returns-3 c =
-    let a = c .before .before .before .before .args in
-    opening-many (a .settings) (a .words) (a .records) _ (tree-tested _ _ _ (c .before .before .before .tree-cause .ensures)) (c .before .before .if1 .left) (c .if3 .taken)
-
-returns-4 : tie.Need-returns-4
-returns-4 c =
-    let a = c .before .before .before .before .args in
-    opening-passed (a .settings) (a .words) (a .records) _ (tree-tested _ _ _ (c .before .before .before .tree-cause .ensures)) (c .before .before .if1 .left) (c .before .if2 .left) (c .if3 .left)
+    let a = c .before .before .before .args in
+    opening-passed (a .settings) (a .words) (a .records) _ (tree-tested _ _ _ (c .before .before .tree-cause .ensures)) (c .before .if1 .left) (c .if2 .left)
 
 pub opening-cause-spec : {M : Type 1} → statement M
-opening-cause-spec = tie.close (tie.spec tree-cause-requires returns returns-2 returns-3 returns-4)
+opening-cause-spec = tie.close (tie.spec tree-cause-requires returns returns-2 returns-3)
