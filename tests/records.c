@@ -14,7 +14,7 @@
 
 enum { LOWEST = 2, HIGHEST = 12, LOOKED_THROUGH = 5, MOST_PAIRS = 4096 };
 
-typedef struct stepped on_record(struct record, uint64_t *, size_t, struct settings, struct call);
+typedef struct stepped on_record(Record, uint64_t *, size_t, Settings, Call);
 
 static const struct entry {
     const char *name;
@@ -31,10 +31,10 @@ enum { ENTRIES = sizeof table / sizeof *table };
 
 struct query {
     uint64_t place, pairs;
-    struct settings settings;
-    struct record record;
+    Settings settings;
+    Record record;
     uint64_t count;
-    struct call call;
+    Call call;
 };
 
 struct pair {

@@ -22,7 +22,7 @@ NAMES["compiled refusal"] = ("kind", "causes taken away", "by kind"), UNLIKE
 NAMES["compiled history"] = SHAPE, ("overlaps", "words left", "refused by 6", "refused by 9")
 NAMES["compiled occurs"] = ("place in the list of what must occur",), ("occurs",)
 
-FILLED = Record(*range(1, 15))
+FILLED = Record(*range(1, len(Record._fields) + 1))
 
 
 def openings():
