@@ -1,17 +1,17 @@
 -- To be believed: document 01, section "Refused calls" and the last paragraph of "Phases": the tests of each call in their order, and what an accepted call
--- makes of the record, the words and the clock. First the calls by value, on one record, then the same over the table. Assumes nothing.
+-- makes of the record, the words and the clock. The calls are by value, on one record; Table.antt has the same over the table. Assumes nothing.
 use mathlib.Core.Bool.{Bool, not, _||_}
 use mathlib.Core.List.{List, [], _∷_, _++_}
 use Prim.Native.Nat.{ℕ}
 use lib.Dec.{eqb, leb, ltb}
-use lib.ListN.{length, getD, set}
+use lib.ListN.{length, getD}
 use Rattle.base.specs.rules.Choice.{choose}
 use Rattle.tree.specs.rules.Tree.{wordCount}
 use Rattle.cover.specs.rules.Answer.{levelsOutside, windowOutside}
 use Rattle.lock.specs.declared.Record.{Record}
 use Rattle.lock.specs.declared.Settings.{Settings}
 use Rattle.lock.specs.declared.Stepped.{Stepped}
-use Rattle.lock.specs.rules.Records.{coverOf, gripOf, wordAt, written, toPhase, withOutcome, idleWith}
+use Rattle.lock.specs.rules.Records.{coverOf, windowed, gripOf, wordAt, written, toPhase, withOutcome, idleWith}
 use Rattle.lock.specs.rules.Unreadable.{differ, unreadable}
 use Rattle.lock.specs.rules.Steps.{touched, moved, startPhase}
 
@@ -59,24 +59,6 @@ cancelTests s r last = (unreadable s r last, 6) ∷ (eqb (r .phase) 0 || eqb (r 
 -- ---- what an accepted call makes of the record
 
 -- "A request sets window and pieces, zeroes the rest, and sets phase 1 for an inner first piece and 3 for a leaf."
-abbrev pub windowed : (phase left right first second : ℕ) → Record
-windowed phase left right first second = record {
-  phase = phase;
-  outcome = 0;
-  left = left;
-  right = right;
-  first = first;
-  second = second;
-  current = 0;
-  giving = 0;
-  grip = 0;
-  ticket = 0;
-  place = 0;
-  notices = 0;
-  t1 = 0;
-  t0 = 0;
-}
-
 unfoldable pub requested : Settings → ℕ → ℕ → Record
 requested s a b =
     windowed (startPhase s (getD (coverOf s a b) 0 0)) a b (getD (coverOf s a b) 0 0) (getD (coverOf s a b) 1 0)

@@ -137,3 +137,22 @@ idleWith o = record {
   t1 = 0;
   t0 = 0;
 }
+
+-- "sets window and pieces, zeroes the rest, and sets phase 1 for an inner first piece and 3 for a leaf"
+abbrev pub windowed : (phase left right first second : ℕ) → Record
+windowed phase left right first second = record {
+  phase = phase;
+  outcome = 0;
+  left = left;
+  right = right;
+  first = first;
+  second = second;
+  current = 0;
+  giving = 0;
+  grip = 0;
+  ticket = 0;
+  place = 0;
+  notices = 0;
+  t1 = 0;
+  t0 = 0;
+}

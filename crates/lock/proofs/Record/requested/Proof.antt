@@ -2,10 +2,10 @@
 use mathlib.Core.Path.{_≡_, ap, _∙_}
 use lib.ListN.{getD}
 use Rattle.lock.specs.rules.Steps.{startPhase}
-use Rattle.lock.specs.rules.Calls.{windowed, requested}
+use Rattle.lock.specs.rules.Calls.{requested}
 use Rattle.lock.specs.laws.CoverLaws.{first-node}
 use Rattle.lock.proofs.Record.requested.Statement.{statement}
-use Rattle.lock.specs.rules.Records.{coverOf}
+use Rattle.lock.specs.rules.Records.{coverOf, windowed}
 use Rattle.lock.proofs.Record.requested.Tie as tie
 
 start-phase-requires : tie.Need-start-phase-requires
