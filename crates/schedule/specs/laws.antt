@@ -1,9 +1,9 @@
 pub mod Appended
 pub mod Decimal
 pub mod FormatLaws
-pub mod Lines
 pub mod Little
 pub mod Running
 pub mod ShelfLaws
 pub mod SingleHolding
 pub mod WellFormed
+pub mod Writing

@@ -5,6 +5,7 @@ use table::Answer;
 mod format;
 mod front;
 mod logging;
+mod running;
 mod text;
 
 pub use logging::log;
@@ -20,10 +21,15 @@ pub struct Acted {
     pub shelf: Shelf,
 }
 
-// How far a run of a schedule has come: the shelf, how many clients it has, the last clock, and where the log's text ends.
+// How far a run of a schedule has come: the shelf, how many clients it has, and the last clock. The words are lent beside it.
 pub struct Run {
     pub shelf: Shelf,
     pub clients: usize,
     pub clock: u64,
-    pub end: usize,
+}
+
+// What a call of a schedule gives: its number (0 accepted), and the run after it.
+pub struct Made {
+    pub number: u64,
+    pub run: Run,
 }

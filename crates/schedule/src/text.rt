@@ -1,13 +1,12 @@
 // The log's text. Each function writes its piece into the lent bytes from `at` on, and answers where the piece ends. The bytes before `at` stay.
-ghost use mathlib.Core.Path.{_≡_};
 ghost use Prim.Native.Nat.{_+_, _≤_};
 ghost use mathlib.Core.List.{[], _∷_, _++_};
 ghost use lib.ListN.{length};
-ghost use Rattle.lock.specs.declared.Record.{Record};
 ghost use Rattle.table.specs.rules.Lent.{callOf};
 ghost use Rattle.schedule.specs.laws.Appended.{Appended};
 ghost use Rattle.schedule.specs.rules.Log.{decimal, spaced, kindText, headerLine, line, refusedLine};
 use lock::Call;
+use lock::Record;
 use lock::Settings;
 
 // The bytes of `text`.
@@ -98,26 +97,17 @@ fn put_after(out: &mut [u8], at: usize, number: u64, phase: u64, left: u64, righ
     put_bytes(out, d, b"\n")
 }
 
-// The line of call number `k`: the call, its answer, and its client's phase and edges after it.
-pub fn put_line(
-    out: &mut [u8],
-    at: usize,
-    k: u64,
-    call: Call,
-    number: u64,
-    phase: u64,
-    left: u64,
-    right: u64,
-) -> usize
+// The line of call number `k`: the call, its number, and its client's phase and edges after it.
+pub fn put_line(out: &mut [u8], at: usize, k: u64, call: Call, number: u64, after: Record) -> usize
     requires { ⌜ at + 144 ≤ length (now out) ⌝ }
-    ensures piece { λ r. ⌜ ((after : Record) → after .phase ≡ phase → after .left ≡ left → after .right ≡ right → Appended (now (out .entry)) at (now (out .exit)) r (line k (callOf (call .kind) (call .client) (call .a) (call .b)) number after)) ⌝ }
+    ensures piece { λ r. ⌜ Appended (now (out .entry)) at (now (out .exit)) r (line k (callOf (call .kind) (call .client) (call .a) (call .b)) number after) ⌝ }
     ensures short { λ r. ⌜ r ≤ at + 144 ⌝ }
 {
     let a = put_decimal(out, at, k);
     let b = put_bytes(out, a, b" ");
     let c = put_kind(out, b, call);
     let d = put_spaced(out, c, call.client);
-    put_after(out, d, number, phase, left, right)
+    put_after(out, d, number, after.phase, after.left, after.right)
 }
 
 // The line of a refused file or opening.

@@ -6,8 +6,8 @@ use Rattle.lock.specs.declared.Settings.{Settings}
 use Rattle.lock.specs.rules.Table.{State, Call, clientOf, recordAt, call, opening}
 use Rattle.lock.specs.rules.History.{event, Demand3}
 use Rattle.lock.specs.claim.Demand3.{demand-3}
-use Rattle.schedule.specs.rules.Format.{settingsIn, clientsIn, callsFrom}
-use Rattle.schedule.specs.rules.Log.{line, lines, lentFor}
+use Rattle.schedule.specs.rules.Format.{settingsIn, clientsIn, callsFrom, lentFor}
+use Rattle.schedule.specs.rules.Log.{line, lines}
 
 -- the first n calls of a file whose opening is accepted
 pub file-demand-3 : (bytes : List ℕ) → opening (settingsIn bytes) (lentFor (settingsIn bytes) (clientsIn bytes)) .number ≡ 0

@@ -1,14 +1,17 @@
--- To be believed: document 01, section "The schedule program": the format of a schedule over its bytes, the calls in it, and what is refused. Assumes nothing.
+-- To be believed: document 01, section "The schedule program": the format of a schedule over its bytes, the calls in it, what is refused, and what is lent to the
+-- opening. Assumes nothing.
 use mathlib.Core.Bool.{Bool, false, _||_}
 use mathlib.Core.List.{List, [], _∷_}
 use Prim.Native.Nat.{ℕ, zero, suc, _+_, _*_}
 use lib.Dec.{eqb, ltb}
-use lib.ListN.{length, getD}
+use lib.ListN.{length, getD, replicate}
 use Rattle.base.specs.rules.Choice.{choose}
+use Rattle.tree.specs.rules.Tree.{wordCount}
 use Rattle.lock.specs.declared.Settings.{Settings}
+use Rattle.lock.specs.rules.Records.{idleWith}
 use Rattle.lock.specs.rules.Unreadable.{differ}
 use Rattle.lock.specs.rules.Calls.{firstCause}
-use Rattle.lock.specs.rules.Table.{Call}
+use Rattle.lock.specs.rules.Table.{State, Call}
 use Rattle.table.specs.rules.Lent.{callOf}
 
 -- "little-endian": the number that k bytes from place i on hold
@@ -84,3 +87,8 @@ tooLarge bytes = ltb 6 (settingsIn bytes .levels) || ltb 64 (clientsIn bytes)
 
 unfoldable pub fileCause : List ℕ → ℕ
 fileCause bytes = firstCause ((malformed bytes, 10) ∷ (tooLarge bytes, 11) ∷ [])
+
+-- ---- what is lent to the opening: as many words as the tree has, and as many records as there are clients
+
+unfoldable pub lentFor : Settings → ℕ → State
+lentFor s clients = record { words = replicate (wordCount (s .levels)) 0; records = replicate clients (idleWith 0); clock = 0 }

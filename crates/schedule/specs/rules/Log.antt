@@ -3,14 +3,12 @@ use mathlib.Core.Path.{_≡_}
 use mathlib.Core.List.{List, [], _∷_, _++_}
 use Prim.Native.Nat.{ℕ, zero, suc, _+_, _/_, _%_, _≤_, _<_}
 use lib.Dec.{eqb, ltb}
-use lib.ListN.{length, take, replicate}
+use lib.ListN.{length, take}
 use Rattle.base.specs.rules.Choice.{choose}
-use Rattle.tree.specs.rules.Tree.{wordCount}
 use Rattle.lock.specs.declared.Record.{Record}
 use Rattle.lock.specs.declared.Settings.{Settings}
-use Rattle.lock.specs.rules.Records.{idleWith}
 use Rattle.lock.specs.rules.Table.{State, Call, request, step, release, cancel, clientOf, recordAt, call, opening}
-use Rattle.schedule.specs.rules.Format.{settingsIn, clientsIn, callsIn, fileCause}
+use Rattle.schedule.specs.rules.Format.{settingsIn, clientsIn, callsIn, fileCause, lentFor}
 
 -- a number in decimal digits, the highest first, with no zero in front. The first argument bounds the digits, and n is enough.
 unfoldable pub decimalWithin : ℕ → ℕ → List ℕ
@@ -65,10 +63,6 @@ lines s st k (c ∷ cs) = line k c (call s st c .number) (recordAt (call s st c 
 
 unfoldable pub refusedLine : ℕ → List ℕ
 refusedLine number = 114 ∷ 101 ∷ 102 ∷ 117 ∷ 115 ∷ 101 ∷ 100 ∷ (spaced number ++ (10 ∷ []))
-
--- what is lent to the opening: as many words as the tree has, and as many records as there are clients
-unfoldable pub lentFor : Settings → ℕ → State
-lentFor s clients = record { words = replicate (wordCount (s .levels)) 0; records = replicate clients (idleWith 0); clock = 0 }
 
 unfoldable pub logOfCalls : Settings → ℕ → List Call → List ℕ
 logOfCalls s clients calls =

@@ -4,7 +4,7 @@ use mathlib.Core.Path.{sym, _∙_}
 use Prim.Native.Nat.{zero-le}
 use native.Mathlib.Omega.{arith}
 use Rattle.tree.specs.rules.Tree.{last}
-use Rattle.schedule.specs.laws.Running.{no-room, file-refused, file-run, counted}
+use Rattle.schedule.specs.laws.Writing.{no-room, file-refused, file-run, counted}
 use Rattle.schedule.specs.laws.WellFormed.{well-formed}
 use borrow.Author.Needs.{needs}
 use Rattle.schedule.proofs.logging.log.Statement.{statement}

@@ -1,8 +1,8 @@
 -- `schedule::text::put_line` meets its contract. Assumes nothing.
-use Rattle.schedule.specs.laws.Appended.{joined, restated}
-use Rattle.schedule.specs.laws.Lines.{line-of}
-use Rattle.table.specs.laws.ByValueLaws.{client-of-kind}
 use native.Mathlib.Omega.{arith}
+use Rattle.table.specs.laws.ByValueLaws.{client-of-kind}
+use Rattle.schedule.specs.laws.Appended.{joined, restated}
+use Rattle.schedule.specs.laws.Writing.{line-of}
 use borrow.Author.Needs.{needs}
 use Rattle.schedule.proofs.text.put_line.Statement.{statement}
 use Rattle.schedule.proofs.text.put_line.Tie as tie
@@ -30,16 +30,24 @@ same-length c = search needs
 
 returns : tie.Need-returns
 returns c =
-    let s = c .before .before .before .before .before .before .before .before .before .before .before .before .before .before .before .before .before .before .before .before .before .before in (
-      (λ after p q t.
-          restated (line-of _ _ _ _ _ _ _ after (client-of-kind (s .args .call .kind) (s .args .call .client) (s .args .call .a) (s .args .call .b)) p q t)
-          (joined (c .before .before .before .before .before .before .before .before .before .before .before .before .before .before .before .before .before .before .before .put-decimal .ensures .0)
-          (joined (c .before .before .before .before .before .before .before .before .before .before .before .before .before .before .put-bytes .ensures)
-          (joined (c .before .before .before .before .before .before .before .before .before .before .put-kind .ensures .0)
-          (joined (c .before .before .before .before .before .before .put-spaced .ensures .0)
-          (c .before .before .put-after .ensures .0)))))),
-      omega (arith, c .before .before .before .before .before .before .before .before .before .before .before .before .before .before .before .before .before .before .before .put-decimal .ensures .1, c .before .before .before .before .before .before .before .before .before .before .before .before .before .before .put-bytes .ensures .ends, c .before .before .before .before .before .before .before .before .before .before .put-kind .ensures .1, c .before .before .before .before .before .before .put-spaced .ensures .1, c .before .before .put-after .ensures .1),
-    )
+    let a = c .before .before .before .before .before .before .before .before .before .before .before .before .before .before .before .before .before .before .before .before .before .before .args in
+    let x = a .call in
+    let k = c .before .before .before .before .before .before .before .before .before .before .before .before .before .before .before .before .before .before .before .put-decimal .ensures in
+    let space = c .before .before .before .before .before .before .before .before .before .before .before .before .before .before .put-bytes .ensures in
+    let kind = c .before .before .before .before .before .before .before .before .before .before .put-kind .ensures in
+    let client = c .before .before .before .before .before .before .put-spaced .ensures in
+    let rest = c .before .before .put-after .ensures in
+    (restated (line-of _ _ _ _ (a .after) (client-of-kind (x .kind) (x .client) (x .a) (x .b))) (joined (k .0) (joined space (joined (kind .0) (joined (client .0) (rest .0))))), omega (arith, k .1, space .ends, kind .1, client .1, rest .1))
 
 pub put-line-spec : {M : Type 1} → statement M
-put-line-spec = tie.close (tie.spec put-decimal-requires slice-aggregate-put-bytes put-bytes-requires put-kind-requires put-spaced-requires put-after-requires same-length returns)
+put-line-spec =
+    tie.close
+    (tie.spec
+    put-decimal-requires
+    slice-aggregate-put-bytes
+    put-bytes-requires
+    put-kind-requires
+    put-spaced-requires
+    put-after-requires
+    same-length
+    returns)

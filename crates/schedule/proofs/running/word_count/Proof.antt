@@ -1,4 +1,4 @@
--- `schedule::logging::word_count` meets its contract. Assumes nothing.
+-- `schedule::running::word_count` meets its contract. Assumes nothing.
 use mathlib.Core.Path.{sym, ap, _∙_}
 use Prim.Native.Nat.{suc}
 use native.Mathlib.Omega.{arith}
@@ -6,8 +6,8 @@ use Rattle.tree.specs.rules.Tree.{last, wordCount}
 use Rattle.tree.specs.laws.Climb.{first-mono, first-closed}
 use Rattle.tree.specs.laws.Level.{word-count}
 use borrow.Author.Needs.{needs}
-use Rattle.schedule.proofs.logging.word_count.Statement.{statement}
-use Rattle.schedule.proofs.logging.word_count.Tie as tie
+use Rattle.schedule.proofs.running.word_count.Statement.{statement}
+use Rattle.schedule.proofs.running.word_count.Tie as tie
 
 returns : tie.Need-returns
 unfolding wordCount

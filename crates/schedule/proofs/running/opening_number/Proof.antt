@@ -1,8 +1,8 @@
--- `schedule::logging::opening_number` meets its contract. Assumes nothing.
+-- `schedule::running::opening_number` meets its contract. Assumes nothing.
 use Rattle.schedule.specs.laws.Running.{opening-number}
 use borrow.Author.Needs.{needs}
-use Rattle.schedule.proofs.logging.opening_number.Statement.{statement}
-use Rattle.schedule.proofs.logging.opening_number.Tie as tie
+use Rattle.schedule.proofs.running.opening_number.Statement.{statement}
+use Rattle.schedule.proofs.running.opening_number.Tie as tie
 
 word-count-requires : tie.Need-word-count-requires
 word-count-requires c κs = search needs

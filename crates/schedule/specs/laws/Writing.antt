@@ -1,0 +1,131 @@
+-- Laws: the lines that the calls of a schedule add to its log, and the ways through a file. Assumes nothing.
+use mathlib.Core.Path.{_≡_, refl, sym, ap, _∙_}
+use mathlib.Core.List.{List, [], _∷_, _++_, append-assoc, append-nil}
+use Prim.Native.Nat.{ℕ, suc, _+_, _-_, _*_, _≤_, _<_}
+use native.Mathlib.Omega.{arith}
+use lib.ListN.{length, take, replicate, length-take}
+use Rattle.base.specs.laws.ChoiceLaws.{choose-eq, choose-ne}
+use Rattle.io.specs.Counts.{Counts}
+use Rattle.tree.specs.rules.Tree.{wordCount}
+use Rattle.lock.specs.declared.Record.{Record}
+use Rattle.lock.specs.declared.Settings.{Settings}
+use Rattle.lock.specs.rules.Table.{State, Call, clientOf, recordAt, Out, call, opening}
+use Rattle.table.specs.rules.Lent.{result}
+use Rattle.schedule.specs.declared.Made.{Made}
+use Rattle.schedule.specs.declared.Run.{Run}
+use Rattle.schedule.specs.rules.Format.{settingsIn, clientsIn, countIn, placeOf, callIn, callsFrom, callsIn, fileCause, lentFor}
+use Rattle.schedule.specs.rules.Log.{decimal, spaced, kindText, headerLine, line, lines, refusedLine, logOfCalls, logOf, room, Logged}
+use Rattle.schedule.specs.laws.Appended.{Appended}
+use Rattle.schedule.specs.laws.WellFormed.{WellFormed}
+use Rattle.schedule.specs.laws.Running.{stateOf, recordIn, freshRun, fresh-state}
+
+-- ---- one line
+
+-- with the client's number in the call's place
+pub line-of : (k : ℕ) (c : Call) (client number : ℕ) (r : Record) → clientOf c ≡ client
+    → decimal k ++ (32 ∷ (kindText c ++ (spaced client ++ (spaced number ++ (spaced (r .phase) ++ (spaced (r .left) ++ (spaced (r .right) ++ (10 ∷ [])))))))) ≡ line k c number r
+unfolding line
+line-of k c client number r e = rw e
+
+-- with the call as the code has it, and the record of its client
+pub line-in : (k : ℕ) (c d : Call) (number : ℕ) (run : Run) (client : ℕ) (r : Record) → d ≡ c → clientOf d ≡ client → r ≡ recordIn run client
+    → line k d number r ≡ line k c number (recordIn run (clientOf c))
+line-in k c d number run client r e f g =
+    ap (line k d number) (g ∙ ap (recordIn run) (sym f)) ∙ ap (λ (z : Call). line k z number (recordIn run (clientOf z))) e
+
+-- ---- all calls: what is written so far, and the lines of the calls from k on, are the whole text
+
+module _ (s : Settings) (bytes : List ℕ) (whole : List ℕ) where
+  pub record Written (st : State) (k : ℕ) (out : List ℕ) (end : ℕ) : Type 0 where
+    pub begun : k ≤ countIn bytes
+    pub text : take end out ++ lines s st k (callsFrom bytes k (countIn bytes - k)) ≡ whole
+    pub inside : end ≤ length out
+    pub most : end ≤ 112 + 144 * k
+
+  -- call k is made, and its line written
+  pub written-more : (st : State) (k : ℕ) (out : List ℕ) (at : ℕ) → Written st k out at → k < countIn bytes → (made : Made) (words new : List ℕ) (end : ℕ)
+      → result (made .number) (take (made .run .clients) (made .run .shelf .records)) words (made .run .clock) ≡ call s st (callIn bytes k)
+      → Appended out at new end (line k (callIn bytes k) (made .number) (recordIn (made .run) (clientOf (callIn bytes k)))) → end ≤ at + 144
+      → Written (stateOf (made .run) words) (k + 1) new end
+  unfolding lines callsFrom recordAt
+  written-more st k out at v b made words new end e a short =
+      let c = callIn bytes k in
+      let left : countIn bytes - k ≡ suc (countIn bytes - (k + 1)) = omega arith in
+      let rest = callsFrom bytes (suc k) (countIn bytes - (k + 1)) in
+      let lineOf : Out → List ℕ = λ o. line k c (o .number) (recordAt (o .state) (clientOf c)) in
+      let now = line k c (made .number) (recordIn (made .run) (clientOf c)) in
+      let after = lines s (stateOf (made .run) words) (suc k) rest in
+      let unrolled : lines s st k (callsFrom bytes k (countIn bytes - k)) ≡ now ++ after
+      = ap (λ (n : ℕ). lines s st k (callsFrom bytes k n)) left ∙ sym (ap (λ (o : Out). lineOf o ++ lines s (o .state) (suc k) rest) e) in
+      let one : k + 1 ≡ suc k = omega arith in
+      record {
+        begun = omega arith;
+        text = ap (λ (n : ℕ). take end new ++ lines s (stateOf (made .run) words) n (callsFrom bytes n (countIn bytes - (k + 1)))) one
+            ∙ ap (λ (l : List ℕ). l ++ after) (a .text) ∙ append-assoc (take at out) now after ∙ ap (λ (l : List ℕ). take at out ++ l) (sym unrolled) ∙ v .text;
+        inside = omega (arith, a .room, a .same);
+        most = omega (arith, v .most);
+      }
+
+  -- all calls are made
+  pub written-all : (st : State) (k : ℕ) (out : List ℕ) (end : ℕ) → Written st k out end → countIn bytes ≤ k → take end out ≡ whole
+  unfolding lines callsFrom
+  written-all st k out end v b =
+      let none : countIn bytes - k ≡ 0 = omega arith in
+      sym (append-nil (take end out)) ∙ sym (ap (λ (n : ℕ). take end out ++ lines s st k (callsFrom bytes k n)) none) ∙ v .text
+
+-- before the first call
+pub written-first : (s : Settings) (bytes : List ℕ) (st : State) (clients : ℕ) (old out : List ℕ) (end : ℕ) → Appended old 0 out end (headerLine s clients) → end ≤ 0 + 112
+    → Written s bytes (headerLine s clients ++ lines s st 0 (callsIn bytes)) st 0 out end
+unfolding callsIn
+written-first s bytes st clients old out end a b = record {
+  begun = omega arith;
+  text = ap (λ (l : List ℕ). l ++ lines s st 0 (callsFrom bytes 0 (countIn bytes - 0))) (a .text)
+      ∙ ap (λ (n : ℕ). headerLine s clients ++ lines s st 0 (callsFrom bytes 0 n)) (let e : countIn bytes - 0 ≡ countIn bytes = omega arith in e);
+  inside = omega (arith, a .room, a .same);
+  most = omega arith;
+}
+
+-- the room that all lines have
+pub few-calls : (bytes : List ℕ) → WellFormed bytes → countIn bytes ≤ 2730
+unfolding placeOf
+few-calls bytes w = omega (arith, w .inside, w .offset, w .short)
+
+-- ---- an opening that is refused, and one that is accepted
+
+module _ (s : Settings) (clients : ℕ) (calls : List Call) (n : ℕ) (f : n ≡ opening s (lentFor s clients) .number) where
+  pub log-refused : (n ≡ 0 → ⊥) → (old out : List ℕ) (end : ℕ) → Appended old 0 out end (refusedLine n) → take end out ≡ logOfCalls s clients calls
+  unfolding logOfCalls
+  log-refused d old out end a = a .text ∙ ap refusedLine f ∙ sym (choose-ne (opening s (lentFor s clients) .number) 0 _ _ (λ z. d (f ∙ z)))
+
+  pub log-run : n ≡ 0 → clients ≤ 64 → (run : Run) → run ≡ freshRun clients → (words : List ℕ) → words ≡ replicate (wordCount (s .levels)) 0
+      → (text : List ℕ) → text ≡ headerLine s (run .clients) ++ lines s (stateOf run words) 0 calls → text ≡ logOfCalls s clients calls
+  unfolding logOfCalls
+  log-run z few run e words g text t =
+      t ∙ ap (λ (r : Run). headerLine s (r .clients) ++ lines s (stateOf r words) 0 calls) e
+      ∙ ap (λ (st : State). headerLine s clients ++ lines s st 0 calls) (fresh-state s clients words few g)
+      ∙ sym (choose-eq (opening s (lentFor s clients) .number) 0 _ _ (sym f ∙ z))
+
+-- ---- the three ways through a file
+
+module _ (bytes old : List ℕ) where
+  pub no-room : length old < room → Logged bytes old old 0
+  no-room b = record { text = λ c. absurd (omega arith); short = λ _. (refl, refl) }
+
+  pub file-refused : (n : ℕ) → n ≡ fileCause bytes → (n ≡ 0 → ⊥) → room ≤ length old → (out : List ℕ) (end : ℕ) → Appended old 0 out end (refusedLine n) → Logged bytes old out end
+  unfolding logOf
+  file-refused n e d b out end a = record {
+    text = λ _. a .text ∙ ap refusedLine e ∙ sym (choose-ne (fileCause bytes) 0 _ _ (λ z. d (e ∙ z)));
+    short = λ c. absurd (omega arith);
+  }
+
+  pub file-run : fileCause bytes ≡ 0 → room ≤ length old → (out : List ℕ) (end : ℕ) → take end out ≡ logOfCalls (settingsIn bytes) (clientsIn bytes) (callsIn bytes)
+      → Logged bytes old out end
+  unfolding logOf
+  file-run z b out end t = record {
+    text = λ _. t ∙ sym (choose-eq (fileCause bytes) 0 _ _ z);
+    short = λ c. absurd (omega arith);
+  }
+
+-- what counts the bytes of a list, for whoever lends them on
+pub counted : (n : ℕ) (l : List ℕ) → n ≤ length l → Counts n l
+counted n l b = (b, omega (arith, length-take n l))
