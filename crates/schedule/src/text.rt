@@ -1,10 +1,11 @@
 // The log's text. Each function writes its piece into the lent bytes from `at` on, and answers where the piece ends. The bytes before `at` stay.
 ghost use Prim.Native.Nat.{_+_, _≤_};
-ghost use mathlib.Core.List.{[], _∷_, _++_};
+ghost use mathlib.Core.List.{_++_};
 ghost use lib.ListN.{length};
 ghost use Rattle.table.specs.rules.Lent.{callOf};
 ghost use Rattle.schedule.specs.laws.Appended.{Appended};
-ghost use Rattle.schedule.specs.rules.Log.{decimal, spaced, kindText, headerLine, line, refusedLine};
+ghost use Rattle.schedule.specs.rules.Log.{kindText, headerLine, line, refusedLine};
+ghost use Rattle.schedule.specs.rules.Text.{text, decimal, spaced};
 use lock::Call;
 use lock::Record;
 use lock::Settings;
@@ -87,7 +88,7 @@ pub fn put_header(out: &mut [u8], at: usize, settings: Settings, clients: u64) -
 // The rest of a call's line: its answer, and its client's phase and edges after it.
 fn put_after(out: &mut [u8], at: usize, number: u64, phase: u64, left: u64, right: u64) -> usize
     requires { ⌜ at + 85 ≤ length (now out) ⌝ }
-    ensures piece { λ r. ⌜ Appended (now (out .entry)) at (now (out .exit)) r (spaced number ++ (spaced phase ++ (spaced left ++ (spaced right ++ (10 ∷ []))))) ⌝ }
+    ensures piece { λ r. ⌜ Appended (now (out .entry)) at (now (out .exit)) r (spaced number ++ (spaced phase ++ (spaced left ++ (spaced right ++ text "\n")))) ⌝ }
     ensures short { λ r. ⌜ r ≤ at + 85 ⌝ }
 {
     let a = put_spaced(out, at, number);

@@ -8,7 +8,7 @@ use native.Mathlib.Omega.{arith}
 use borrow.Author.Tests.{lt-ltb}
 use Rattle.base.specs.laws.ChoiceLaws.{choose-lt, choose-ge, by-lt}
 use Rattle.io.specs.Digits.{glyph, digits, Fewest}
-use Rattle.schedule.specs.rules.Log.{decimalWithin, decimal}
+use Rattle.schedule.specs.rules.Text.{decimalWithin, decimal}
 
 glyph-digit : (d : ℕ) → d < 10 → glyph d ≡ 48 + d
 glyph-digit d h = rw (lt-ltb d 10 h)

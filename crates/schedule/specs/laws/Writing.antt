@@ -1,6 +1,6 @@
 -- Laws: the lines that the calls of a schedule add to its log, and the ways through a file. Assumes nothing.
 use mathlib.Core.Path.{_≡_, refl, sym, ap, _∙_}
-use mathlib.Core.List.{List, [], _∷_, _++_, append-assoc, append-nil}
+use mathlib.Core.List.{List, _++_, append-assoc, append-nil}
 use Prim.Native.Nat.{ℕ, suc, _+_, _-_, _*_, _≤_, _<_}
 use native.Mathlib.Omega.{arith}
 use lib.ListN.{length, take, replicate, length-take}
@@ -14,7 +14,8 @@ use Rattle.table.specs.rules.Lent.{result}
 use Rattle.schedule.specs.declared.Made.{Made}
 use Rattle.schedule.specs.declared.Run.{Run}
 use Rattle.schedule.specs.rules.Format.{settingsIn, clientsIn, countIn, placeOf, callIn, callsFrom, callsIn, fileCause, lentFor}
-use Rattle.schedule.specs.rules.Log.{decimal, spaced, kindText, headerLine, line, lines, refusedLine, logOfCalls, logOf, room, Logged}
+use Rattle.schedule.specs.rules.Log.{kindText, headerLine, line, lines, refusedLine, logOfCalls, logOf, room, Logged}
+use Rattle.schedule.specs.rules.Text.{text, decimal, spaced}
 use Rattle.schedule.specs.laws.Appended.{Appended}
 use Rattle.schedule.specs.laws.WellFormed.{WellFormed}
 use Rattle.schedule.specs.laws.Running.{stateOf, recordIn, freshRun, fresh-state}
@@ -23,7 +24,7 @@ use Rattle.schedule.specs.laws.Running.{stateOf, recordIn, freshRun, fre
 
 -- with the client's number in the call's place
 pub line-of : (k : ℕ) (c : Call) (client number : ℕ) (r : Record) → clientOf c ≡ client
-    → decimal k ++ (32 ∷ (kindText c ++ (spaced client ++ (spaced number ++ (spaced (r .phase) ++ (spaced (r .left) ++ (spaced (r .right) ++ (10 ∷ [])))))))) ≡ line k c number r
+    → decimal k ++ (text " " ++ (kindText c ++ (spaced client ++ (spaced number ++ (spaced (r .phase) ++ (spaced (r .left) ++ (spaced (r .right) ++ text "\n"))))))) ≡ line k c number r
 unfolding line
 line-of k c client number r e = rw e
 

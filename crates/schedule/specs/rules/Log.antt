@@ -1,58 +1,34 @@
 -- To be believed: document 01, section "The schedule program": the log of a schedule, byte by byte (ASCII). Assumes nothing.
 use mathlib.Core.Path.{_≡_}
 use mathlib.Core.List.{List, [], _∷_, _++_}
-use Prim.Native.Nat.{ℕ, zero, suc, _+_, _/_, _%_, _≤_, _<_}
-use lib.Dec.{eqb, ltb}
+use Prim.Native.Nat.{ℕ, suc, _≤_, _<_}
+use lib.Dec.{eqb}
 use lib.ListN.{length, take}
 use Rattle.base.specs.rules.Choice.{choose}
 use Rattle.lock.specs.declared.Record.{Record}
 use Rattle.lock.specs.declared.Settings.{Settings}
 use Rattle.lock.specs.rules.Table.{State, Call, request, step, release, cancel, clientOf, recordAt, call, opening}
 use Rattle.schedule.specs.rules.Format.{settingsIn, clientsIn, callsIn, fileCause, lentFor}
-
--- a number in decimal digits, the highest first, with no zero in front. The first argument bounds the digits, and n is enough.
-unfoldable pub decimalWithin : ℕ → ℕ → List ℕ
-decimalWithin zero n = []
-decimalWithin (suc steps) n = choose (ltb n 10) ((48 + n) ∷ []) (decimalWithin steps (n / 10) ++ ((48 + n % 10) ∷ []))
-
-unfoldable pub decimal : ℕ → List ℕ
-decimal n = decimalWithin (suc n) n
-
--- a space and a number
-abbrev pub spaced : ℕ → List ℕ
-spaced n = 32 ∷ decimal n
-
--- "request", "step", "release", "cancel"
-unfoldable pub kindText : Call → List ℕ
-kindText (request c l r) = 114 ∷ 101 ∷ 113 ∷ 117 ∷ 101 ∷ 115 ∷ 116 ∷ []
-kindText (step c t) = 115 ∷ 116 ∷ 101 ∷ 112 ∷ []
-kindText (release c) = 114 ∷ 101 ∷ 108 ∷ 101 ∷ 97 ∷ 115 ∷ 101 ∷ []
-kindText (cancel c) = 99 ∷ 97 ∷ 110 ∷ 99 ∷ 101 ∷ 108 ∷ []
+use Rattle.schedule.specs.rules.Text.{text, decimal, spaced}
 
 -- ---- "The header line gives H, m, T and the clients, no other setting.": tree 2 m 1 wait 5 clients 2
 
-abbrev pub treeText : List ℕ
-treeText = 116 ∷ 114 ∷ 101 ∷ 101 ∷ []
-
-abbrev pub distanceText : List ℕ
-distanceText = 32 ∷ 109 ∷ []
-
-abbrev pub waitText : List ℕ
-waitText = 32 ∷ 119 ∷ 97 ∷ 105 ∷ 116 ∷ []
-
-abbrev pub clientsText : List ℕ
-clientsText = 32 ∷ 99 ∷ 108 ∷ 105 ∷ 101 ∷ 110 ∷ 116 ∷ 115 ∷ []
-
 unfoldable pub headerLine : Settings → ℕ → List ℕ
 headerLine s clients =
-    treeText ++ (spaced (s .levels) ++ (distanceText ++ (spaced (s .distance) ++ (waitText ++ (spaced (s .wait) ++ (clientsText ++ (spaced clients ++ (10 ∷ []))))))))
+    text "tree" ++ (spaced (s .levels) ++ (text " m" ++ (spaced (s .distance) ++ (text " wait" ++ (spaced (s .wait) ++ (text " clients" ++ (spaced clients ++ text "\n")))))))
 
 -- ---- "call number, kind, client, number (0 accepted), phase after, left and right edge after (zeros if idle or refused by 4)"
+
+unfoldable pub kindText : Call → List ℕ
+kindText (request c l r) = text "request"
+kindText (step c t) = text "step"
+kindText (release c) = text "release"
+kindText (cancel c) = text "cancel"
 
 -- call k, its number, and its client's record after it
 unfoldable pub line : ℕ → Call → ℕ → Record → List ℕ
 line k c number r =
-    decimal k ++ (32 ∷ (kindText c ++ (spaced (clientOf c) ++ (spaced number ++ (spaced (r .phase) ++ (spaced (r .left) ++ (spaced (r .right) ++ (10 ∷ []))))))))
+    decimal k ++ (text " " ++ (kindText c ++ (spaced (clientOf c) ++ (spaced number ++ (spaced (r .phase) ++ (spaced (r .left) ++ (spaced (r .right) ++ text "\n")))))))
 
 -- "After it each call has a line"; the calls from call k on, from the state st
 unfoldable pub lines : Settings → State → ℕ → List Call → List ℕ
@@ -62,7 +38,7 @@ lines s st k (c ∷ cs) = line k c (call s st c .number) (recordAt (call s st c 
 -- ---- "refused 10", "refused 11", "A refused opening prints its number likewise. Each is then the only line."
 
 unfoldable pub refusedLine : ℕ → List ℕ
-refusedLine number = 114 ∷ 101 ∷ 102 ∷ 117 ∷ 115 ∷ 101 ∷ 100 ∷ (spaced number ++ (10 ∷ []))
+refusedLine number = text "refused" ++ (spaced number ++ text "\n")
 
 unfoldable pub logOfCalls : Settings → ℕ → List Call → List ℕ
 logOfCalls s clients calls =
