@@ -11,8 +11,7 @@
 -- the borrow stands open, the record that it gives is stored, and the borrow is closed. The words go to the callee for good: of both slices only the last
 -- list is had at exit (`gave-slice`). Assumes nothing.
 use mathlib.Core.Path.{_≡_, refl, sym, _∙_, ap}
-use Prim.Native.Nat.{ℕ, _<_, _^_, _*_}
-use native.Mathlib.Omega.{arith}
+use Prim.Native.Nat.{ℕ, _<_}
 use mathlib.Core.Bool.{not}
 use mathlib.Core.List.{[], _∷_, List}
 use lib.Dec.{T, ltb}
