@@ -163,7 +163,7 @@ module _ (s : Settings) (r : Record) (last : ℕ) (rd : Ready s r last) (v : Apa
         unnoticed = λ n i _. by-lt g i
             (λ l. ap (λ (m : ℕ). sumTo m (λ j. outstanding s n q i j)) (noticed-alike i ∙ by-lt (r .current) i
             (λ o. noticed-none s r i o)
-            (λ o. noticed-begun s r i o ∙ notices-current r i s (omega arith) ∙ rd .no-notices (omega (arith, grip-current r i (omega arith), no-grip i l)))))
+            (λ o. noticed-begun s r i o ∙ notices-current s r i (omega arith) ∙ rd .no-notices (omega (arith, grip-current r i (omega arith), no-grip i l)))))
             (λ l. to-zero _ (noticed s q i) (λ j o. out-returned s n q i j
             (by-eq i g
             (λ h. omega (arith, noticed-alike i, noticed-begun s r i (omega (arith, begun)), ap (returned s q) h, is, ap (noticesOf s r) h))
@@ -176,7 +176,7 @@ module _ (s : Settings) (r : Record) (last : ℕ) (rd : Ready s r last) (v : Apa
   pub word-returned-same : Same s q (wordReturned s r)
   word-returned-same =
       by-lt (r .place) (noticesOf s r g)
-      (λ b. rw (word-more r s b) (subst (λ (n : ℕ). Same s q (withPlace n r)) (plus-one (r .place)) (alike s q q refl refl refl (λ _ _. refl) (λ _ _. refl) (λ _ _. refl) (λ _ _ _. refl))))
-      (λ b. rw (word-last r s b) (by-eq (gripOf r (g + 1)) 0
+      (λ b. rw (word-more s r b) (subst (λ (n : ℕ). Same s q (withPlace n r)) (plus-one (r .place)) (alike s q q refl refl refl (λ _ _. refl) (λ _ _. refl) (λ _ _. refl) (λ _ _ _. refl))))
+      (λ b. rw (word-last s r b) (by-eq (gripOf r (g + 1)) 0
       (λ z. rw (piece-last r z) (empty-same s q (idleWith (r .outcome)) (rest-empty b (ap (gripOf r) (plus-one g) ∙ z)) (fresh-empty s (idleWith (r .outcome)) (λ h. omega arith) refl refl refl)))
       (λ d. rw (piece-next r d) (subst (λ (n : ℕ). Same s q (withPlace 0 (withGiving n r))) (plus-one g) (next-same b)))))

@@ -136,10 +136,10 @@ module _ (s : Settings) (r : Record) (last : ℕ) (v : Live s r last) where
       by-lt (r .current) i
       (λ q. omega (arith, noticed-none s r i q))
       (λ q. by-lt i (r .current)
-      (λ l. omega (arith, noticed-begun s r i q, notices-before r i s l))
+      (λ l. omega (arith, noticed-begun s r i q, notices-before s r i l))
       (λ l. let e : i ≡ r .current = omega arith in
       let f : length (notifyList (s .distance) (pieceAt r i)) ≡ length (notifyList (s .distance) (currentPiece r)) = ap (λ (j : ℕ). length (notifyList (s .distance) (pieceAt r j))) e in
-      omega (arith, noticed-begun s r i q, notices-current r i s l, v .listed)))
+      omega (arith, noticed-begun s r i q, notices-current s r i l, v .listed)))
 
 pub fit-past : (s : Settings) (r : Record) (last : ℕ) → Fit s r last → r .t1 ≤ last
 fit-past s r last v = ⊎-elim (λ e. omega (arith, ap (λ x. x .t1) e)) (λ l. l .t1-past) v

@@ -65,15 +65,15 @@ module _ (s : Settings) (r q : Record) (k : Kin r q) (c : q .current ≡ r .curr
   notices-else : (i : ℕ) → i ≢ r .current → noticed s q i ≡ noticed s r i
   notices-else i d =
       by-lt i (r .current)
-      (λ b. noticed-begun s q i (omega arith) ∙ notices-before q i s (omega arith) ∙ ap (λ (n : ℕ). length (notifyList (s .distance) n)) (kin-piece i)
-      ∙ sym (noticed-begun s r i (omega arith) ∙ notices-before r i s b))
+      (λ b. noticed-begun s q i (omega arith) ∙ notices-before s q i (omega arith) ∙ ap (λ (n : ℕ). length (notifyList (s .distance) n)) (kin-piece i)
+      ∙ sym (noticed-begun s r i (omega arith) ∙ notices-before s r i b))
       (λ b. noticed-none s q i (omega arith) ∙ sym (noticed-none s r i (omega arith)))
 
   notices-are : (i : ℕ) → i ≡ r .current → noticed s q i ≡ q .notices
-  notices-are i f = noticed-begun s q i (omega arith) ∙ notices-current q i s (omega arith)
+  notices-are i f = noticed-begun s q i (omega arith) ∙ notices-current s q i (omega arith)
 
   notices-were : (i : ℕ) → i ≡ r .current → noticed s r i ≡ r .notices
-  notices-were i f = noticed-begun s r i (omega arith) ∙ notices-current r i s (omega arith)
+  notices-were i f = noticed-begun s r i (omega arith) ∙ notices-current s r i (omega arith)
 
   notices-same : q .notices ≡ r .notices → (i : ℕ) → noticed s q i ≡ noticed s r i
   notices-same e i = by-eq i (r .current) (λ f. notices-are i f ∙ e ∙ sym (notices-were i f)) (notices-else i)
@@ -178,7 +178,7 @@ unfolding sumTo
 fresh-empty s r d c g n = record {
   ungripped = λ i _. gripped-kept s r i (returned-none s r i d) ∙ by-eq i 0 (λ e. grip-current r i (e ∙ sym c) ∙ g) (λ e. grip-after r i (omega arith));
   unnoticed = λ m i _. ap (λ (l : ℕ). sumTo l (λ j. outstanding s m r i j))
-      (by-eq i 0 (λ e. noticed-begun s r i (omega arith) ∙ notices-current r i s (omega arith) ∙ n) (λ e. noticed-none s r i (omega arith)));
+      (by-eq i 0 (λ e. noticed-begun s r i (omega arith) ∙ notices-current s r i (omega arith) ∙ n) (λ e. noticed-none s r i (omega arith)));
 }
 
 -- ---- taking a piece: begun next, the record owns what it owned
@@ -196,10 +196,10 @@ begin-same s r q k c g n h all z y =
     ∙ sym (gripped-kept s r i (z i)) in
     let notes : (i : ℕ) → noticed s q i ≡ noticed s r i = λ i.
     by-lt (r .current) i
-    (λ b. by-eq i (q .current) (λ e. noticed-begun s q i (omega arith) ∙ notices-current q i s (omega arith) ∙ n) (λ f. noticed-none s q i (omega arith)) ∙ sym (noticed-none s r i b))
-    (λ b. noticed-begun s q i (omega arith) ∙ notices-before q i s (omega arith) ∙ ap (λ (m : ℕ). length (notifyList (s .distance) m)) (piece i)
+    (λ b. by-eq i (q .current) (λ e. noticed-begun s q i (omega arith) ∙ notices-current s q i (omega arith) ∙ n) (λ f. noticed-none s q i (omega arith)) ∙ sym (noticed-none s r i b))
+    (λ b. noticed-begun s q i (omega arith) ∙ notices-before s q i (omega arith) ∙ ap (λ (m : ℕ). length (notifyList (s .distance) m)) (piece i)
     ∙ sym (noticed-begun s r i b
-    ∙ by-lt i (r .current) (λ l. notices-before r i s l) (λ l. notices-current r i s l ∙ all ∙ ap (λ (j : ℕ). length (notifyList (s .distance) (pieceAt r j))) (let e : r .current ≡ i = omega arith in e)))) in
+    ∙ by-lt i (r .current) (λ l. notices-before s r i l) (λ l. notices-current s r i l ∙ all ∙ ap (λ (j : ℕ). length (notifyList (s .distance) (pieceAt r j))) (let e : r .current ≡ i = omega arith in e)))) in
     alike s r q (k .pieces-same) (k .left-same) (k .right-same) (λ i _. grip i) (λ i _. notes i) (λ i _. y i ∙ sym (z i))
     (λ m o t. absurd (t (sym (turn-with-ticket s q m
     (λ j _ e. by-lt j (q .current)

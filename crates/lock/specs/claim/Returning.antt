@@ -119,10 +119,10 @@ module _ (s : Settings) (rs : List Record) (r : Record) (last now : ℕ) (later 
   pub inner-keeps : r .place ≡ 0 → level n ≢ s .levels → Keeps s rs r n w (returnInner s r w .word) (returnInner s r w .next) now
   inner-keeps z inner =
       by-eq (gripOf r (r .giving)) 3
-      (λ f. rw (inner-occ r s w f) (keeps (returnOcc w) (freed inner (grips z 3 f) refl)))
+      (λ f. rw (inner-occ s r w f) (keeps (returnOcc w) (freed inner (grips z 3 f) refl)))
       (λ d. by-eq (gripOf r (r .giving)) 2
-      (λ f. rw (inner-turn r s w f) (keeps (addTcnt 1 w) (passed inner (grips z 2 f) refl)))
-      (λ f. rw (inner-ticket r s w d f) (turn-keeps z inner (omega (arith, inner-most, rd .giving-gripped e)))))
+      (λ f. rw (inner-turn s r w f) (keeps (addTcnt 1 w) (passed inner (grips z 2 f) refl)))
+      (λ f. rw (inner-ticket s r w d f) (turn-keeps z inner (omega (arith, inner-most, rd .giving-gripped e)))))
 
   -- ---- a notice
 
@@ -168,7 +168,7 @@ module _ (s : Settings) (rs : List Record) (r : Record) (last now : ℕ) (later 
       (λ z. let n = givenPiece r in
       subst (λ (y : ℕ). Owed y (giveBack s r (wordOf y))) (sym (touched-own s r z))
       (by-eq (level n) (s .levels)
-      (λ leaf. rw (own-leaf r s (wordOf n) z (leaf-test s n leaf)) (bits-keeps s rs r last now later g rd lv (wordOf n) e z leaf))
-      (λ inner. rw (own-inner r s (wordOf n) z (inner-test s n inner)) (λ _. inner-keeps s rs r last now later g rd lv (wordOf n) e z inner))))
+      (λ leaf. rw (own-leaf s r (wordOf n) z (leaf-test s n leaf)) (bits-keeps s rs r last now later g rd lv (wordOf n) e z leaf))
+      (λ inner. rw (own-inner s r (wordOf n) z (inner-test s n inner)) (λ _. inner-keeps s rs r last now later g rd lv (wordOf n) e z inner))))
       (λ d. subst (λ (y : ℕ). Owed y (giveBack s r (wordOf y))) (sym (touched-notice s r d))
-      (rw (own-notice r s (wordOf (getD (notifyList (s .distance) (givenPiece r)) (r .place - 1) 0)) d) (λ _. notice-keeps s rs r last now later g rd lv _ e d)))
+      (rw (own-notice s r (wordOf (getD (notifyList (s .distance) (givenPiece r)) (r .place - 1) 0)) d) (λ _. notice-keeps s rs r last now later g rd lv _ e d)))

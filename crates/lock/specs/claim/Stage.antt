@@ -153,8 +153,8 @@ module _ (s : Settings) (r : Record) (last : ℕ) where
         let c : i < length (pieces r) = omega (arith, begun, v .exists) in
         let y = bounded-piece s r (live-apart s r last v) g (live-noticed s r last v) i c in
         let all : noticed s r i ≡ length (notifyList m p) = noticed-begun s r i begun ∙ ⊎-elim
-        (λ z. notices-before r i s (z .0))
-        (λ z. notices-current r i s (omega (arith, z .0)) ∙ v .all-noticed (omega (arith, z .1)) (omega (arith, z .1)) ∙ ap (λ (j : ℕ). length (notifyList m (pieceAt r j))) (sym (z .0)))
+        (λ z. notices-before s r i (z .0))
+        (λ z. notices-current s r i (omega (arith, z .0)) ∙ v .all-noticed (omega (arith, z .1)) (omega (arith, z .1)) ∙ ap (λ (j : ℕ). length (notifyList m (pieceAt r j))) (sym (z .0)))
         (stage-cases r i (omega arith) b) in
         let none : returned s r i ≡ 0 = returned-none s r i (⊎-elim (λ z. z .1) (λ z e. omega (arith, z .1)) (stage-cases r i (omega arith) b)) in
         let n = notifyNode m p k in

@@ -52,10 +52,11 @@ module _ (r : Record) where
     unfolding gripOf
     grip-after b = choose-ge i (r .current) 3 _ (omega arith) ∙ choose-ne i (r .current) (r .grip) 0 (λ e. omega arith)
 
-    pub notices-before : (s : Settings) → i < r .current → noticesOf s r i ≡ length (notifyList (s .distance) (pieceAt r i))
-    unfolding noticesOf
-    notices-before s b = choose-lt i (r .current) _ (r .notices) b
+module _ (s : Settings) (r : Record) (i : ℕ) where
+  pub notices-before : i < r .current → noticesOf s r i ≡ length (notifyList (s .distance) (pieceAt r i))
+  unfolding noticesOf
+  notices-before b = choose-lt i (r .current) _ (r .notices) b
 
-    pub notices-current : (s : Settings) → r .current ≤ i → noticesOf s r i ≡ r .notices
-    unfolding noticesOf
-    notices-current s b = choose-ge i (r .current) _ (r .notices) b
+  pub notices-current : r .current ≤ i → noticesOf s r i ≡ r .notices
+  unfolding noticesOf
+  notices-current b = choose-ge i (r .current) _ (r .notices) b

@@ -80,7 +80,7 @@ clipped h l r n a b m e =
 pub given-notices : (s : Settings) (r : Record) → Placed s r → noticesOf s r (r .giving) ≤ length (notifyList (s .distance) (givenPiece r))
 given-notices s r p =
     by-lt (r .giving) (r .current)
-    (λ b. omega (arith, notices-before r (r .giving) s b))
+    (λ b. omega (arith, notices-before s r (r .giving) b))
     (λ b. let e : r .giving ≡ r .current = omega (arith, p .giving-begun) in
     let f : length (notifyList (s .distance) (givenPiece r)) ≡ length (notifyList (s .distance) (currentPiece r)) = ap (λ (i : ℕ). length (notifyList (s .distance) (pieceAt r i))) e in
-    omega (arith, notices-current r (r .giving) s b, p .noticed))
+    omega (arith, notices-current s r (r .giving) b, p .noticed))

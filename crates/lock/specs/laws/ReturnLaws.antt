@@ -35,56 +35,56 @@ module _ (r : Record) where
   unfolding turnReturned
   turn-not-mine w d = choose-ne (tcnt w) (r .ticket) _ r d
 
-  module _ (s : Settings) where
-    pub word-more : r .place < noticesOf s r (r .giving) → wordReturned s r ≡ withPlace (r .place + 1) r
-    unfolding wordReturned
-    word-more b = choose-lt (r .place) _ _ _ b ∙ ap (λ (p : ℕ). withPlace p r) (let e : suc (r .place) ≡ r .place + 1 = omega arith in e)
+module _ (s : Settings) (r : Record) where
+  pub word-more : r .place < noticesOf s r (r .giving) → wordReturned s r ≡ withPlace (r .place + 1) r
+  unfolding wordReturned
+  word-more b = choose-lt (r .place) _ _ _ b ∙ ap (λ (p : ℕ). withPlace p r) (let e : suc (r .place) ≡ r .place + 1 = omega arith in e)
 
-    pub word-last : noticesOf s r (r .giving) ≤ r .place → wordReturned s r ≡ pieceReturned r
-    unfolding wordReturned
-    word-last b = choose-ge (r .place) _ _ _ b
+  pub word-last : noticesOf s r (r .giving) ≤ r .place → wordReturned s r ≡ pieceReturned r
+  unfolding wordReturned
+  word-last b = choose-ge (r .place) _ _ _ b
 
-    module _ (w : ℕ) where
-      abbrev swap : Swap
-      swap = giveBits (wanted s r (givenPiece r)) w
+  module _ (w : ℕ) where
+    abbrev swap : Swap
+    swap = giveBits (wanted s r (givenPiece r)) w
 
-      pub bits-returned : (x : Swap) → x ≡ giveBits (wanted s r (givenPiece r)) w → x .done ≡ true → returnBits s r w ≡ leaves (x .word) (wordReturned s r)
-      unfolding returnBits choose
-      bits-returned x e d =
-          ap (λ (b : Bool). choose b (leaves (swap .word) (wordReturned s r)) (record { number = 9; word = w; next = r })) (sym (ap (λ y. y .done) e) ∙ d)
-          ∙ ap (λ (y : Swap). leaves (y .word) (wordReturned s r)) (sym e)
+    pub bits-returned : (x : Swap) → x ≡ giveBits (wanted s r (givenPiece r)) w → x .done ≡ true → returnBits s r w ≡ leaves (x .word) (wordReturned s r)
+    unfolding returnBits choose
+    bits-returned x e d =
+        ap (λ (b : Bool). choose b (leaves (swap .word) (wordReturned s r)) (record { number = 9; word = w; next = r })) (sym (ap (λ y. y .done) e) ∙ d)
+        ∙ ap (λ (y : Swap). leaves (y .word) (wordReturned s r)) (sym e)
 
-      pub bits-clear : (x : Swap) → x ≡ giveBits (wanted s r (givenPiece r)) w → x .done ≡ false → returnBits s r w ≡ record { number = 9; word = w; next = r }
-      unfolding returnBits choose
-      bits-clear x e d = ap (λ (b : Bool). choose b (leaves (swap .word) (wordReturned s r)) (record { number = 9; word = w; next = r })) (sym (ap (λ y. y .done) e) ∙ d)
+    pub bits-clear : (x : Swap) → x ≡ giveBits (wanted s r (givenPiece r)) w → x .done ≡ false → returnBits s r w ≡ record { number = 9; word = w; next = r }
+    unfolding returnBits choose
+    bits-clear x e d = ap (λ (b : Bool). choose b (leaves (swap .word) (wordReturned s r)) (record { number = 9; word = w; next = r })) (sym (ap (λ y. y .done) e) ∙ d)
 
-      pub inner-occ : gripOf r (r .giving) ≡ 3 → returnInner s r w ≡ leaves (returnOcc w) (wordReturned s r)
-      unfolding returnInner
-      inner-occ e = choose-eq (gripOf r (r .giving)) 3 _ _ e
+    pub inner-occ : gripOf r (r .giving) ≡ 3 → returnInner s r w ≡ leaves (returnOcc w) (wordReturned s r)
+    unfolding returnInner
+    inner-occ e = choose-eq (gripOf r (r .giving)) 3 _ _ e
 
-      pub inner-turn : gripOf r (r .giving) ≡ 2 → returnInner s r w ≡ leaves (addTcnt 1 w) (wordReturned s r)
-      unfolding returnInner
-      inner-turn e = choose-ne (gripOf r (r .giving)) 3 _ _ (λ f. omega arith) ∙ choose-eq (gripOf r (r .giving)) 2 _ _ e
+    pub inner-turn : gripOf r (r .giving) ≡ 2 → returnInner s r w ≡ leaves (addTcnt 1 w) (wordReturned s r)
+    unfolding returnInner
+    inner-turn e = choose-ne (gripOf r (r .giving)) 3 _ _ (λ f. omega arith) ∙ choose-eq (gripOf r (r .giving)) 2 _ _ e
 
-      pub inner-ticket : (gripOf r (r .giving) ≡ 3 → ⊥) → (gripOf r (r .giving) ≡ 2 → ⊥) → returnInner s r w ≡ leaves w (turnReturned r w)
-      unfolding returnInner
-      inner-ticket d e = choose-ne (gripOf r (r .giving)) 3 _ _ d ∙ choose-ne (gripOf r (r .giving)) 2 _ _ e
+    pub inner-ticket : (gripOf r (r .giving) ≡ 3 → ⊥) → (gripOf r (r .giving) ≡ 2 → ⊥) → returnInner s r w ≡ leaves w (turnReturned r w)
+    unfolding returnInner
+    inner-ticket d e = choose-ne (gripOf r (r .giving)) 3 _ _ d ∙ choose-ne (gripOf r (r .giving)) 2 _ _ e
 
-      own-word : r .place ≡ 0 → giveBack s r w ≡ choose (isLeaf s (givenPiece r)) (returnBits s r w) (returnInner s r w)
-      unfolding giveBack
-      own-word e = choose-eq (r .place) 0 _ _ e
+    own-word : r .place ≡ 0 → giveBack s r w ≡ choose (isLeaf s (givenPiece r)) (returnBits s r w) (returnInner s r w)
+    unfolding giveBack
+    own-word e = choose-eq (r .place) 0 _ _ e
 
-      pub own-leaf : r .place ≡ 0 → isLeaf s (givenPiece r) ≡ true → giveBack s r w ≡ returnBits s r w
-      unfolding choose
-      own-leaf e f = own-word e ∙ ap (λ (b : Bool). choose b (returnBits s r w) (returnInner s r w)) f
+    pub own-leaf : r .place ≡ 0 → isLeaf s (givenPiece r) ≡ true → giveBack s r w ≡ returnBits s r w
+    unfolding choose
+    own-leaf e f = own-word e ∙ ap (λ (b : Bool). choose b (returnBits s r w) (returnInner s r w)) f
 
-      pub own-inner : r .place ≡ 0 → isLeaf s (givenPiece r) ≡ false → giveBack s r w ≡ returnInner s r w
-      unfolding choose
-      own-inner e f = own-word e ∙ ap (λ (b : Bool). choose b (returnBits s r w) (returnInner s r w)) f
+    pub own-inner : r .place ≡ 0 → isLeaf s (givenPiece r) ≡ false → giveBack s r w ≡ returnInner s r w
+    unfolding choose
+    own-inner e f = own-word e ∙ ap (λ (b : Bool). choose b (returnBits s r w) (returnInner s r w)) f
 
-      pub own-notice : (r .place ≡ 0 → ⊥) → giveBack s r w ≡ leaves (addDcnt 1 w) (wordReturned s r)
-      unfolding giveBack
-      own-notice d = choose-ne (r .place) 0 _ _ d
+    pub own-notice : (r .place ≡ 0 → ⊥) → giveBack s r w ≡ leaves (addDcnt 1 w) (wordReturned s r)
+    unfolding giveBack
+    own-notice d = choose-ne (r .place) 0 _ _ d
 
 pub leaf-level : (s : Settings) (n : ℕ) → isLeaf s n ≡ true → level n ≡ s .levels
 unfolding isLeaf

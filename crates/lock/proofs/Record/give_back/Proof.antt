@@ -42,7 +42,7 @@ returns c =
     let q = c .before .before .before .before .before .before .pre in
     let g : a .self .giving < length (pieces (a .self)) = omega (arith, q .1 .giving-begun, q .1 .exists) in
     let p = pieced (a .settings) (a .self) (q .0) (q .1) in
-    c .return-bits .ensures ∙ sym (own-leaf (a .self) (a .settings) (a .found) (c .before .before .before .before .if1 .taken) (ap (isLeaf (a .settings)) (sym (c .before .before .before .given-piece .ensures)) ∙ sym (c .before .before .is-leaf .ensures) ∙ c .before .if2 .taken))
+    c .return-bits .ensures ∙ sym (own-leaf (a .settings) (a .self) (a .found) (c .before .before .before .before .if1 .taken) (ap (isLeaf (a .settings)) (sym (c .before .before .before .given-piece .ensures)) ∙ sym (c .before .before .is-leaf .ensures) ∙ c .before .if2 .taken))
 
 return-inner-requires : tie.Need-return-inner-requires
 return-inner-requires c κs =
@@ -58,7 +58,7 @@ returns-2 c =
     let q = c .before .before .before .before .before .before .pre in
     let g : a .self .giving < length (pieces (a .self)) = omega (arith, q .1 .giving-begun, q .1 .exists) in
     let p = pieced (a .settings) (a .self) (q .0) (q .1) in
-    c .return-inner .ensures ∙ sym (own-inner (a .self) (a .settings) (a .found) (c .before .before .before .before .if1 .taken) (ap (isLeaf (a .settings)) (sym (c .before .before .before .given-piece .ensures)) ∙ sym (c .before .before .is-leaf .ensures) ∙ c .before .if2 .left))
+    c .return-inner .ensures ∙ sym (own-inner (a .settings) (a .self) (a .found) (c .before .before .before .before .if1 .taken) (ap (isLeaf (a .settings)) (sym (c .before .before .before .given-piece .ensures)) ∙ sym (c .before .before .is-leaf .ensures) ∙ c .before .if2 .left))
 
 add-dcnt-requires : tie.Need-add-dcnt-requires
 add-dcnt-requires c κs = search needs
@@ -80,7 +80,7 @@ returns-3 c =
     let q = c .before .before .before .before .before .pre in
     let g : a .self .giving < length (pieces (a .self)) = omega (arith, q .1 .giving-begun, q .1 .exists) in
     let p = pieced (a .settings) (a .self) (q .0) (q .1) in
-    c .leaves .ensures ∙ ap₂ leaves (c .before .before .add-dcnt .ensures) (c .before .word-returned .ensures) ∙ sym (own-notice (a .self) (a .settings) (a .found) (c .before .before .before .if1 .left))
+    c .leaves .ensures ∙ ap₂ leaves (c .before .before .add-dcnt .ensures) (c .before .word-returned .ensures) ∙ sym (own-notice (a .settings) (a .self) (a .found) (c .before .before .before .if1 .left))
 
 pub give-back-spec : {M : Type 1} → statement M
 give-back-spec =

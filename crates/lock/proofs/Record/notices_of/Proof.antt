@@ -19,11 +19,11 @@ notify-count-requires c κs =
 returns : tie.Need-returns
 returns c =
     let a = c .before .before .before .before .args in
-    c .notify-count .ensures ∙ ap (λ (n : ℕ). length (notifyList (a .settings .distance) n)) (c .before .piece-at .ensures) ∙ sym (notices-before (a .self) (a .i) (a .settings) (c .before .before .if1 .taken))
+    c .notify-count .ensures ∙ ap (λ (n : ℕ). length (notifyList (a .settings .distance) n)) (c .before .piece-at .ensures) ∙ sym (notices-before (a .settings) (a .self) (a .i) (c .before .before .if1 .taken))
 
 returns-2 : tie.Need-returns-2
 returns-2 c =
-    sym (notices-current (c .before .before .args .self) (c .before .before .args .i) (c .before .before .args .settings) (c .if1 .left))
+    sym (notices-current (c .before .before .args .settings) (c .before .before .args .self) (c .before .before .args .i) (c .if1 .left))
 
 pub notices-of-spec : {M : Type 1} → statement M
 notices-of-spec = tie.close (tie.spec piece-at-requires notify-count-requires returns returns-2)

@@ -24,13 +24,13 @@ returns : tie.Need-returns
 returns c =
     let s = c .before .before .before .before .before .args .settings in
     let r = c .before .before .before .before .before .args .self in
-    ap (λ (n : ℕ). ltb n (r .place)) (c .before .notify-count .ensures ∙ ap (λ (n : ℕ). length (notifyList (s .distance) n)) (c .before .before .piece-at .ensures) ∙ sym (notices-before r (r .giving) s (c .before .before .before .if1 .taken)))
+    ap (λ (n : ℕ). ltb n (r .place)) (c .before .notify-count .ensures ∙ ap (λ (n : ℕ). length (notifyList (s .distance) n)) (c .before .before .piece-at .ensures) ∙ sym (notices-before s r (r .giving) (c .before .before .before .if1 .taken)))
 
 returns-2 : tie.Need-returns-2
 returns-2 c =
     let s = c .before .before .before .args .settings in
     let r = c .before .before .before .args .self in
-    ap (λ (n : ℕ). ltb n (r .place)) (sym (notices-current r (r .giving) s (c .before .if1 .left)))
+    ap (λ (n : ℕ). ltb n (r .place)) (sym (notices-current s r (r .giving) (c .before .if1 .left)))
 
 pub past-notices-spec : {M : Type 1} → statement M
 past-notices-spec = tie.close (tie.spec piece-at-requires notify-count-requires returns returns-2)

@@ -36,13 +36,13 @@ returns : tie.Need-returns
 returns c =
     let a = c .before .before .before .before .before .before .args in
     let e = c .before .before .before .give-bits .ensures ∙ ap (λ (b : ℕ). giveBits b (a .found)) (c .before .before .before .before .wanted .ensures ∙ ap (wanted (a .settings) (a .self)) (c .before .before .before .before .before .given-piece .ensures)) in
-    c .leaves .ensures ∙ ap (leaves (c .before .before .before .give-bits .result .word)) (c .before .word-returned .ensures) ∙ sym (bits-returned (a .self) (a .settings) (a .found) (c .before .before .before .give-bits .result) e (c .before .before .if1 .taken))
+    c .leaves .ensures ∙ ap (leaves (c .before .before .before .give-bits .result .word)) (c .before .word-returned .ensures) ∙ sym (bits-returned (a .settings) (a .self) (a .found) (c .before .before .before .give-bits .result) e (c .before .before .if1 .taken))
 
 returns-2 : tie.Need-returns-2
 returns-2 c =
     let a = c .before .before .before .before .args in
     let e = c .before .give-bits .ensures ∙ ap (λ (b : ℕ). giveBits b (a .found)) (c .before .before .wanted .ensures ∙ ap (wanted (a .settings) (a .self)) (c .before .before .before .given-piece .ensures)) in
-    sym (bits-clear (a .self) (a .settings) (a .found) (c .before .give-bits .result) e (c .if1 .left))
+    sym (bits-clear (a .settings) (a .self) (a .found) (c .before .give-bits .result) e (c .if1 .left))
 
 pub return-bits-spec : {M : Type 1} → statement M
 return-bits-spec =

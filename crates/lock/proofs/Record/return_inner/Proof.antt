@@ -22,7 +22,7 @@ leaves-requires c κs = search needs
 returns : tie.Need-returns
 returns c =
     let a = c .before .before .before .before .before .args in
-    c .leaves .ensures ∙ ap₂ leaves (c .before .before .return-occ .ensures) (c .before .word-returned .ensures) ∙ sym (inner-occ (a .self) (a .settings) (a .found) (sym (c .before .before .before .before .grip-of .ensures) ∙ c .before .before .before .if1 .taken))
+    c .leaves .ensures ∙ ap₂ leaves (c .before .before .return-occ .ensures) (c .before .word-returned .ensures) ∙ sym (inner-occ (a .settings) (a .self) (a .found) (sym (c .before .before .before .before .grip-of .ensures) ∙ c .before .before .before .if1 .taken))
 
 add-tcnt-requires : tie.Need-add-tcnt-requires
 add-tcnt-requires c κs = search needs
@@ -36,7 +36,7 @@ leaves-requires-2 c κs = search needs
 returns-2 : tie.Need-returns-2
 returns-2 c =
     let a = c .before .before .before .before .before .before .args in
-    c .leaves2 .ensures ∙ ap₂ leaves (c .before .before .add-tcnt .ensures) (c .before .word-returned2 .ensures) ∙ sym (inner-turn (a .self) (a .settings) (a .found) (sym (c .before .before .before .before .before .grip-of .ensures) ∙ c .before .before .before .if2 .taken))
+    c .leaves2 .ensures ∙ ap₂ leaves (c .before .before .add-tcnt .ensures) (c .before .word-returned2 .ensures) ∙ sym (inner-turn (a .settings) (a .self) (a .found) (sym (c .before .before .before .before .before .grip-of .ensures) ∙ c .before .before .before .if2 .taken))
 
 turn-returned-requires : tie.Need-turn-returned-requires
 turn-returned-requires c κs = search needs
@@ -47,7 +47,7 @@ leaves-requires-3 c κs = search needs
 returns-3 : tie.Need-returns-3
 returns-3 c =
     let a = c .before .before .before .before .before .args in
-    c .leaves3 .ensures ∙ ap (leaves (a .found)) (c .before .turn-returned .ensures) ∙ sym (inner-ticket (a .self) (a .settings) (a .found) (λ e. c .before .before .before .if1 .left (c .before .before .before .before .grip-of .ensures ∙ e)) (λ e. c .before .before .if2 .left (c .before .before .before .before .grip-of .ensures ∙ e)))
+    c .leaves3 .ensures ∙ ap (leaves (a .found)) (c .before .turn-returned .ensures) ∙ sym (inner-ticket (a .settings) (a .self) (a .found) (λ e. c .before .before .before .if1 .left (c .before .before .before .before .grip-of .ensures ∙ e)) (λ e. c .before .before .if2 .left (c .before .before .before .before .grip-of .ensures ∙ e)))
 
 pub return-inner-spec : {M : Type 1} → statement M
 return-inner-spec =

@@ -20,7 +20,7 @@ add-self c = search needs
 returns : tie.Need-returns
 returns c =
     let a = c .before .before .before .before .args in
-    sym (word-more (a .self) (a .settings) (omega (arith, c .before .before .before .notices-of .ensures, c .before .if1 .taken)))
+    sym (word-more (a .settings) (a .self) (omega (arith, c .before .before .before .notices-of .ensures, c .before .if1 .taken)))
 
 piece-returned-requires : tie.Need-piece-returned-requires
 piece-returned-requires c κs = search needs
@@ -28,7 +28,7 @@ piece-returned-requires c κs = search needs
 returns-2 : tie.Need-returns-2
 returns-2 c =
     let a = c .before .before .before .before .args in
-    c .piece-returned .ensures ∙ sym (word-last (a .self) (a .settings) (omega (arith, c .before .before .before .notices-of .ensures, c .before .if1 .left)))
+    c .piece-returned .ensures ∙ sym (word-last (a .settings) (a .self) (omega (arith, c .before .before .before .notices-of .ensures, c .before .if1 .left)))
 
 pub word-returned-spec : {M : Type 1} → statement M
 word-returned-spec =
