@@ -140,11 +140,11 @@ def declared_structs():
 
 
 def declared_functions():
-    """Each of the six calls is declared, and is a function that the library exports."""
-    exported = set(re.findall(r'pub extern "C" fn (\w+)\(', source("table")))
+    """Every function that the library exports is declared, and no other. `table_act` is for programs in Rattle."""
+    exported = set(re.findall(r'pub extern "C" fn (\w+)\(', source("table"))) - {"table_act"}
     for place, path in enumerate(DECLARATIONS.values()):
         declared = set(re.findall(r"^(?:\w+ |    fn )(table_\w+)\(", path.read_text(), re.MULTILINE))
-        yield case("declared functions", [place], (6, 0)), (len(declared), len(declared - exported))
+        yield case("declared functions", [place], (len(exported), 0)), (len(declared), len(declared - exported))
 
 
 SUITES = {
