@@ -1,139 +1,142 @@
-//! Measures the compiled Rattle code beside plain Rust in one run on the same inputs.
-//!
-//! A call waits for the answer of the one before it, as a caller does that goes on to use the answer, so a time is that of
-//! one call alone and not of several at once. The time includes the call through a pointer, which both sides pay.
+//! Measures a window from its request to idle through the library's calls over the table, through the same calls in plain Rust and
+//! through `fcntl` on a file, while others hold from none up to 10,000 windows. Every round measures all of them in turn, so
+//! that a change of the machine's speed meets all alike, and the best of the rounds counts.
 
-mod cases;
-mod inputs;
-mod kinds;
-mod lock;
+mod histories;
+mod lent;
 #[path = "../include/nolthewyr.rs"]
 mod nolthewyr;
-mod phases;
-mod plain;
-mod readable;
-mod steps;
+mod ranges;
+mod rust;
 
-use inputs::{Input, Kind};
-use plain::{Cover, Swap};
-use std::hint::black_box;
+use lent::{agree, Lent, Side, Window, SIDES};
+use nolthewyr::Settings;
+use ranges::{most_descriptions, Ranges};
+use std::path::Path;
 use std::time::Instant;
 
-extern "C" {
-    fn probe_add_field(word: u64, shift: u64, width: u64, delta: u64) -> u64;
-    fn probe_add_fields(word: u64, deltas: u64) -> u64;
-    fn probe_return_occ(word: u64) -> u64;
-    fn probe_wanted_bits(edge: u64, l: u64, r: u64) -> u64;
-    fn probe_masked_swap(word: u64, compare_mask: u64, expected: u64, swap_mask: u64, value: u64) -> Swap;
-    fn probe_take_bits(word: u64, bits: u64) -> Swap;
-    fn probe_cover(h: u64, l: u64, r: u64) -> Cover;
+const SETTINGS: Settings = Settings { levels: 12, distance: 2, wait: 1 };
+const CLIENTS: usize = 32767;
+const MEASURED: u64 = CLIENTS as u64 - 1;
+const HELD: [usize; 4] = [0, 100, 1000, 10000];
+const WINDOWS: [(&str, Window); 2] = [("leaf [10, 20)", (10, 20)), ("inner node [4096, 8192)", (4096, 8192))];
+
+const ROUNDS: usize = 200;
+const TAKES: usize = 500;
+
+/// The window that another client holds: in turn a part of a leaf and an inner node one level above the leaves.
+fn others(place: usize) -> Window {
+    let edge = 16384 + 1024 * place as u64;
+    if place % 2 == 0 {
+        (edge + 10, edge + 20)
+    } else {
+        (edge, edge + 256)
+    }
 }
 
-const ROUNDS: usize = 31;
-const PASSES: usize = 16;
+/// Nanoseconds of Rattle, of Rust and of `fcntl`.
+type Times = [f64; 3];
 
-/// What the CITRON paper gives for its own cover.
-const PAPER_NS: f64 = 500.0;
-
-type Answer = [u64; 4];
-
-/// One function of each shape makes the calls of both sides. The pointer is hidden from the compiler, which could otherwise
-/// use what it knows of the Rust side's body.
-macro_rules! calls {
-    ($shape:ident, $result:ty, $answer:expr, $($at:literal)+) => {
-        fn $shape(call: unsafe extern "C" fn($(calls!(@u64 $at)),+) -> $result) -> impl Fn(Input) -> Answer {
-            let call = black_box(call);
-            move |input| $answer(unsafe { call($(input[$at]),+) })
-        }
-    };
-    (@u64 $at:literal) => { u64 };
+/// What is measured with one count of windows held by others: the sides' tables, and the file.
+struct Trial {
+    held: usize,
+    tables: [Lent; SIDES.len()],
+    file: Ranges,
 }
 
-calls!(number_1, u64, from_number, 0);
-calls!(number_2, u64, from_number, 0 1);
-calls!(number_3, u64, from_number, 0 1 2);
-calls!(number_4, u64, from_number, 0 1 2 3);
-calls!(swap_2, Swap, from_swap, 0 1);
-calls!(swap_5, Swap, from_swap, 0 1 2 3 4);
-calls!(cover_3, Cover, from_cover, 0 1 2);
-
-fn from_number(number: u64) -> Answer {
-    [number, 0, 0, 0]
+fn opened(side: Side, windows: &[Window]) -> Lent {
+    let mut lent = Lent::opened(side, SETTINGS, CLIENTS);
+    for (client, &window) in windows.iter().enumerate() {
+        lent.take(client as u64, window);
+    }
+    lent
 }
 
-fn from_swap(swap: Swap) -> Answer {
-    [swap.done as u64, swap.word, 0, 0]
+impl Trial {
+    fn new(held: usize, directory: &Path) -> Trial {
+        let windows: Vec<Window> = (0..held).map(others).collect();
+        let tables = SIDES.map(|side| opened(side, &windows));
+        let share = most_descriptions() * held / HELD.iter().sum::<usize>();
+        let file = Ranges::held(&directory.join(format!("held-{held}")), &windows, share.max(1));
+        let trial = Trial { held, tables, file };
+        trial.compare();
+        trial
+    }
+
+    fn compare(&self) {
+        assert!(agree(&self.tables), "with {} windows held words or records differ", self.held);
+    }
+
+    /// The times of a take and give-back. `fcntl` has fewer takes where more ranges are held, since its time grows with them.
+    fn round(&mut self, window: Window) -> Times {
+        let [rattle, rust] = self.tables.each_mut().map(|lent| {
+            time(TAKES, || {
+                lent.take(MEASURED, window);
+                lent.give_back(MEASURED);
+            })
+        });
+        let fcntl = time(TAKES / (1 + self.held / 100), || {
+            self.file.take(window);
+            self.file.give_back(window);
+        });
+        [rattle, rust, fcntl]
+    }
 }
 
-fn from_cover(cover: Cover) -> Answer {
-    [cover.number, cover.first, cover.second, cover.over]
-}
-
-/// Nanoseconds a call, over some passes of all inputs. `none` is 0, unknown to the compiler, and makes every argument wait
-/// for the last answer.
-fn time(inputs: &[Input], call: &impl Fn(Input) -> Answer) -> f64 {
-    let none = black_box(0u64);
-    let mut last = 0;
+fn time(takes: usize, mut take: impl FnMut()) -> f64 {
     let start = Instant::now();
-    for _ in 0..PASSES {
-        for input in inputs {
-            let answer = call(input.map(|argument| argument ^ (last & none)));
-            last = answer[0] ^ answer[1] ^ answer[2] ^ answer[3];
+    for _ in 0..takes {
+        take();
+    }
+    start.elapsed().as_nanos() as f64 / takes as f64
+}
+
+/// The best times of each window with each count of windows held.
+type Best = [[Times; HELD.len()]; WINDOWS.len()];
+
+fn measured(trials: &mut [Trial]) -> Best {
+    let mut best: Best = [[[f64::INFINITY; 3]; HELD.len()]; WINDOWS.len()];
+    for _ in 0..ROUNDS {
+        for ((_, window), best) in WINDOWS.iter().zip(&mut best) {
+            for (trial, best) in trials.iter_mut().zip(best) {
+                let times = trial.round(*window);
+                *best = std::array::from_fn(|side| best[side].min(times[side]));
+            }
         }
     }
-    black_box(last);
-    start.elapsed().as_nanos() as f64 / (PASSES * inputs.len()) as f64
+    best
 }
 
-fn median(mut times: Vec<f64>) -> f64 {
-    times.sort_by(f64::total_cmp);
-    times[times.len() / 2]
+/// The highest of Rattle's times over the lowest, for one window with every count of windows held.
+fn spread(times: &[Times]) -> f64 {
+    let rattle = times.iter().map(|[rattle, ..]| *rattle);
+    rattle.clone().fold(0.0, f64::max) / rattle.fold(f64::INFINITY, f64::min)
 }
 
-/// Sees that both sides give equal answers, measures them in alternate rounds, prints the row, and gives Rattle's time.
-fn row(name: &str, inputs: Vec<Input>, rattle: impl Fn(Input) -> Answer, rust: impl Fn(Input) -> Answer) -> f64 {
-    for &input in &inputs {
-        assert_eq!(rattle(input), rust(input), "{name} of {input:?}: Rattle on the left, Rust on the right");
+fn print_table(best: &Best) {
+    println!("| window | held by others | Rattle ns | Rust ns | Rattle / Rust | fcntl ns | fcntl / Rattle |");
+    println!("|---|---|---|---|---|---|---|");
+    for ((name, _), times) in WINDOWS.iter().zip(best) {
+        for (held, [rattle, rust, fcntl]) in HELD.iter().zip(times) {
+            let (to_rust, of_fcntl) = (rattle / rust, fcntl / rattle);
+            println!("| {name} | {held} | {rattle:.0} | {rust:.0} | {to_rust:.2} | {fcntl:.0} | {of_fcntl:.2} |");
+        }
     }
-    let (mut rattle_times, mut rust_times) = (Vec::new(), Vec::new());
-    for _ in 0..ROUNDS {
-        rattle_times.push(time(&inputs, &rattle));
-        rust_times.push(time(&inputs, &rust));
+    for ((name, _), times) in WINDOWS.iter().zip(best) {
+        println!("{name}: Rattle's highest time is {:.2} times its lowest", spread(times));
     }
-    let (rattle_ns, rust_ns) = (median(rattle_times), median(rust_times));
-    println!("{name:<32} {rattle_ns:>10.1} {rust_ns:>10.1} {:>7.2}", rattle_ns / rust_ns);
-    rattle_ns
-}
-
-fn cover_row(h: u64, name: &str, kind: Kind) -> f64 {
-    let name = format!("cover at H {h}, {name}");
-    row(&name, inputs::windows(h, kind), cover_3(probe_cover), cover_3(plain::cover))
-}
-
-fn word_rows() {
-    row("add_field", inputs::field_adds(), number_4(probe_add_field), number_4(plain::add_field));
-    row("add_fields", inputs::words(), number_2(probe_add_fields), number_2(plain::add_fields));
-    row("return_occ", inputs::words(), number_1(probe_return_occ), number_1(plain::return_occ));
-    row("wanted_bits", inputs::wanted(), number_3(probe_wanted_bits), number_3(plain::wanted_bits));
-    row("masked_swap", inputs::swaps(), swap_5(probe_masked_swap), swap_5(plain::masked_swap));
-    row("take_bits", inputs::takes(), swap_2(probe_take_bits), swap_2(plain::take_bits));
 }
 
 fn main() {
-    println!("{:<32} {:>10} {:>10} {:>7}", "operation", "Rattle ns", "Rust ns", "ratio");
-    let kinds = [
-        ("one leaf", Kind::OneLeaf),
-        ("two leaves", Kind::TwoLeaves),
-        ("one inner piece", Kind::OneInner),
-        ("two inner pieces", Kind::TwoInner),
-        ("random", Kind::Any),
-    ];
-    let slowest = kinds.map(|(name, kind)| cover_row(12, name, kind)).into_iter().fold(0.0, f64::max);
-    cover_row(3, "random", Kind::Any);
-    word_rows();
-    let verdict = if slowest < PAPER_NS { "below" } else { "NOT below" };
-    println!("cover at H 12, slowest kind of window: {slowest:.1} ns");
-    println!("this is {verdict} the 0.5 microseconds that the CITRON paper gives for its own");
-    println!();
-    steps::rows();
+    let directory = std::env::args().nth(1).expect("a directory for the files to lock");
+    histories::compare_sides();
+    let mut trials = HELD.map(|held| Trial::new(held, Path::new(&directory)));
+    let descriptions = trials.each_ref().map(|trial| trial.file.descriptions());
+    println!("ranges of the file are held through {descriptions:?} open file descriptions");
+    let best = measured(&mut trials);
+    for trial in &trials {
+        trial.compare();
+    }
+    println!("after all takes and give-backs both sides have equal words and records");
+    print_table(&best);
 }

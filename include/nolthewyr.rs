@@ -47,12 +47,13 @@ pub struct Answer {
     pub clock: u64,
 }
 
+// The functions as they are linked; the safe ones below call them.
 extern "C" {
-    fn table_open(records: *mut Record, clients: usize, words: *mut u64, count: usize, settings: Settings) -> u64;
-    fn table_request(records: *mut Record, clients: usize, words: *mut u64, count: usize, settings: Settings, call: Call) -> Answer;
-    fn table_step(records: *mut Record, clients: usize, words: *mut u64, count: usize, settings: Settings, call: Call) -> Answer;
-    fn table_release(records: *mut Record, clients: usize, words: *mut u64, count: usize, settings: Settings, call: Call) -> Answer;
-    fn table_cancel(records: *mut Record, clients: usize, words: *mut u64, count: usize, settings: Settings, call: Call) -> Answer;
+    pub fn table_open(records: *mut Record, clients: usize, words: *mut u64, count: usize, settings: Settings) -> u64;
+    pub fn table_request(records: *mut Record, clients: usize, words: *mut u64, count: usize, settings: Settings, call: Call) -> Answer;
+    pub fn table_step(records: *mut Record, clients: usize, words: *mut u64, count: usize, settings: Settings, call: Call) -> Answer;
+    pub fn table_release(records: *mut Record, clients: usize, words: *mut u64, count: usize, settings: Settings, call: Call) -> Answer;
+    pub fn table_cancel(records: *mut Record, clients: usize, words: *mut u64, count: usize, settings: Settings, call: Call) -> Answer;
 }
 
 pub fn open(records: &mut [Record], words: &mut [u64], settings: Settings) -> u64 {

@@ -1,0 +1,124 @@
+//! The calls on one record, after causes 1 to 4.
+
+use super::tree::level;
+use super::Cause;
+use crate::nolthewyr::{Call, Record, Settings};
+
+pub mod phase {
+    pub const IDLE: u64 = 0;
+    pub const TICKET: u64 = 1;
+    pub const TURN: u64 = 2;
+    pub const CLIMB: u64 = 3;
+    pub const BLOCKED: u64 = 4;
+    pub const CLAIM: u64 = 5;
+    pub const NOTIFY: u64 = 6;
+    pub const WAIT: u64 = 7;
+    pub const CHECK: u64 = 8;
+    pub const HELD: u64 = 9;
+    pub const RETURNING: u64 = 10;
+}
+
+/// What of its current piece a client has.
+pub mod grip {
+    pub const NOTHING: u64 = 0;
+    pub const TICKET: u64 = 1;
+    pub const TURN: u64 = 2;
+    pub const TAKEN: u64 = 3;
+}
+
+pub mod outcome {
+    pub const RELEASED: u64 = 1;
+    pub const LATE: u64 = 2;
+    pub const CANCELLED: u64 = 3;
+}
+
+impl Settings {
+    /// In which phase a piece begins.
+    pub fn first_phase(&self, node: u64) -> u64 {
+        if self.is_leaf(node) {
+            phase::CLIMB
+        } else {
+            phase::TICKET
+        }
+    }
+}
+
+impl Record {
+    pub fn piece(&self, i: u64) -> u64 {
+        if i == 0 {
+            self.first
+        } else {
+            self.second
+        }
+    }
+
+    /// How many notices the piece being given back gave: a piece before the current one gave all of them.
+    pub fn notices_to_return(&self, settings: &Settings) -> u64 {
+        if self.giving < self.current {
+            settings.notify_count(level(self.first))
+        } else {
+            self.notices
+        }
+    }
+
+    /// A change of phase sets the place to 0, except from 3 to 4.
+    pub fn go_to(&mut self, phase: u64) {
+        self.phase = phase;
+        self.place = 0;
+    }
+
+    pub fn become_idle(&mut self, outcome: u64) {
+        *self = Record { outcome, ..Record::default() };
+    }
+
+    pub fn return_all(&mut self, outcome: u64) {
+        self.outcome = outcome;
+        self.go_to(phase::RETURNING);
+    }
+
+    fn readable(&self, settings: &Settings, last: u64) -> Result<(), Cause> {
+        if self.unreadable(settings, last) {
+            Err(Cause::Unreadable)
+        } else {
+            Ok(())
+        }
+    }
+
+    pub fn request(&mut self, settings: &Settings, call: &Call) -> Result<(), Cause> {
+        self.readable(settings, call.last)?;
+        let (left, right) = (call.a, call.b);
+        let (first, second) = settings.cover(left, right).ok_or(Cause::Window)?;
+        if self.phase != phase::IDLE {
+            return Err(Cause::Phase);
+        }
+        *self = Record { phase: settings.first_phase(first), left, right, first, second, ..Record::default() };
+        Ok(())
+    }
+
+    pub fn step(&mut self, words: &mut [u64], settings: &Settings, call: &Call) -> Result<(), Cause> {
+        if call.a < call.last {
+            return Err(Cause::Clock);
+        }
+        self.readable(settings, call.last)?;
+        self.advance(words, settings, call.a)
+    }
+
+    pub fn release(&mut self, settings: &Settings, call: &Call) -> Result<(), Cause> {
+        self.readable(settings, call.last)?;
+        if self.phase != phase::HELD {
+            return Err(Cause::Phase);
+        }
+        self.return_all(outcome::RELEASED);
+        Ok(())
+    }
+
+    pub fn cancel(&mut self, settings: &Settings, call: &Call) -> Result<(), Cause> {
+        self.readable(settings, call.last)?;
+        match self.phase {
+            phase::IDLE | phase::HELD | phase::RETURNING => return Err(Cause::Phase),
+            _ if self.current == 0 && self.grip == grip::NOTHING => self.become_idle(outcome::CANCELLED),
+            _ => self.return_all(outcome::CANCELLED),
+        }
+        Ok(())
+    }
+}

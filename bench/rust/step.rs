@@ -1,0 +1,187 @@
+//! The step of a readable record: a method for each row of the phase table, which changes what the row names.
+
+use super::record::{grip, outcome, phase};
+use super::tree::{check_node, climb, level, nodes};
+use super::word::{DCNT, DMAX, OCC, TCNT, TMAX};
+use super::Cause;
+use crate::nolthewyr::{Record, Settings};
+
+fn word_of(words: &mut [u64], node: u64) -> &mut u64 {
+    &mut words[node as usize - 1]
+}
+
+impl Record {
+    pub fn advance(&mut self, words: &mut [u64], settings: &Settings, clock: u64) -> Result<(), Cause> {
+        match self.phase {
+            phase::TICKET => self.take_ticket(words),
+            phase::TURN => self.await_turn(words),
+            phase::CLIMB => self.go_up(words, clock),
+            phase::BLOCKED => self.await_ancestor(words),
+            phase::CLAIM => self.claim(words, settings, clock),
+            phase::NOTIFY => self.notify(words, settings, clock),
+            phase::WAIT => self.wait(settings, clock),
+            phase::CHECK => self.check(words, settings),
+            phase::RETURNING => return self.give_back(words, settings),
+            _ => {}
+        }
+        Ok(())
+    }
+
+    fn take_ticket(&mut self, words: &mut [u64]) {
+        let word = word_of(words, self.piece(self.current));
+        self.ticket = TMAX.of(*word);
+        TMAX.add_one(word);
+        self.grip = grip::TICKET;
+        self.go_to(phase::TURN);
+    }
+
+    fn await_turn(&mut self, words: &mut [u64]) {
+        let node = self.piece(self.current);
+        if TCNT.of(*word_of(words, node)) == self.ticket {
+            self.grip = grip::TURN;
+            self.go_to(if node == 1 { phase::CLAIM } else { phase::CLIMB });
+        }
+    }
+
+    fn go_up(&mut self, words: &mut [u64], clock: u64) {
+        let ancestor = climb(self.piece(self.current), self.place + 1);
+        if *word_of(words, ancestor) & OCC != 0 {
+            self.phase = phase::BLOCKED;
+            return;
+        }
+        if self.place == 0 {
+            self.t1 = clock;
+        }
+        if ancestor == 1 {
+            self.go_to(phase::CLAIM);
+        } else {
+            self.place += 1;
+        }
+    }
+
+    fn await_ancestor(&mut self, words: &mut [u64]) {
+        let ancestor = climb(self.piece(self.current), self.place + 1);
+        if *word_of(words, ancestor) & OCC == 0 {
+            self.go_to(phase::CLIMB);
+        }
+    }
+
+    /// The bits of the window in a leaf that it meets.
+    fn wanted(&self, settings: &Settings, leaf: u64) -> u64 {
+        let edge = 64 * (leaf - 1 - nodes(settings.levels - 1));
+        let low = self.left.saturating_sub(edge);
+        let high = (self.right - edge).min(64);
+        u64::MAX << low & u64::MAX >> (64 - high)
+    }
+
+    fn claim(&mut self, words: &mut [u64], settings: &Settings, clock: u64) {
+        let node = self.piece(self.current);
+        let word = word_of(words, node);
+        if !settings.is_leaf(node) {
+            *word ^= OCC;
+            self.t0 = clock;
+            self.grip = grip::TAKEN;
+            self.go_to(if node == 1 { phase::WAIT } else { phase::NOTIFY });
+            return;
+        }
+        let bits = self.wanted(settings, node);
+        if *word & bits == 0 {
+            *word |= bits;
+            self.grip = grip::TAKEN;
+            self.go_to(phase::NOTIFY);
+        } else {
+            self.go_to(phase::CLIMB);
+        }
+    }
+
+    fn notify(&mut self, words: &mut [u64], settings: &Settings, clock: u64) {
+        let node = self.piece(self.current);
+        let d = level(node);
+        DMAX.add_one(word_of(words, settings.notify_node(node, d, self.place)));
+        self.place += 1;
+        self.notices = self.place;
+        if self.notices < settings.notify_count(d) {
+            return;
+        }
+        if clock - self.t1 >= settings.wait {
+            self.return_all(outcome::LATE);
+        } else if d == settings.levels {
+            self.end_piece(settings);
+        } else {
+            self.go_to(phase::WAIT);
+        }
+    }
+
+    fn wait(&mut self, settings: &Settings, clock: u64) {
+        if clock - self.t0 >= settings.wait {
+            self.go_to(phase::CHECK);
+        }
+    }
+
+    fn check(&mut self, words: &mut [u64], settings: &Settings) {
+        let node = self.piece(self.current);
+        let word = *word_of(words, check_node(node, self.place));
+        if DCNT.of(word) != DMAX.of(word) {
+            return;
+        }
+        self.place += 1;
+        if self.place == settings.check_count(level(node)) {
+            self.end_piece(settings);
+        }
+    }
+
+    /// The piece is taken: the next one begins, or the window is held.
+    fn end_piece(&mut self, settings: &Settings) {
+        if self.current == 1 || self.second == 0 {
+            self.go_to(phase::HELD);
+            return;
+        }
+        (self.current, self.grip, self.ticket, self.notices, self.t1, self.t0) = (1, grip::NOTHING, 0, 0, 0, 0);
+        self.go_to(settings.first_phase(self.second));
+    }
+
+    fn give_back(&mut self, words: &mut [u64], settings: &Settings) -> Result<(), Cause> {
+        let node = self.piece(self.giving);
+        if self.place != 0 {
+            DCNT.add_one(word_of(words, settings.notify_node(node, level(node), self.place - 1)));
+        } else if settings.is_leaf(node) {
+            let (word, bits) = (word_of(words, node), self.wanted(settings, node));
+            if *word & bits != bits {
+                return Err(Cause::ClearBit);
+            }
+            *word &= !bits;
+        } else if !self.give_back_inner(word_of(words, node)) {
+            return Ok(());
+        }
+        self.go_on_returning(settings);
+        Ok(())
+    }
+
+    /// Whether the word was given back: a ticket first waits for its turn.
+    fn give_back_inner(&mut self, word: &mut u64) -> bool {
+        let grip = if self.giving < self.current { grip::TAKEN } else { self.grip };
+        if grip == grip::TICKET {
+            if TCNT.of(*word) == self.ticket {
+                self.grip = grip::TURN;
+            }
+            return false;
+        }
+        if grip == grip::TAKEN {
+            *word ^= OCC;
+        }
+        TCNT.add_one(word);
+        true
+    }
+
+    /// After a word was given back: the piece's next notice, the next piece, or idle.
+    fn go_on_returning(&mut self, settings: &Settings) {
+        if self.place < self.notices_to_return(settings) {
+            self.place += 1;
+        } else if self.giving < self.current && self.grip != grip::NOTHING {
+            self.giving = 1;
+            self.place = 0;
+        } else {
+            self.become_idle(self.outcome);
+        }
+    }
+}

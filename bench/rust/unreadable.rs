@@ -1,0 +1,58 @@
+//! Whether a record is unreadable, which every call asks first: the clauses of document 01's paragraph "Unreadable".
+
+use super::record::{grip, outcome, phase};
+use super::tree::level;
+use crate::nolthewyr::{Record, Settings};
+
+const MOST_TICKET: u64 = 32767;
+
+impl Record {
+    fn wrong_in_returning(&self, settings: &Settings, leaf: bool) -> bool {
+        let no_grip = if leaf { !matches!(self.grip, grip::NOTHING | grip::TAKEN) } else { self.grip > grip::TAKEN };
+        self.place > self.notices_to_return(settings)
+            || self.outcome == 0
+            || no_grip
+            || self.giving > self.current
+            || self.giving == self.current && self.grip == grip::NOTHING
+    }
+
+    /// The clauses that go by the phase: place, grip, and which node may be in it. The root needs no clause: its lists of ancestors
+    /// are empty, so that any place is past them.
+    fn wrong_in_phase(&self, settings: &Settings, d: u64, notices: u64) -> bool {
+        let leaf = d == settings.levels;
+        let turn = if leaf { grip::NOTHING } else { grip::TURN };
+        match self.phase {
+            phase::TICKET => self.place != 0 || leaf || self.grip != grip::NOTHING,
+            phase::TURN => self.place != 0 || leaf || self.grip != grip::TICKET,
+            phase::CLIMB | phase::BLOCKED => self.place >= d - 1 || self.grip != turn,
+            phase::CLAIM => self.place != 0 || self.grip != turn,
+            phase::NOTIFY => self.place >= notices || self.notices != self.place || self.grip != grip::TAKEN,
+            phase::WAIT => self.place != 0 || leaf || self.grip != grip::TAKEN,
+            phase::CHECK => leaf || self.place >= settings.check_count(d) || self.grip != grip::TAKEN,
+            phase::HELD => self.place != 0 || self.current == 0 && self.second != 0 || self.grip != grip::TAKEN,
+            _ => self.wrong_in_returning(settings, leaf),
+        }
+    }
+
+    /// All clauses have one answer, so their order is free: those that go by the phase are last.
+    pub fn unreadable(&self, settings: &Settings, last: u64) -> bool {
+        if self.phase > phase::RETURNING || self.outcome > outcome::CANCELLED {
+            return true;
+        }
+        if self.phase == phase::IDLE {
+            return *self != Record { outcome: self.outcome, ..Record::default() };
+        }
+        if settings.cover(self.left, self.right) != Some((self.first, self.second)) {
+            return true;
+        }
+        if self.current > (self.second != 0) as u64 || self.ticket > MOST_TICKET || self.t1 > last || self.t0 > last {
+            return true;
+        }
+        let d = level(self.piece(self.current));
+        let notices = settings.notify_count(d);
+        self.notices > notices
+            || self.notices != 0 && self.grip < grip::TAKEN
+            || self.phase != phase::RETURNING && (self.outcome != 0 || self.giving != 0)
+            || self.wrong_in_phase(settings, d, notices)
+    }
+}
