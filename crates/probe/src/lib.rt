@@ -1,5 +1,4 @@
-// The functions of the crates word, tree, cover and lock under names that C can link, each with its own contract, for the comparison with the model and
-// for the benchmark.
+// The functions of the crates word, tree, cover and lock under names that C can link, each with its own contract, for the comparison with the model.
 ghost use mathlib.Core.Path.{_≡_};
 ghost use Prim.Native.Nat.{_+_, _^_, _≤_, _<_};
 ghost use lib.ListN.{length, getD};
