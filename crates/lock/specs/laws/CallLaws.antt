@@ -60,9 +60,9 @@ module _ (s : Settings) (count : ℕ) where
   tested-by false false e f =
       record { refused = λ d ts. absurd (d refl); settings = λ _. e; count-right = λ _. eqb-true count (wordCount (s .levels)) (not-false _ f) }
 
-  pub tree-tested : (n : ℕ) → n ≡ firstCause (treeTests s count) → TreeTested s count n
+  pub cause-tested : (n : ℕ) → n ≡ firstCause (treeTests s count) → TreeTested s count n
   unfolding treeTests
-  tree-tested n e = subst (TreeTested s count) (sym e) (tested-by _ _ refl refl)
+  cause-tested n e = subst (TreeTested s count) (sym e) (tested-by _ _ refl refl)
 
 -- ---- the answer
 

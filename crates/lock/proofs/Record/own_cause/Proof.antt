@@ -2,7 +2,7 @@
 use mathlib.Core.Path.{sym, _∙_}
 use mathlib.Core.List.{[]}
 use Rattle.lock.specs.rules.Calls.{firstCause}
-use Rattle.lock.specs.laws.CallLaws.{cause-hit, cause-skip, own-unreadable, own-rest, tree-tested}
+use Rattle.lock.specs.laws.CallLaws.{cause-hit, cause-skip, own-unreadable, own-rest, cause-tested}
 use Rattle.lock.specs.laws.ActiveLaws.{settled}
 use borrow.Author.Needs.{needs}
 use Rattle.lock.proofs.Record.own_cause.Statement.{statement}
@@ -14,17 +14,17 @@ tree-cause-requires c κs = search needs
 returns : tie.Need-returns
 returns c =
     let a = c .before .before .args in
-    let t = tree-tested _ _ _ (c .before .tree-cause .ensures) in
+    let t = cause-tested _ _ _ (c .before .tree-cause .ensures) in
     sym (t .refused (c .if1 .taken) _)
 
 unreadable-requires : tie.Need-unreadable-requires
 unreadable-requires c κs =
-    settled (c .before .before .args .settings) (tree-tested _ _ _ (c .before .tree-cause .ensures) .settings (c .if1 .left))
+    settled (c .before .before .args .settings) (cause-tested _ _ _ (c .before .tree-cause .ensures) .settings (c .if1 .left))
 
 returns-2 : tie.Need-returns-2
 returns-2 c =
     let a = c .before .before .before .before .args in
-    let t = tree-tested _ _ _ (c .before .before .before .tree-cause .ensures) in
+    let t = cause-tested _ _ _ (c .before .before .before .tree-cause .ensures) in
     let o = t .settings (c .before .before .if1 .left) in
     let n = t .count-right (c .before .before .if1 .left) in
     sym (own-unreadable (a .settings) (a .self) (a .count) (a .last) o n _ (sym (c .before .unreadable .ensures) ∙ c .if2 .taken))
@@ -32,7 +32,7 @@ returns-2 c =
 returns-3 : tie.Need-returns-3
 returns-3 c =
     let a = c .before .before .before .before .before .args in
-    let t = tree-tested _ _ _ (c .before .before .before .before .tree-cause .ensures) in
+    let t = cause-tested _ _ _ (c .before .before .before .before .tree-cause .ensures) in
     let o = t .settings (c .before .before .before .if1 .left) in
     let n = t .count-right (c .before .before .before .if1 .left) in
     let u = sym (c .before .before .unreadable .ensures) ∙ c .before .if2 .left in
@@ -42,7 +42,7 @@ returns-4 : tie.Need-returns-4
 unfolding firstCause
 returns-4 c =
     let a = c .before .before .before .before .before .args in
-    let t = tree-tested _ _ _ (c .before .before .before .before .tree-cause .ensures) in
+    let t = cause-tested _ _ _ (c .before .before .before .before .tree-cause .ensures) in
     let o = t .settings (c .before .before .before .if1 .left) in
     let n = t .count-right (c .before .before .before .if1 .left) in
     let u = sym (c .before .before .unreadable .ensures) ∙ c .before .if2 .left in

@@ -11,7 +11,7 @@ use Rattle.cover.specs.rules.Answer.{windowOutside}
 use Rattle.lock.specs.declared.Record.{Record}
 use Rattle.lock.specs.rules.Unreadable.{differ, unreadable}
 use Rattle.lock.specs.rules.Calls.{requested, firstCause, requestTests, requestNumber, requestAnswer}
-use Rattle.lock.specs.laws.CallLaws.{cause-hit, cause-skip, answer-accepted, refused-by, own-unreadable, own-rest, tree-tested}
+use Rattle.lock.specs.laws.CallLaws.{cause-hit, cause-skip, answer-accepted, refused-by, own-unreadable, own-rest, cause-tested}
 use Rattle.lock.specs.laws.CoverLaws.{cover-refused, cover-inside, cover-first, cover-second}
 use Rattle.lock.specs.laws.ActiveLaws.{settled}
 use Rattle.cover.specs.laws.Code.{window-inside}
@@ -32,7 +32,7 @@ returns c =
     let ws = a .words .now in
     let s = a .settings in
     let r = a .self in
-    let t = tree-tested _ _ _ (c .before .before .tree-cause .ensures) in
+    let t = cause-tested _ _ _ (c .before .before .tree-cause .ensures) in
     (c .refused .ensures ∙ refused-by _ (c .before .before .tree-cause .result) r (a .call .last) _ (a .call .last) (t .refused (c .before .if1 .taken) _) (c .before .if1 .taken), refl)
 
 unreadable-requires : tie.Need-unreadable-requires
@@ -41,7 +41,7 @@ unreadable-requires c κs =
     let ws = a .words .now in
     let s = a .settings in
     let r = a .self in
-    let t = tree-tested _ _ _ (c .before .tree-cause .ensures) in
+    let t = cause-tested _ _ _ (c .before .tree-cause .ensures) in
     let z = c .if1 .left in
     let o = t .settings z in
     let n = t .count-right z in
@@ -58,7 +58,7 @@ returns-2 c =
     let ws = a .words .now in
     let s = a .settings in
     let r = a .self in
-    let t = tree-tested _ _ _ (c .before .before .before .before .tree-cause .ensures) in
+    let t = cause-tested _ _ _ (c .before .before .before .before .tree-cause .ensures) in
     let z = c .before .before .before .if1 .left in
     let o = t .settings z in
     let n = t .count-right z in
@@ -78,7 +78,7 @@ returns-3 c =
     let ws = a .words .now in
     let s = a .settings in
     let r = a .self in
-    let t = tree-tested _ _ _ (c .before .before .before .before .before .before .before .tree-cause .ensures) in
+    let t = cause-tested _ _ _ (c .before .before .before .before .before .before .before .tree-cause .ensures) in
     let z = c .before .before .before .before .before .before .if1 .left in
     let o = t .settings z in
     let n = t .count-right z in
@@ -99,7 +99,7 @@ returns-4 c =
     let ws = a .words .now in
     let s = a .settings in
     let r = a .self in
-    let t = tree-tested _ _ _ (c .before .before .before .before .before .before .before .before .before .tree-cause .ensures) in
+    let t = cause-tested _ _ _ (c .before .before .before .before .before .before .before .before .before .tree-cause .ensures) in
     let z = c .before .before .before .before .before .before .before .before .if1 .left in
     let o = t .settings z in
     let n = t .count-right z in
@@ -119,7 +119,7 @@ requested-requires c κs =
     let ws = a .words .now in
     let s = a .settings in
     let r = a .self in
-    let t = tree-tested _ _ _ (c .before .before .before .before .before .before .before .before .tree-cause .ensures) in
+    let t = cause-tested _ _ _ (c .before .before .before .before .before .before .before .before .tree-cause .ensures) in
     let z = c .before .before .before .before .before .before .before .if1 .left in
     let o = t .settings z in
     let n = t .count-right z in
@@ -141,7 +141,7 @@ returns-5 c =
     let ws = a .words .now in
     let s = a .settings in
     let r = a .self in
-    let t = tree-tested _ _ _ (c .before .before .before .before .before .before .before .before .before .tree-cause .ensures) in
+    let t = cause-tested _ _ _ (c .before .before .before .before .before .before .before .before .before .tree-cause .ensures) in
     let z = c .before .before .before .before .before .before .before .before .if1 .left in
     let o = t .settings z in
     let n = t .count-right z in

@@ -9,7 +9,7 @@ use Rattle.lock.specs.rules.Records.{wordAt, written}
 use Rattle.lock.specs.rules.Steps.{touched, moved}
 use Rattle.lock.specs.rules.Unreadable.{unreadable}
 use Rattle.lock.specs.rules.Calls.{stepNumber}
-use Rattle.lock.specs.laws.CallLaws.{step-back, step-unreadable, step-clear, step-accepted, words-accepted, step-refused, step-taken, tree-tested}
+use Rattle.lock.specs.laws.CallLaws.{step-back, step-unreadable, step-clear, step-accepted, words-accepted, step-refused, step-taken, cause-tested}
 use Rattle.lock.specs.laws.ActiveLaws.{settled}
 use Rattle.lock.specs.laws.Touched.{touched-counted, readable}
 use borrow.Author.Needs.{needs}
@@ -29,7 +29,7 @@ returns c =
     let ws = a .words .now in
     let s = a .settings in
     let r = a .self in
-    let t = tree-tested _ _ _ (c .before .before .tree-cause .ensures) in
+    let t = cause-tested _ _ _ (c .before .before .tree-cause .ensures) in
     step-refused s r ws (a .call .last) (a .call .a) (c .before .before .tree-cause .result) (c .refused .result) (t .refused (c .before .if1 .taken) _) (c .before .if1 .taken) (c .refused .ensures)
 
 refused-requires-2 : tie.Need-refused-requires-2
@@ -41,7 +41,7 @@ returns-2 c =
     let ws = a .words .now in
     let s = a .settings in
     let r = a .self in
-    let t = tree-tested _ _ _ (c .before .before .before .before .tree-cause .ensures) in
+    let t = cause-tested _ _ _ (c .before .before .before .before .tree-cause .ensures) in
     let z = c .before .before .before .if1 .left in
     let o = t .settings z in
     let n = t .count-right z in
@@ -54,7 +54,7 @@ unreadable-requires c κs =
     let ws = a .words .now in
     let s = a .settings in
     let r = a .self in
-    let t = tree-tested _ _ _ (c .before .before .before .tree-cause .ensures) in
+    let t = cause-tested _ _ _ (c .before .before .before .tree-cause .ensures) in
     let z = c .before .before .if1 .left in
     let o = t .settings z in
     let n = t .count-right z in
@@ -70,7 +70,7 @@ returns-3 c =
     let ws = a .words .now in
     let s = a .settings in
     let r = a .self in
-    let t = tree-tested _ _ _ (c .before .before .before .before .before .before .tree-cause .ensures) in
+    let t = cause-tested _ _ _ (c .before .before .before .before .before .before .tree-cause .ensures) in
     let z = c .before .before .before .before .before .if1 .left in
     let o = t .settings z in
     let n = t .count-right z in
@@ -84,7 +84,7 @@ touched-requires c κs =
     let ws = a .words .now in
     let s = a .settings in
     let r = a .self in
-    let t = tree-tested _ _ _ (c .before .before .before .before .before .tree-cause .ensures) in
+    let t = cause-tested _ _ _ (c .before .before .before .before .before .tree-cause .ensures) in
     let z = c .before .before .before .before .if1 .left in
     let o = t .settings z in
     let n = t .count-right z in
@@ -100,7 +100,7 @@ word-at-requires c κs =
     let ws = a .words .now in
     let s = a .settings in
     let r = a .self in
-    let t = tree-tested _ _ _ (c .before .before .before .before .before .before .before .tree-cause .ensures) in
+    let t = cause-tested _ _ _ (c .before .before .before .before .before .before .before .tree-cause .ensures) in
     let z = c .before .before .before .before .before .before .if1 .left in
     let o = t .settings z in
     let n = t .count-right z in
@@ -116,7 +116,7 @@ moved-requires c κs =
     let ws = a .words .now in
     let s = a .settings in
     let r = a .self in
-    let t = tree-tested _ _ _ (c .before .before .before .before .before .before .before .before .tree-cause .ensures) in
+    let t = cause-tested _ _ _ (c .before .before .before .before .before .before .before .before .tree-cause .ensures) in
     let z = c .before .before .before .before .before .before .before .if1 .left in
     let o = t .settings z in
     let n = t .count-right z in
@@ -138,7 +138,7 @@ returns-4 c =
     let ws = a .words .now in
     let s = a .settings in
     let r = a .self in
-    let t = tree-tested _ _ _ (c .before .before .before .before .before .before .before .before .before .before .before .before .tree-cause .ensures) in
+    let t = cause-tested _ _ _ (c .before .before .before .before .before .before .before .before .before .before .before .before .tree-cause .ensures) in
     let z = c .before .before .before .before .before .before .before .before .before .before .before .if1 .left in
     let o = t .settings z in
     let n = t .count-right z in
@@ -156,7 +156,7 @@ put-word-requires c κs =
     let ws = a .words .now in
     let s = a .settings in
     let r = a .self in
-    let t = tree-tested _ _ _ (c .before .before .before .before .before .before .before .before .before .before .before .before .tree-cause .ensures) in
+    let t = cause-tested _ _ _ (c .before .before .before .before .before .before .before .before .before .before .before .before .tree-cause .ensures) in
     let z = c .before .before .before .before .before .before .before .before .before .before .before .if1 .left in
     let o = t .settings z in
     let n = t .count-right z in
@@ -175,7 +175,7 @@ returns-5 c =
     let ws = a .words .now in
     let s = a .settings in
     let r = a .self in
-    let t = tree-tested _ _ _ (c .before .before .before .before .before .before .before .before .before .before .before .before .before .before .before .before .tree-cause .ensures) in
+    let t = cause-tested _ _ _ (c .before .before .before .before .before .before .before .before .before .before .before .before .before .before .before .before .tree-cause .ensures) in
     let z = c .before .before .before .before .before .before .before .before .before .before .before .before .before .before .before .if1 .left in
     let o = t .settings z in
     let n = t .count-right z in

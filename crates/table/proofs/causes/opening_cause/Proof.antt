@@ -1,7 +1,7 @@
 -- `table::causes::opening_cause` meets its contract. Assumes nothing.
 use borrow.Author.Needs.{needs}
 use Rattle.lock.specs.rules.Calls.{clientsOutside}
-use Rattle.lock.specs.laws.CallLaws.{tree-tested}
+use Rattle.lock.specs.laws.CallLaws.{cause-tested}
 use Rattle.table.specs.laws.CauseLaws.{opening-tree, opening-clients, opening-passed}
 use Rattle.table.proofs.causes.opening_cause.Statement.{statement}
 use Rattle.table.proofs.causes.opening_cause.Tie as tie
@@ -12,19 +12,19 @@ tree-cause-requires c κs = search needs
 returns : tie.Need-returns
 returns c =
     let a = c .before .before .args in
-    opening-tree (a .settings) (a .words) (a .records) _ (tree-tested _ _ _ (c .before .tree-cause .ensures)) (c .if1 .taken)
+    opening-tree (a .settings) (a .words) (a .records) _ (cause-tested _ _ _ (c .before .tree-cause .ensures)) (c .if1 .taken)
 
 returns-2 : tie.Need-returns-2
 unfolding clientsOutside
 returns-2 c =
     let a = c .before .before .before .args in
-    opening-clients (a .settings) (a .words) (a .records) _ (tree-tested _ _ _ (c .before .before .tree-cause .ensures)) (c .before .if1 .left) (c .if2 .taken)
+    opening-clients (a .settings) (a .words) (a .records) _ (cause-tested _ _ _ (c .before .before .tree-cause .ensures)) (c .before .if1 .left) (c .if2 .taken)
 
 returns-3 : tie.Need-returns-3
 unfolding clientsOutside
 returns-3 c =
     let a = c .before .before .before .args in
-    opening-passed (a .settings) (a .words) (a .records) _ (tree-tested _ _ _ (c .before .before .tree-cause .ensures)) (c .before .if1 .left) (c .if2 .left)
+    opening-passed (a .settings) (a .words) (a .records) _ (cause-tested _ _ _ (c .before .before .tree-cause .ensures)) (c .before .if1 .left) (c .if2 .left)
 
 pub opening-cause-spec : {M : Type 1} → statement M
 opening-cause-spec = tie.close (tie.spec tree-cause-requires returns returns-2 returns-3)
