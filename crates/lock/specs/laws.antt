@@ -1,6 +1,7 @@
 pub mod Accepted
 pub mod Active
 pub mod ActiveLaws
+pub mod ByKind
 pub mod CallLaws
 pub mod CoverLaws
 pub mod MoveLaws

@@ -1,3 +1,4 @@
+pub mod ByValue
 pub mod Calls
 pub mod History
 pub mod Records

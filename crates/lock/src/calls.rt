@@ -5,6 +5,7 @@ ghost use Prim.Native.Nat.{ℕ, _≤_, _<_};
 ghost use lib.ListN.{length, getD};
 ghost use Rattle.lock.specs.declared.Stepped.{Stepped};
 ghost use Rattle.lock.specs.rules.Records.{coverOf, wordAt, written, toPhase, withOutcome};
+ghost use Rattle.lock.specs.rules.ByValue.{callOf, answerTo, wordsAfter};
 ghost use Rattle.lock.specs.rules.Unreadable.{unreadable};
 ghost use Rattle.lock.specs.rules.Calls.{firstCause, treeTests, requested, cancelled, requestAnswer, releaseAnswer, cancelAnswer, stepAnswer, stepWords};
 ghost use Rattle.lock.specs.laws.Active.{Settled};
@@ -212,5 +213,22 @@ impl Record {
             clock: call.last,
             next: next,
         }
+    }
+
+    // The call that its kind names: 0 request, 1 step, 2 release, any other number cancel.
+    pub fn act(self, words: &mut [u64], settings: Settings, call: Call, kind: u64) -> Stepped
+        ensures answer { λ s. ⌜ s ≡ answerTo settings self (now (words .entry)) (call .last) (callOf kind (call .client) (call .a) (call .b)) ⌝ }
+        ensures words { λ s. ⌜ now (words .exit) ≡ wordsAfter settings self (now (words .entry)) (call .last) (callOf kind (call .client) (call .a) (call .b)) ⌝ }
+    {
+        if kind == 0 {
+            return self.request(words, settings, call);
+        }
+        if kind == 1 {
+            return self.step(words, settings, call);
+        }
+        if kind == 2 {
+            return self.release(words, settings, call);
+        }
+        self.cancel(words, settings, call)
     }
 }
