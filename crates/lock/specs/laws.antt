@@ -5,6 +5,8 @@ pub mod ByKind
 pub mod CallLaws
 pub mod CoverLaws
 pub mod MoveLaws
+pub mod OwnTests
+pub mod PhaseTests
 pub mod Phases
 pub mod Pieces
 pub mod Placed

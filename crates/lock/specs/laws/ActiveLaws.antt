@@ -149,15 +149,15 @@ within : (n place : ℕ) → 0 < n → pastList n place ≡ false → place < n
 unfolding pastList
 within n place b e = leb-false n place (sym (choose-ne n 0 _ _ (λ z. omega arith)) ∙ e)
 
-below-root : (n : ℕ) → 1 ≤ n → isRoot n ≡ false → 2 ≤ level n
+pub below-root : (n : ℕ) → 1 ≤ n → isRoot n ≡ false → 2 ≤ level n
 below-root n some e = by-lt 1 (level n) (λ q. q) (λ q. absurd (eqb-false n 1 e (level-root-only n some (omega (arith, level-pos n)))))
 
-notified : (m n : ℕ) → 1 ≤ m → m ≤ 4 → Node 12 n → 2 ≤ level n → 0 < length (notifyList m n)
+pub notified : (m n : ℕ) → 1 ≤ m → m ≤ 4 → Node 12 n → 2 ≤ level n → 0 < length (notifyList m n)
 notified m n a b v l =
     let e = notify-count m n (bounded m n a b v) in
     by-lt m (level n) (λ q. omega (arith, count-more m (level n) l q)) (λ q. omega (arith, count-one m (level n) l q))
 
-checked : (h m n : ℕ) → 1 ≤ m → level n < h → 0 < length (checkList h m n)
+pub checked : (h m n : ℕ) → 1 ≤ m → level n < h → 0 < length (checkList h m n)
 unfolding checkCount
 checked h m n a b = omega (arith, check-count h m n, first-mono 2 (suc (min m (h - level n))) (omega arith) (omega arith), first-width 0, first-one)
 
