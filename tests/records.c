@@ -14,20 +14,10 @@
 
 enum { LOWEST = 2, HIGHEST = 12, LOOKED_THROUGH = 5, MOST_PAIRS = 4096 };
 
-typedef struct stepped on_record(Record, uint64_t *, size_t, Settings, Call);
+/* The calls stand at the place of their kind. */
+static const char *const table[] = { "request", "step", "release", "cancel", "unreadable" };
 
-static const struct entry {
-    const char *name;
-    on_record *call;
-} table[] = {
-    { "request", probe_request },
-    { "step", probe_step },
-    { "release", probe_release },
-    { "cancel", probe_cancel },
-    { "unreadable", NULL },
-};
-
-enum { ENTRIES = sizeof table / sizeof *table };
+enum { UNREADABLE = 4, ENTRIES = sizeof table / sizeof *table };
 
 struct query {
     uint64_t place, pairs;
@@ -77,10 +67,10 @@ static void note_change(struct answer *answer, uint64_t node, uint64_t word)
 
 static void make_call(const struct query *q, uint64_t *words, struct answer *answer)
 {
-    if (table[q->place].call == NULL)
+    if (q->place == UNREADABLE)
         answer->stepped.number = probe_unreadable(q->record, q->settings, q->call.last);
     else
-        answer->stepped = table[q->place].call(q->record, words, q->count, q->settings, q->call);
+        answer->stepped = probe_act(q->record, words, q->count, q->settings, q->call, q->place);
 }
 
 static int write_pairs(const struct query *q, const struct pair *pairs, uint64_t *words, size_t nodes)
@@ -158,6 +148,6 @@ int main(int argc, char **argv)
     if (argc != 2 || strcmp(argv[1], "names") != 0)
         return 1;
     for (size_t i = 0; i < ENTRIES; i++)
-        puts(table[i].name);
+        puts(table[i]);
     return 0;
 }

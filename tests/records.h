@@ -1,5 +1,5 @@
 /* The calls on one record that the Rattle library crate `probe` exports, over the structs of the library `table`. A call on one record
-   does not look at its kind and client. */
+   does not look at the client, nor at the kind in the struct: it is passed the kind beside it. */
 #ifndef RECORDS_H
 #define RECORDS_H
 
@@ -13,10 +13,8 @@ struct stepped {
     Record record;
 };
 
-struct stepped probe_request(Record self, uint64_t *words, size_t count, Settings s, Call c);
-struct stepped probe_step(Record self, uint64_t *words, size_t count, Settings s, Call c);
-struct stepped probe_release(Record self, uint64_t *words, size_t count, Settings s, Call c);
-struct stepped probe_cancel(Record self, uint64_t *words, size_t count, Settings s, Call c);
+/* The call that the kind names: 0 request, 1 step, 2 release, any other number cancel. */
+struct stepped probe_act(Record self, uint64_t *words, size_t count, Settings s, Call c, uint64_t kind);
 
 /* Whether the record is unreadable; H, m and T are within their ranges. */
 bool probe_unreadable(Record self, Settings s, uint64_t last);

@@ -1,15 +1,20 @@
 // The calls by value: from the record, the lent tree, the settings and the call to the number, the clock and the next record.
 ghost use mathlib.Core.Path.{_≡_};
-ghost use mathlib.Core.List.{List, [], _∷_, _++_};
-ghost use Prim.Native.Nat.{ℕ, _≤_, _<_};
+ghost use mathlib.Core.Bool.{false};
+ghost use mathlib.Core.List.{[], _∷_};
+ghost use Prim.Native.Nat.{_≤_};
 ghost use lib.ListN.{length, getD};
+ghost use Rattle.tree.specs.rules.Tree.{wordCount};
+ghost use Rattle.cover.specs.rules.Answer.{windowOutside};
+ghost use Rattle.cover.specs.laws.Lowest.{Window};
 ghost use Rattle.lock.specs.declared.Stepped.{Stepped};
 ghost use Rattle.lock.specs.rules.Records.{coverOf, wordAt, written, toPhase, withOutcome};
+ghost use Rattle.lock.specs.rules.Steps.{touched, moved};
+ghost use Rattle.lock.specs.rules.Unreadable.{differ, unreadable};
+ghost use Rattle.lock.specs.rules.Calls.{firstCause, treeTests, requested, cancelled, answered};
 ghost use Rattle.lock.specs.rules.ByValue.{callOf, answerTo, wordsAfter};
-ghost use Rattle.lock.specs.rules.Unreadable.{unreadable};
-ghost use Rattle.lock.specs.rules.Calls.{firstCause, treeTests, requested, cancelled, requestAnswer, releaseAnswer, cancelAnswer, stepAnswer, stepWords};
 ghost use Rattle.lock.specs.laws.Active.{Settled};
-ghost use Rattle.cover.specs.laws.Lowest.{Window};
+ghost use Rattle.lock.specs.laws.ByKind.{clearBit, leftBy};
 use crate::Call;
 use crate::Record;
 use crate::Settings;
@@ -63,21 +68,12 @@ impl Record {
         }
     }
 
-    // Tests 1, 2, 5, 6, 9. "An accepted step sets the last clock."
-    pub fn step(self, words: &mut [u64], settings: Settings, call: Call) -> Stepped
-        ensures answer { λ s. ⌜ s ≡ stepAnswer settings self (now (words .entry)) (call .last) (call .a) ⌝ }
-        ensures words { λ s. ⌜ now (words .exit) ≡ stepWords settings self (now (words .entry)) (call .last) (call .a) ⌝ }
+    // What is left of a step after 1, 2, 5 and 6: 9, and the work on the one word. "An accepted step sets the last clock."
+    fn step(self, words: &mut [u64], settings: Settings, call: Call) -> Stepped
+        requires { ⌜ Settled settings × (length (now words) ≡ wordCount (settings .levels)) × (unreadable settings self (call .last) ≡ false) × (call .last ≤ call .a) ⌝ }
+        ensures answer { λ s. ⌜ s ≡ answered (clearBit settings self (now (words .entry)) (call .a)) self (call .last) (moved settings self (wordAt (now (words .entry)) (touched settings self)) (call .a) .next) (call .a) ⌝ }
+        ensures words { λ s. ⌜ now (words .exit) ≡ leftBy settings self (now (words .entry)) (call .a) ⌝ }
     {
-        let cause = settings.tree_cause(words.len() as u64);
-        if cause != 0 {
-            return self.refused(cause, call.last);
-        }
-        if call.a < call.last {
-            return self.refused(5, call.last);
-        }
-        if self.unreadable(settings, call.last) {
-            return self.refused(6, call.last);
-        }
         let n = self.touched(settings);
         let m = self.moved(settings, word_at(words, n), call.a);
         if m.number != 0 {
@@ -88,6 +84,20 @@ impl Record {
         Stepped {
             number: 0,
             clock: call.a,
+            next: next,
+        }
+    }
+
+    // The end of a call that touches no word: 8, where the phase is wrong for the call, or the next record.
+    fn unless(self, wrong: bool, next: Record, last: u64) -> Stepped
+        ensures { λ s. ⌜ s ≡ answered (firstCause ((wrong, 8) ∷ [])) self last next last ⌝ }
+    {
+        if wrong {
+            return self.refused(8, last);
+        }
+        Stepped {
+            number: 0,
+            clock: last,
             next: next,
         }
     }
@@ -116,31 +126,17 @@ impl Record {
         }
     }
 
-    // Tests 1, 2, 6, 7, 8. It touches no word.
-    pub fn request(self, words: &mut [u64], settings: Settings, call: Call) -> Stepped
-        ensures answer { λ s. ⌜ s ≡ requestAnswer settings self (now (words .entry)) (call .last) (call .a) (call .b) ⌝ }
-        ensures words { λ s. ⌜ now (words .exit) ≡ now (words .entry) ⌝ }
+    // What is left of a request after 1, 2 and 6: 7, "request with l ≥ r or r > N", and 8.
+    fn request(self, settings: Settings, call: Call) -> Stepped
+        requires { ⌜ Settled settings ⌝ }
+        ensures { λ s. ⌜ s ≡ answered (firstCause ((windowOutside (settings .levels) (call .a) (call .b), 7) ∷ (differ (self .phase) 0, 8) ∷ [])) self (call .last) (requested settings (call .a) (call .b)) (call .last) ⌝ }
     {
-        let cause = settings.tree_cause(words.len() as u64);
-        if cause != 0 {
-            return self.refused(cause, call.last);
-        }
-        if self.unreadable(settings, call.last) {
-            return self.refused(6, call.last);
-        }
         let cover = cover::cover(settings.levels, call.a, call.b);
         if cover.number != 0 {
             return self.refused(7, call.last);
         }
-        if self.phase != 0 {
-            return self.refused(8, call.last);
-        }
         let next = Record::requested(settings, call.a, call.b, cover.first, cover.second);
-        Stepped {
-            number: 0,
-            clock: call.last,
-            next: next,
-        }
+        self.unless(self.phase != 0, next, call.last)
     }
 
     // "set outcome 1 or 3 and phase 10"
@@ -153,40 +149,6 @@ impl Record {
         self
     }
 
-    // Causes 1, 2 and 6, and 8 where the phase is wrong for the call.
-    fn own_cause(self, settings: Settings, count: u64, last: u64, wrong: bool) -> u64
-        ensures { λ n. ⌜ n ≡ firstCause (treeTests settings count ++ ((unreadable settings self last, 6) ∷ (wrong, 8) ∷ [])) ⌝ }
-    {
-        let cause = settings.tree_cause(count);
-        if cause != 0 {
-            return cause;
-        }
-        if self.unreadable(settings, last) {
-            return 6;
-        }
-        if wrong {
-            return 8;
-        }
-        0
-    }
-
-    // Tests 1, 2, 6, 8. "Release (from 9)": outcome 1 and phase 10.
-    pub fn release(self, words: &mut [u64], settings: Settings, call: Call) -> Stepped
-        ensures answer { λ s. ⌜ s ≡ releaseAnswer settings self (now (words .entry)) (call .last) ⌝ }
-        ensures words { λ s. ⌜ now (words .exit) ≡ now (words .entry) ⌝ }
-    {
-        let number = self.own_cause(settings, words.len() as u64, call.last, self.phase != 9);
-        if number != 0 {
-            return self.refused(number, call.last);
-        }
-        let next = self.sent_back(1);
-        Stepped {
-            number: 0,
-            clock: call.last,
-            next: next,
-        }
-    }
-
     // "cancel (from 1..8)", or idle where there is nothing to give back.
     fn cancelled(self) -> Record
         ensures { λ r. ⌜ r ≡ cancelled self ⌝ }
@@ -197,38 +159,30 @@ impl Record {
         self.sent_back(3)
     }
 
-    // Tests 1, 2, 6, 8: "cancel in 0, 9 or 10".
-    pub fn cancel(self, words: &mut [u64], settings: Settings, call: Call) -> Stepped
-        ensures answer { λ s. ⌜ s ≡ cancelAnswer settings self (now (words .entry)) (call .last) ⌝ }
-        ensures words { λ s. ⌜ now (words .exit) ≡ now (words .entry) ⌝ }
-    {
-        let wrong = (self.phase == 0) | (self.phase == 9) | (self.phase == 10);
-        let number = self.own_cause(settings, words.len() as u64, call.last, wrong);
-        if number != 0 {
-            return self.refused(number, call.last);
-        }
-        let next = self.cancelled();
-        Stepped {
-            number: 0,
-            clock: call.last,
-            next: next,
-        }
-    }
-
-    // The call that its kind names: 0 request, 1 step, 2 release, any other number cancel.
+    // The call that its kind names: 0 request, 1 step, 2 release, any other number cancel. All begin with 1, 2, 5 (only a step) and 6, tested here for all; what comes
+    // after is the kind's own.
     pub fn act(self, words: &mut [u64], settings: Settings, call: Call, kind: u64) -> Stepped
         ensures answer { λ s. ⌜ s ≡ answerTo settings self (now (words .entry)) (call .last) (callOf kind (call .client) (call .a) (call .b)) ⌝ }
         ensures words { λ s. ⌜ now (words .exit) ≡ wordsAfter settings self (now (words .entry)) (call .last) (callOf kind (call .client) (call .a) (call .b)) ⌝ }
     {
-        if kind == 0 {
-            return self.request(words, settings, call);
+        let cause = settings.tree_cause(words.len() as u64);
+        if cause != 0 {
+            return self.refused(cause, call.last);
         }
-        if kind == 1 {
-            return self.step(words, settings, call);
+        if (kind == 1) & (call.a < call.last) {
+            return self.refused(5, call.last);
         }
-        if kind == 2 {
-            return self.release(words, settings, call);
+        if self.unreadable(settings, call.last) {
+            return self.refused(6, call.last);
         }
-        self.cancel(words, settings, call)
+        match kind {
+            0 => self.request(settings, call),
+            1 => self.step(words, settings, call),
+            2 => self.unless(self.phase != 9, self.sent_back(1), call.last),
+            _ => {
+                let wrong = (self.phase == 0) | (self.phase == 9) | (self.phase == 10);
+                self.unless(wrong, self.cancelled(), call.last)
+            }
+        }
     }
 }

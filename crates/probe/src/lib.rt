@@ -8,7 +8,7 @@ ghost use Rattle.tree.specs.rules.Lists.{ancestor, ancestors, notifyList, check
 ghost use Rattle.cover.specs.rules.Answer.{answer};
 ghost use Rattle.lock.specs.laws.Active.{Settled};
 ghost use Rattle.lock.specs.rules.Unreadable.{unreadable};
-ghost use Rattle.lock.specs.rules.Calls.{requestAnswer, releaseAnswer, cancelAnswer, stepAnswer, stepWords};
+ghost use Rattle.lock.specs.rules.ByValue.{callOf, answerTo, wordsAfter};
 
 #[no_mangle]
 pub extern "C" fn probe_field(word: u64, shift: u64, width: u64) -> u64
@@ -257,55 +257,17 @@ pub extern "C" fn probe_cover(h: u64, l: u64, r: u64) -> cover::Answer
 }
 
 #[no_mangle]
-pub extern "C" fn probe_request(
+pub extern "C" fn probe_act(
     client: lock::Record,
     words: &mut [u64],
     settings: lock::Settings,
     call: lock::Call,
+    kind: u64,
 ) -> lock::Stepped
-    ensures answer { λ s. ⌜ s ≡ requestAnswer settings client (now (words .entry)) (call .last) (call .a) (call .b) ⌝ }
-    ensures words { λ s. ⌜ now (words .exit) ≡ now (words .entry) ⌝ }
+    ensures answer { λ s. ⌜ s ≡ answerTo settings client (now (words .entry)) (call .last) (callOf kind (call .client) (call .a) (call .b)) ⌝ }
+    ensures words { λ s. ⌜ now (words .exit) ≡ wordsAfter settings client (now (words .entry)) (call .last) (callOf kind (call .client) (call .a) (call .b)) ⌝ }
 {
-    client.request(words, settings, call)
-}
-
-#[no_mangle]
-pub extern "C" fn probe_step(
-    client: lock::Record,
-    words: &mut [u64],
-    settings: lock::Settings,
-    call: lock::Call,
-) -> lock::Stepped
-    ensures answer { λ s. ⌜ s ≡ stepAnswer settings client (now (words .entry)) (call .last) (call .a) ⌝ }
-    ensures words { λ s. ⌜ now (words .exit) ≡ stepWords settings client (now (words .entry)) (call .last) (call .a) ⌝ }
-{
-    client.step(words, settings, call)
-}
-
-#[no_mangle]
-pub extern "C" fn probe_release(
-    client: lock::Record,
-    words: &mut [u64],
-    settings: lock::Settings,
-    call: lock::Call,
-) -> lock::Stepped
-    ensures answer { λ s. ⌜ s ≡ releaseAnswer settings client (now (words .entry)) (call .last) ⌝ }
-    ensures words { λ s. ⌜ now (words .exit) ≡ now (words .entry) ⌝ }
-{
-    client.release(words, settings, call)
-}
-
-#[no_mangle]
-pub extern "C" fn probe_cancel(
-    client: lock::Record,
-    words: &mut [u64],
-    settings: lock::Settings,
-    call: lock::Call,
-) -> lock::Stepped
-    ensures answer { λ s. ⌜ s ≡ cancelAnswer settings client (now (words .entry)) (call .last) ⌝ }
-    ensures words { λ s. ⌜ now (words .exit) ≡ now (words .entry) ⌝ }
-{
-    client.cancel(words, settings, call)
+    client.act(words, settings, call, kind)
 }
 
 #[no_mangle]

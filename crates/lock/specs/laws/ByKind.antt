@@ -1,17 +1,27 @@
--- The call that a kind names: its client, and what the call by value that the kind chooses gives. Assumes nothing.
+-- Laws of the call by value that a kind names: its client, the first tests, which all kinds have in common, and what is left of each kind after them. Assumes nothing.
 use mathlib.Core.Path.{_≡_, refl, sym, ap, _∙_}
-use mathlib.Core.List.{List}
-use Prim.Native.Nat.{ℕ}
+use mathlib.Core.Bool.{Bool, true, false, not, _&&_, _||_}
+use mathlib.Core.List.{List, [], _∷_, _++_}
+use Prim.Native.Nat.{ℕ, _≤_}
 use native.Mathlib.Omega.{arith}
-use lib.Dec.{eqb}
-use Rattle.base.specs.laws.ChoiceLaws.{choose-eq, choose-ne, on-choose}
+use borrow.Author.Tests.{eq-eqb, ne-eqb, ltb-false}
+use lib.Dec.{eqb, ltb, eqb→eq}
+use lib.ListN.{length}
+use Rattle.base.specs.rules.Choice.{choose}
+use Rattle.base.specs.laws.ChoiceLaws.{choose-eq, choose-ne, by-eq, on-choose}
+use Rattle.tree.specs.rules.Tree.{wordCount}
+use Rattle.cover.specs.rules.Answer.{windowOutside}
 use Rattle.lock.specs.declared.Record.{Record}
 use Rattle.lock.specs.declared.Settings.{Settings}
+use Rattle.lock.specs.declared.Moved.{Moved}
 use Rattle.lock.specs.declared.Stepped.{Stepped}
-use Rattle.lock.specs.declared.Call.{Call as Asked}
-use Rattle.lock.specs.rules.Calls.{requestAnswer, releaseAnswer, cancelAnswer, stepAnswer, stepWords}
+use Rattle.lock.specs.rules.Records.{wordAt, written}
+use Rattle.lock.specs.rules.Unreadable.{differ, unreadable}
+use Rattle.lock.specs.rules.Steps.{touched, moved}
+use Rattle.lock.specs.rules.Calls.{Tests, firstCause, settingsOutside, treeTests, requestTests, stepTests, releaseTests, cancelTests, requested, released, cancelled, answered, requestNumber, requestAnswer, releaseAnswer, cancelAnswer, stepNumber, stepAnswer, stepWords}
 use Rattle.lock.specs.rules.Table.{Call, request, step, release, cancel, clientOf}
 use Rattle.lock.specs.rules.ByValue.{callOf, answerTo, wordsAfter}
+use Rattle.lock.specs.laws.CallLaws.{cause-hit, cause-skip, tree-passed, answer-accepted, refused-by}
 
 module _ (kind client a b : ℕ) where
   pub kind-request : kind ≡ 0 → callOf kind client a b ≡ request client a b
@@ -36,27 +46,116 @@ module _ (kind client a b : ℕ) where
       on-choose (λ (k : Call). clientOf k ≡ client) (eqb kind 0) _ _ (λ _. refl)
       (λ _. on-choose (λ (k : Call). clientOf k ≡ client) (eqb kind 1) _ _ (λ _. refl) (λ _. on-choose (λ (k : Call). clientOf k ≡ client) (eqb kind 2) _ _ (λ _. refl) (λ _. refl)))
 
--- the answer and the words of the call that a kind names, from those of the call that it is
-module _ (s : Settings) (r : Record) (words : List ℕ) (kind : ℕ) (c : Asked) (x : Stepped) (vs : List ℕ) where
-  abbrev Acted : Call → Type 0
-  Acted k = (x ≡ answerTo s r words (c .last) k) × (vs ≡ wordsAfter s r words (c .last) k)
+-- ---- the first tests
 
-  named : (k : Call) → callOf kind (c .client) (c .a) (c .b) ≡ k → Acted k → Acted (callOf kind (c .client) (c .a) (c .b))
-  named k e g = (g .0 ∙ ap (answerTo s r words (c .last)) (sym e), g .1 ∙ ap (wordsAfter s r words (c .last)) (sym e))
+-- 5, which "only a step tests"
+unfoldable pub backOf : ℕ → Call → Bool
+backOf last (request c a b) = false
+backOf last (step c t) = ltb t last
+backOf last (release c) = false
+backOf last (cancel c) = false
 
-  pub acts-request : kind ≡ 0 → x ≡ requestAnswer s r words (c .last) (c .a) (c .b) → vs ≡ words → Acted (callOf kind (c .client) (c .a) (c .b))
-  unfolding answerTo wordsAfter
-  acts-request e g h = named (request (c .client) (c .a) (c .b)) (kind-request _ _ _ _ e) (g, h)
+pub back-of-kind : (kind client a b last : ℕ) → (eqb kind 1 && ltb a last) ≡ backOf last (callOf kind client a b)
+unfolding backOf callOf
+back-of-kind kind client a b last =
+    by-eq kind 1 (λ e. ap (λ (x : Bool). x && ltb a last) (eq-eqb kind 1 e) ∙ ap (backOf last) (sym (kind-step kind client a b e)))
+    (λ d. ap (λ (x : Bool). x && ltb a last) (ne-eqb kind 1 d)
+    ∙ on-choose (λ (k : Call). false ≡ backOf last k) (eqb kind 0) _ _ (λ _. refl)
+    (λ _. on-choose (λ (k : Call). false ≡ backOf last k) (eqb kind 1) _ _ (λ t. absurd (d (eqb→eq kind 1 t))) (λ _. on-choose (λ (k : Call). false ≡ backOf last k) (eqb kind 2) _ _ (λ _. refl) (λ _. refl))))
 
-  pub acts-step : kind ≡ 1 → x ≡ stepAnswer s r words (c .last) (c .a) → vs ≡ stepWords s r words (c .last) (c .a) → Acted (callOf kind (c .client) (c .a) (c .b))
-  unfolding answerTo wordsAfter
-  acts-step e g h = named (step (c .client) (c .a)) (kind-step _ _ _ _ e) (g, h)
+pub step-onward : (kind clock last : ℕ) → kind ≡ 1 → (eqb kind 1 && ltb clock last) ≡ false → last ≤ clock
+step-onward kind clock last e h = ltb-false clock last (sym (ap (λ (x : Bool). x && ltb clock last) (eq-eqb kind 1 e)) ∙ h)
 
-  pub acts-release : kind ≡ 2 → x ≡ releaseAnswer s r words (c .last) → vs ≡ words → Acted (callOf kind (c .client) (c .a) (c .b))
-  unfolding answerTo wordsAfter
-  acts-release e g h = named (release (c .client)) (kind-release _ _ _ _ e) (g, h)
+-- 9, the only test of a step behind 6, and the words that the step leaves
+abbrev pub clearBit : Settings → Record → List ℕ → ℕ → ℕ
+clearBit s r words clock = firstCause ((differ (moved s r (wordAt words (touched s r)) clock .number) 0, 9) ∷ [])
 
-  pub acts-cancel : (kind ≡ 0 → ⊥) → (kind ≡ 1 → ⊥) → (kind ≡ 2 → ⊥) → x ≡ cancelAnswer s r words (c .last) → vs ≡ words
-      → Acted (callOf kind (c .client) (c .a) (c .b))
-  unfolding answerTo wordsAfter
-  acts-cancel d e f g h = named (cancel (c .client)) (kind-cancel _ _ _ _ d e f) (g, h)
+abbrev pub leftBy : Settings → Record → List ℕ → ℕ → List ℕ
+leftBy s r words clock = choose (eqb (clearBit s r words clock) 0) (written words (touched s r) (moved s r (wordAt words (touched s r)) clock .word)) words
+
+module _ (s : Settings) (r : Record) (words : List ℕ) (last : ℕ) where
+  -- what a kind tests itself, behind 1, 2, 5 and 6
+  unfoldable pub restOf : Call → Tests
+  restOf (request c a b) = (windowOutside (s .levels) a b, 7) ∷ (differ (r .phase) 0, 8) ∷ []
+  restOf (step c t) = (differ (moved s r (wordAt words (touched s r)) t .number) 0, 9) ∷ []
+  restOf (release c) = (differ (r .phase) 9, 8) ∷ []
+  restOf (cancel c) = (eqb (r .phase) 0 || eqb (r .phase) 9 || eqb (r .phase) 10, 8) ∷ []
+
+  -- all tests of a call, the first ones in common
+  abbrev pub numberOf : Call → ℕ
+  numberOf k = firstCause (treeTests s (length words) ++ ((backOf last k, 5) ∷ (unreadable s r last, 6) ∷ restOf k))
+
+  -- a call that is refused, and one that is not
+  pub refused-call : (k : Call) (n : ℕ) (x : Stepped) → numberOf k ≡ n → (n ≡ 0 → ⊥) → x ≡ record { number = n; clock = last; next = r }
+      → (x ≡ answerTo s r words last k) × (words ≡ wordsAfter s r words last k)
+  unfolding treeTests firstCause choose backOf restOf answerTo wordsAfter requestTests stepTests releaseTests cancelTests requestNumber requestAnswer releaseAnswer cancelAnswer stepNumber stepAnswer stepWords
+  refused-call (request c a b) n x e d q = (q ∙ refused-by _ n r last (requested s a b) last e d, refl)
+  refused-call (step c t) n x e d q = (q ∙ refused-by _ n r last _ t e d, sym (choose-ne (stepNumber s r words last t) 0 _ words (λ z. d (sym e ∙ z))))
+  refused-call (release c) n x e d q = (q ∙ refused-by _ n r last (released r) last e d, refl)
+  refused-call (cancel c) n x e d q = (q ∙ refused-by _ n r last (cancelled r) last e d, refl)
+
+  -- the record, the clock and the words that an accepted call leaves, where the word that it finds has no clear bit
+  unfoldable pub nextBy : Call → Record
+  nextBy (request c a b) = requested s a b
+  nextBy (step c t) = moved s r (wordAt words (touched s r)) t .next
+  nextBy (release c) = released r
+  nextBy (cancel c) = cancelled r
+
+  unfoldable pub clockBy : Call → ℕ
+  clockBy (request c a b) = last
+  clockBy (step c t) = t
+  clockBy (release c) = last
+  clockBy (cancel c) = last
+
+  unfoldable pub wordsBy : Call → List ℕ
+  wordsBy (request c a b) = words
+  wordsBy (step c t) = leftBy s r words t
+  wordsBy (release c) = words
+  wordsBy (cancel c) = words
+
+  -- where the first tests pass, what is left of the call decides
+  left-call : (k : Call) (x : Stepped) (vs : List ℕ) → numberOf k ≡ firstCause (restOf k) → x ≡ answered (firstCause (restOf k)) r last (nextBy k) (clockBy k) → vs ≡ wordsBy k
+      → (x ≡ answerTo s r words last k) × (vs ≡ wordsAfter s r words last k)
+  unfolding treeTests firstCause choose backOf restOf nextBy clockBy wordsBy answerTo wordsAfter requestTests stepTests releaseTests cancelTests requestNumber requestAnswer releaseAnswer cancelAnswer stepNumber stepAnswer stepWords
+  left-call (request c a b) x vs e q w = (q ∙ ap (λ (m : ℕ). answered m r last (requested s a b) last) (sym e), w)
+  left-call (step c t) x vs e q w =
+      (q ∙ ap (λ (m : ℕ). answered m r last (nextBy (step c t)) t) (sym e), w ∙ ap (λ (m : ℕ). choose (eqb m 0) (written words (touched s r) (moved s r (wordAt words (touched s r)) t .word)) words) (sym e))
+  left-call (release c) x vs e q w = (q ∙ ap (λ (m : ℕ). answered m r last (released r) last) (sym e), w)
+  left-call (cancel c) x vs e q w = (q ∙ ap (λ (m : ℕ). answered m r last (cancelled r) last) (sym e), w)
+
+  module _ (o : settingsOutside s ≡ false) (n : length words ≡ wordCount (s .levels)) (k : Call) where
+    pub number-back : backOf last k ≡ true → numberOf k ≡ 5
+    number-back e = tree-passed s (length words) _ o n ∙ cause-hit (backOf last k) 5 _ e
+
+    pub number-unreadable : backOf last k ≡ false → unreadable s r last ≡ true → numberOf k ≡ 6
+    number-unreadable b e = tree-passed s (length words) _ o n ∙ cause-skip (backOf last k) 5 _ b ∙ cause-hit (unreadable s r last) 6 _ e
+
+    number-rest : backOf last k ≡ false → unreadable s r last ≡ false → numberOf k ≡ firstCause (restOf k)
+    number-rest b e = tree-passed s (length words) _ o n ∙ cause-skip (backOf last k) 5 _ b ∙ cause-skip (unreadable s r last) 6 _ e
+
+    pub acted : (j : Call) → k ≡ j → (x : Stepped) (vs : List ℕ) → backOf last k ≡ false → unreadable s r last ≡ false
+        → x ≡ answered (firstCause (restOf j)) r last (nextBy j) (clockBy j) → vs ≡ wordsBy j → (x ≡ answerTo s r words last k) × (vs ≡ wordsAfter s r words last k)
+    acted j i x vs b u q w =
+        let a = left-call j x vs (ap numberOf (sym i) ∙ number-rest b u ∙ ap (λ (m : Call). firstCause (restOf m)) i) q w in
+        (a .0 ∙ ap (answerTo s r words last) (sym i), a .1 ∙ ap (wordsAfter s r words last) (sym i))
+
+-- ---- what is left of a step
+
+module _ (s : Settings) (r : Record) (words : List ℕ) (last clock : ℕ) (m : Moved) (e : m ≡ moved s r (wordAt words (touched s r)) clock) where
+  abbrev made : Moved
+  made = moved s r (wordAt words (touched s r)) clock
+
+  pub step-refused : (x : Stepped) → (m .number ≡ 0 → ⊥) → x ≡ record { number = 9; clock = last; next = r }
+      → (x ≡ answered (clearBit s r words clock) r last (made .next) clock) × (words ≡ leftBy s r words clock)
+  step-refused x d q =
+      let nine : clearBit s r words clock ≡ 9 = cause-hit _ 9 [] (ap not (ne-eqb (made .number) 0 (λ z. d (ap (λ y. y .number) e ∙ z)))) in
+      (q ∙ refused-by _ 9 r last (made .next) clock nine (λ z. omega arith), sym (choose-ne (clearBit s r words clock) 0 _ words (λ z. omega arith)))
+
+  pub step-taken : (vs : List ℕ) → m .number ≡ 0 → vs ≡ written words (touched s r) (m .word)
+      → (record { number = 0; clock = clock; next = m .next } ≡ answered (clearBit s r words clock) r last (made .next) clock) × (vs ≡ leftBy s r words clock)
+  unfolding firstCause
+  step-taken vs z q =
+      let none : clearBit s r words clock ≡ 0 = cause-skip _ 9 [] (ap not (eq-eqb (made .number) 0 (sym (ap (λ y. y .number) e) ∙ z))) in (
+        ap (λ (y : Record). record { number = 0; clock = clock; next = y }) (ap (λ y. y .next) e) ∙ sym (answer-accepted _ r last (made .next) clock none),
+        q ∙ ap (λ (y : ℕ). written words (touched s r) y) (ap (λ y. y .word) e) ∙ sym (choose-eq (clearBit s r words clock) 0 _ words none),
+      )
