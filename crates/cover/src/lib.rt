@@ -1,11 +1,14 @@
 // The cover of a window: the one or two nodes that hold all of it with the least over-cover, in a fixed number of steps.
 ghost use mathlib.Core.Path.{_≡_};
-ghost use Prim.Native.Nat.{_<_};
-ghost use Rattle.cover.specs.rules.Answer.{refused, accepted, answer};
+ghost use mathlib.Core.Bool.{false, not, _||_};
+ghost use Prim.Native.Nat.{_<_, _≤_};
+ghost use lib.Dec.{eqb};
+ghost use lib.ListN.{getD};
+ghost use Rattle.cover.specs.rules.Answer.{windowOutside, refused, accepted, answer};
 ghost use Rattle.cover.specs.rules.Search.{leastCover};
 ghost use Rattle.cover.specs.laws.Rise.{rise};
-ghost use Rattle.cover.specs.laws.Lowest.{Window};
-ghost use Rattle.cover.specs.laws.Code.{lowestPiece, one, pair};
+ghost use Rattle.cover.specs.laws.Lowest.{lowest, Window};
+ghost use Rattle.cover.specs.laws.Code.{lowestPiece, one, pair, cutUnit, notCover};
 
 // number 0: the pieces (second 0 for none) and their total over-cover; else the cause of a refusal, and zeros.
 #[repr(C)]
@@ -29,13 +32,22 @@ fn rise(l: u64, u: u64) -> u64
     (65 - u64::leading_zeros((l >> 6) ^ (u >> 6))) as u64 / 2
 }
 
-// The lowest node that has all of [l, r), and its over-cover: nothing for a leaf.
+// The lowest node that has all of [l, r).
+fn lowest_node(h: u64, l: u64, r: u64) -> u64
+    requires { ⌜ Window h l r ⌝ }
+    ensures { λ n. ⌜ n ≡ lowest h l r ⌝ }
+{
+    let up = rise(l, r - 1);
+    tree::first_node(h - up) + (l >> (2 * up + 6))
+}
+
+// That node and its over-cover: nothing for a leaf.
 fn lowest(h: u64, l: u64, r: u64) -> Piece
     requires { ⌜ Window h l r ⌝ }
     ensures { λ p. ⌜ p ≡ lowestPiece h l r ⌝ }
 {
     let up = rise(l, r - 1);
-    let node = tree::first_node(h - up) + (l >> (2 * up + 6));
+    let node = lowest_node(h, l, r);
     if up == 0 {
         return Piece {
             node: node,
@@ -76,21 +88,32 @@ fn two_pieces(h: u64, l: u64, t: u64, r: u64) -> Answer
     }
 }
 
-// Two pieces where the edges lie in neighbouring children of the lowest node that has the window, else that node.
-fn pieces(h: u64, l: u64, r: u64) -> Answer
+// The unit at which [l, r) is cut in two, where its edges lie in neighbouring children of the lowest node that has it; else 0. (Of h speaks the contract alone.)
+fn cut(h: u64, l: u64, r: u64) -> u64
     requires { ⌜ Window h l r ⌝ }
-    ensures { λ a. ⌜ a ≡ accepted h l r (leastCover 2 h l r) ⌝ }
+    ensures { λ t. ⌜ t ≡ cutUnit h l r ⌝ }
 {
     let k = rise(l, r - 1);
     if k == 0 {
-        return one_piece(h, l, r);
+        return 0;
     }
     let s = 2 * k + 4;
     let y = (r - 1) >> s;
     if y == (l >> s) + 1 {
-        return two_pieces(h, l, y << s, r);
+        return y << s;
     }
-    one_piece(h, l, r)
+    0
+}
+
+fn pieces(h: u64, l: u64, r: u64) -> Answer
+    requires { ⌜ Window h l r ⌝ }
+    ensures { λ a. ⌜ a ≡ accepted h l r (leastCover 2 h l r) ⌝ }
+{
+    let t = cut(h, l, r);
+    if t == 0 {
+        return one_piece(h, l, r);
+    }
+    two_pieces(h, l, t, r)
 }
 
 fn refuse(cause: u64) -> Answer
@@ -104,14 +127,45 @@ fn refuse(cause: u64) -> Answer
     }
 }
 
+// Whether [l, r) is no window of the tree.
+fn outside(h: u64, l: u64, r: u64) -> bool
+    requires { ⌜ (2 ≤ h) × (h ≤ 12) ⌝ }
+    ensures { λ b. ⌜ b ≡ windowOutside h l r ⌝ }
+{
+    (r <= l) | ((64u64 << (2 * (h - 1))) < r)
+}
+
 pub fn cover(h: u64, l: u64, r: u64) -> Answer
     ensures { λ a. ⌜ a ≡ answer h l r ⌝ }
 {
     if (h < 2) | (12 < h) {
         return refuse(1);
     }
-    if (r <= l) | ((64u64 << (2 * (h - 1))) < r) {
+    if outside(h, l, r) {
         return refuse(7);
     }
     pieces(h, l, r)
+}
+
+// Whether the pieces are not `first` and `second` (0 for none). No over-cover is worked out.
+fn other_pieces(h: u64, l: u64, r: u64, first: u64, second: u64) -> bool
+    requires { ⌜ Window h l r ⌝ }
+    ensures { λ b. ⌜ b ≡ notCover false (leastCover 2 h l r) first second ⌝ }
+{
+    let t = cut(h, l, r);
+    if t == 0 {
+        return (first != lowest_node(h, l, r)) | (second != 0);
+    }
+    (first != lowest_node(h, l, t)) | (second != lowest_node(h, t, r))
+}
+
+// Whether [l, r) is no window of the tree, or its pieces are not `first` and `second`.
+pub fn not_cover(h: u64, l: u64, r: u64, first: u64, second: u64) -> bool
+    requires { ⌜ (2 ≤ h) × (h ≤ 12) ⌝ }
+    ensures { λ b. ⌜ b ≡ (windowOutside h l r || not (eqb first (getD (leastCover 2 h l r) 0 0)) || not (eqb second (getD (leastCover 2 h l r) 1 0))) ⌝ }
+{
+    if outside(h, l, r) {
+        return true;
+    }
+    other_pieces(h, l, r, first, second)
 }

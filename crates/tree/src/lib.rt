@@ -89,18 +89,18 @@ pub fn ancestor_at(n: u64, i: u64) -> u64
     climb(n, i + 1)
 }
 
+// (level + m - 2) / m, with a division by a constant for every m: one by a variable is slow.
 pub fn notify_count(m: u64, n: u64) -> u64
     requires { ⌜ (1 ≤ m) × (m ≤ 4) × Node 12 n ⌝ }
     ensures { λ r. ⌜ r ≡ length (notifyList m n) ⌝ }
 {
     let d = level(n);
-    if d <= 1 {
-        return 0;
+    match m {
+        1 => d - 1,
+        2 => d / 2,
+        3 => (d + 1) / 3,
+        _ => (d + 2) / 4,
     }
-    if d <= m {
-        return 1;
-    }
-    (d - 2) / m + 1
 }
 
 // The level that a node of level d notifies at place i.

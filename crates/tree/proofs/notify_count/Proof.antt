@@ -1,11 +1,7 @@
 -- `tree::notify_count` meets its contract. Assumes nothing.
-use mathlib.Core.Path.{sym, ap, _∙_}
-use Prim.Native.Nat.{ℕ, _+_, _-_, _/_}
 use native.Mathlib.Omega.{arith}
-use native.Mathlib.Nat.{div-le-self}
-use Rattle.tree.specs.rules.Tree.{level}
-use Rattle.tree.specs.laws.Notify.{notify-count}
-use Rattle.tree.specs.laws.Code.{bounded, count-none, count-one, count-more}
+use Rattle.tree.specs.laws.Level.{level-pos}
+use Rattle.tree.specs.laws.Code.{count-code}
 use borrow.Author.Needs.{needs}
 use Rattle.tree.proofs.notify_count.Statement.{statement}
 use Rattle.tree.proofs.notify_count.Tie as tie
@@ -13,42 +9,27 @@ use Rattle.tree.proofs.notify_count.Tie as tie
 level-requires : tie.Need-level-requires
 level-requires c κs = search needs
 
-returns : tie.Need-returns
-returns c =
-    let a = c .before .before .args in
-    let q = c .before .before .pre in
-    let b = bounded (a .m) (a .n) (q .0) (q .1) (q .2) in
-    sym (notify-count (a .m) (a .n) b ∙ count-none (a .m) (level (a .n)) (omega (arith, c .before .level .ensures)))
-
-returns-2 : tie.Need-returns-2
-returns-2 c =
-    let a = c .before .before .before .args in
-    let q = c .before .before .before .pre in
-    let b = bounded (a .m) (a .n) (q .0) (q .1) (q .2) in
-    sym (notify-count (a .m) (a .n) b ∙ count-one (a .m) (level (a .n)) (omega (arith, c .before .before .level .ensures)) (omega (arith, c .before .before .level .ensures)))
-
 sub-result : tie.Need-sub-result
-sub-result c = search needs
-
-div-result : tie.Need-div-result
-div-result c = search needs
+sub-result c = omega (arith, c .before .level .ensures, level-pos (c .before .before .args .n))
 
 add-result : tie.Need-add-result
-add-result c =
-    let a = c .before .before .before .args in
-    let q = c .before .before .before .pre in
-    let b = bounded (a .m) (a .n) (q .0) (q .1) (q .2) in
-    omega (arith, div-le-self (c .before .before .level .result - 2) (a .m), c .before .before .level .ensures, q .2 .inside)
+add-result c = search needs
+
+add-result-2 : tie.Need-add-result-2
+add-result-2 c = search needs
+
+returns : tie.Need-returns
+returns c = count-code (c .before .before .pre) (c .match .keys1) (omega (arith, c .before .level .ensures))
+
+returns-2 : tie.Need-returns-2
+returns-2 c = count-code (c .before .before .pre) (c .match .keys2) (omega (arith, c .before .level .ensures))
 
 returns-3 : tie.Need-returns-3
-returns-3 c =
-    let a = c .before .before .before .args in
-    let q = c .before .before .before .pre in
-    let b = bounded (a .m) (a .n) (q .0) (q .1) (q .2) in
-    let e = c .before .before .level .ensures in
-    ap (λ (d : ℕ). (d - 2) / a .m + 1) e ∙ sym (notify-count (a .m) (a .n) b ∙ count-more (a .m) (level (a .n)) (omega arith) (omega arith))
+returns-3 c = count-code (c .before .before .pre) (c .match .keys3) (omega (arith, c .before .level .ensures))
+
+returns-4 : tie.Need-returns-4
+returns-4 c =
+    count-code {k = 4} (c .before .before .pre) (omega (arith, c .match .rest)) (omega (arith, c .before .level .ensures))
 
 pub notify-count-spec : {M : Type 1} → statement M
-notify-count-spec =
-    tie.close
-    (tie.spec level-requires returns returns-2 sub-result div-result add-result returns-3)
+notify-count-spec = tie.close (tie.spec level-requires sub-result add-result add-result-2 returns returns-2 returns-3 returns-4)

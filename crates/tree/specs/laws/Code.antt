@@ -1,10 +1,14 @@
 -- Laws: what the shifts of the code compute. Assumes nothing.
 use mathlib.Core.Path.{_≡_, refl, sym, ap, _∙_}
+use mathlib.Core.Bool.{Bool}
 use Prim.Native.Nat.{ℕ, suc, _+_, _-_, _*_, _/_, _%_, _^_, _≤_, _<_, max, min}
 use native.Mathlib.Omega.{arith}
 use native.Mathlib.Nat.{mod-eq-of-lt, pow-le-pow-right, mul-le-mul, div-le-self}
 use lib.Count.{leadingZeros, leading-top}
+use lib.Dec.{T, eqb, eqb→eq}
 use lib.ListN.{length, getD}
+use Rattle.base.specs.rules.Choice.{choose}
+use Rattle.base.specs.laws.Every.{every, every-at}
 use Rattle.base.specs.laws.ChoiceLaws.{choose-le, choose-gt, by-lt}
 use Rattle.tree.specs.rules.Tree.{climb, leftmost, first, last, level, Node, size, left}
 use Rattle.tree.specs.rules.Lists.{ancestor, ancestors, notifyList, checkList}
@@ -82,6 +86,23 @@ count-one m d h g = choose-gt d 1 0 _ h ∙ choose-le d m 1 _ g
 pub count-more : (m d : ℕ) → 1 < d → m < d → notifyCount m d ≡ (d - 2) / m + 1
 unfolding notifyCount
 count-more m d h g = choose-gt d 1 0 _ h ∙ choose-gt d m 1 _ g
+
+-- the count by one division
+abbrev pub divided : ℕ → ℕ → ℕ
+divided m d = (d + m - 2) / m
+
+abbrev counted : ℕ → ℕ → Bool
+counted m d = eqb (divided m d) (notifyCount m d)
+
+all-counted : T (every 4 1 (λ m. every 12 1 (λ d. counted m d)))
+unfolding every notifyCount choose
+all-counted = tt
+
+pub count-code : {m n k x : ℕ} → (1 ≤ m) × (m ≤ 4) × Node 12 n → m ≡ k → x ≡ divided k (level n) → x ≡ length (notifyList m n)
+count-code {m} {n} v e f =
+    let d = level n in
+    let t = every-at 12 1 (λ j. counted m j) (every-at 4 1 (λ i. every 12 1 (λ j. counted i j)) all-counted m (v .0) (omega (arith, v .1))) d (level-pos n) (omega (arith, v .2 .inside)) in
+    f ∙ ap (λ (i : ℕ). divided i d) (sym e) ∙ eqb→eq _ _ t ∙ sym (notify-count m n (bounded m n (v .0) (v .1) (v .2)))
 
 pub count-small : (m n : ℕ) → Bounded m (level n) → length (notifyList m n) < 12
 count-small m n b =
