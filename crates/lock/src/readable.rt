@@ -1,7 +1,7 @@
 // Whether a client record is unreadable: document 01's paragraph "Unreadable", as what every phase but idle asks and what a phase asks beside it (by_phase.rt). The test is made at
 // every call on every record, so the clauses that another implies in a phase are left out there.
 ghost use mathlib.Core.Path.{_≡_};
-ghost use Rattle.lock.specs.rules.Unreadable.{idleFilled, notCovered, unreadable};
+ghost use Rattle.lock.specs.rules.Unreadable.{idleFilled, unreadable};
 ghost use Rattle.lock.specs.laws.Active.{Settled};
 ghost use Rattle.lock.specs.laws.OwnTests.{notBegun};
 use crate::Record;
@@ -31,18 +31,16 @@ impl Record {
         requires { ⌜ Settled settings ⌝ }
         ensures { λ b. ⌜ b ≡ notBegun settings self last ⌝ }
     {
-        self.not_covered(settings)
+        cover::not_cover(
+            settings.levels,
+            self.left,
+            self.right,
+            self.first,
+            self.second,
+        )
             | (self.piece_count() <= self.current)
             | (32767 < self.ticket)
             | ((last < self.t1) | (last < self.t0))
-    }
-
-    fn not_covered(self, settings: Settings) -> bool
-        requires { ⌜ Settled settings ⌝ }
-        ensures { λ b. ⌜ b ≡ notCovered settings self ⌝ }
-    {
-        let least = cover::cover(settings.levels, self.left, self.right);
-        (least.number != 0) | (self.first != least.first) | (self.second != least.second)
     }
 
     pub fn unreadable(self, settings: Settings, last: u64) -> bool

@@ -1,27 +1,20 @@
 -- Laws of the unreadable clauses, as the code meets them. Assumes nothing.
-use mathlib.Core.Path.{_≡_, refl, sym, ap, _∙_, subst}
-use mathlib.Core.Bool.{Bool, true, false, not, _&&_, _||_}
+use mathlib.Core.Path.{_≡_, refl, sym, ap, subst}
+use mathlib.Core.Bool.{Bool, false, not, _&&_}
 use Prim.Native.Nat.{ℕ, suc, _≤_, _<_}
 use native.Mathlib.Omega.{arith}
-use borrow.Author.Tests.{eq-eqb, ne-eqb}
 use lib.Dec.{eqb, leb, ltb}
 use lib.ListN.{length}
 use Rattle.base.specs.rules.Choice.{choose}
-use Rattle.base.specs.laws.ChoiceLaws.{choose-eq, choose-ne, by-eq}
+use Rattle.base.specs.laws.ChoiceLaws.{choose-eq, choose-ne}
 use Rattle.tree.specs.rules.Tree.{Node}
 use Rattle.tree.specs.rules.Lists.{ancestors, notifyList, checkList}
-use Rattle.cover.specs.declared.Answer.{Answer}
-use Rattle.cover.specs.rules.Answer.{windowOutside, answer}
 use Rattle.lock.specs.declared.Record.{Record}
 use Rattle.lock.specs.declared.Settings.{Settings}
 use Rattle.lock.specs.rules.Records.{phaseOf, pieces, pieceAt, currentPiece, isLeaf, isRoot, noticesOf}
-use Rattle.lock.specs.rules.Unreadable.{nonzero, differ, notCovered, listLength, placePast, phaseElsewhere, lacksGrip}
-use Rattle.lock.specs.laws.CoverLaws.{cover-refused, cover-inside, cover-first, cover-second}
+use Rattle.lock.specs.rules.Unreadable.{nonzero, differ, listLength, placePast, phaseElsewhere, lacksGrip}
 use Rattle.lock.specs.laws.Phases.{on-phase}
 use Rattle.lock.specs.laws.Active.{Settled}
-
-pub one-true : (a b c : Bool) → a ≡ true → true ≡ (a || b || c)
-one-true a b c e = ap (λ d. d || b || c) (sym e)
 
 -- ---- what the clauses after the cover and the current piece stand on
 
@@ -36,24 +29,6 @@ module _ (s : Settings) (r : Record) (v : Begun s r) (i n : ℕ) (b : i < length
 
   pub piece-node-12 : Node 12 n
   piece-node-12 = record { some = piece-node .some; inside = omega (arith, piece-node .inside, v .settled .levels-most) }
-
--- ---- the cover
-
-module _ (s : Settings) (r : Record) (v : Settled s) (a : Answer) (e : a ≡ answer (s .levels) (r .left) (r .right)) where
-  abbrev outside : Bool
-  outside = windowOutside (s .levels) (r .left) (r .right)
-
-  pub cover-tested : (differ (a .number) 0 || differ (r .first) (a .first) || differ (r .second) (a .second)) ≡ notCovered s r
-  unfolding notCovered
-  cover-tested =
-      by-eq (a .number) 0
-      (λ z.
-      let inside = ap not (eq-eqb (a .number) 0 z) ∙ sym (cover-inside (s .levels) (r .left) (r .right) (v .levels-some) (v .levels-most) a e z) in
-      let first = cover-first (s .levels) (r .left) (r .right) (v .levels-some) (v .levels-most) a e z in
-      let second = cover-second (s .levels) (r .left) (r .right) (v .levels-some) (v .levels-most) a e z in
-      λ i. inside i || differ (r .first) (first i) || differ (r .second) (second i))
-      (λ d.
-      sym (one-true _ _ _ (ap not (ne-eqb (a .number) 0 d))) ∙ one-true outside _ _ (cover-refused (s .levels) (r .left) (r .right) (v .levels-some) (v .levels-most) a e d))
 
 -- ---- the place
 
@@ -152,10 +127,3 @@ module _ (leaf : Bool) (grip p : ℕ) where
   pub grip-returning : p ≡ 10 → choose leaf (differ grip 0 && differ grip 3) (ltb 3 grip) ≡ lacksGrip leaf grip (phaseOf p)
   unfolding lacksGrip phaseOf choose
   grip-returning e = ap (λ (n : ℕ). lacksGrip leaf grip (phaseOf n)) (sym e)
-
-  pub grip-none : (1 ≤ p → p < 11 → ⊥) → false ≡ lacksGrip leaf grip (phaseOf p)
-  unfolding lacksGrip
-  grip-none c =
-      on-phase p (λ f. false ≡ lacksGrip leaf grip f)
-      (λ e. refl) (λ e. absurd (c (omega arith) (omega arith))) (λ e. absurd (c (omega arith) (omega arith))) (λ e. absurd (c (omega arith) (omega arith))) (λ e. absurd (c (omega arith) (omega arith))) (λ e. absurd (c (omega arith) (omega arith)))
-      (λ e. absurd (c (omega arith) (omega arith))) (λ e. absurd (c (omega arith) (omega arith))) (λ e. absurd (c (omega arith) (omega arith))) (λ e. absurd (c (omega arith) (omega arith))) (λ e. absurd (c (omega arith) (omega arith))) (λ e. refl)

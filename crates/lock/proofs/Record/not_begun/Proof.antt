@@ -1,22 +1,23 @@
 -- `lock::Record::not_begun` meets its contract. Assumes nothing.
 use mathlib.Core.Bool.{_||_}
 use lib.Dec.{leb, ltb}
-use Rattle.lock.specs.rules.Unreadable.{noCurrent, ticketTooLarge, timeAhead}
+use Rattle.lock.specs.rules.Unreadable.{notCovered, noCurrent, ticketTooLarge, timeAhead}
 use Rattle.lock.specs.laws.OwnTests.{notBegun}
 use borrow.Author.Needs.{needs}
 use Rattle.lock.proofs.Record.not_begun.Statement.{statement}
 use Rattle.lock.proofs.Record.not_begun.Tie as tie
 
-not-covered-requires : tie.Need-not-covered-requires
-not-covered-requires c κs = search needs
+not-cover-requires : tie.Need-not-cover-requires
+not-cover-requires c κs =
+    (c .pre .levels-some, c .pre .levels-most)
 
 piece-count-requires : tie.Need-piece-count-requires
 piece-count-requires c κs = search needs
 
 returns : tie.Need-returns
-unfolding notBegun noCurrent ticketTooLarge timeAhead
+unfolding notBegun notCovered noCurrent ticketTooLarge timeAhead
 returns c =
-    λ i. c .before .before .before .before .before .not-covered .ensures i || leb (c .before .before .before .before .piece-count .ensures i) (c .before .before .before .before .before .before .args .self .current) || ltb 32767 (c .before .before .before .before .before .before .args .self .ticket) || (ltb (c .before .before .before .before .before .before .args .last) (c .before .before .before .before .before .before .args .self .t1) || ltb (c .before .before .before .before .before .before .args .last) (c .before .before .before .before .before .before .args .self .t0))
+    λ i. c .before .before .before .before .before .not-cover .ensures i || leb (c .before .before .before .before .piece-count .ensures i) (c .before .before .before .before .before .before .args .self .current) || ltb 32767 (c .before .before .before .before .before .before .args .self .ticket) || (ltb (c .before .before .before .before .before .before .args .last) (c .before .before .before .before .before .before .args .self .t1) || ltb (c .before .before .before .before .before .before .args .last) (c .before .before .before .before .before .before .args .self .t0))
 
 pub not-begun-spec : {M : Type 1} → statement M
-not-begun-spec = tie.close (tie.spec not-covered-requires piece-count-requires returns)
+not-begun-spec = tie.close (tie.spec not-cover-requires piece-count-requires returns)
