@@ -147,11 +147,14 @@ pub fn cover(h: u64, l: u64, r: u64) -> Answer
     pieces(h, l, r)
 }
 
-// Whether the pieces are not `first` and `second` (0 for none). No over-cover is worked out.
+// Whether the pieces are not `first` and `second` (0 for none). No over-cover is worked out. A window within one leaf is asked first, since there the lowest node is a shift.
 fn other_pieces(h: u64, l: u64, r: u64, first: u64, second: u64) -> bool
     requires { ⌜ Window h l r ⌝ }
     ensures { λ b. ⌜ b ≡ notCover false (leastCover 2 h l r) first second ⌝ }
 {
+    if rise(l, r - 1) == 0 {
+        return (first != lowest_node(h, l, r)) | (second != 0);
+    }
     let t = cut(h, l, r);
     if t == 0 {
         return (first != lowest_node(h, l, r)) | (second != 0);
