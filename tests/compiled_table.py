@@ -43,7 +43,7 @@ def load(library):
     whole = "-Wl,--whole-archive", library.resolve(), "-Wl,--no-whole-archive"
     command("gcc", "-shared", "-o", LOADED, *whole)
     found = CDLL(str(LOADED))
-    for name in (*KINDS, "act"):
+    for name in KINDS:
         call = getattr(found, f"table_{name}")
         call.argtypes, call.restype = (*LENT, CCall), CAnswer
     found.table_open.argtypes, found.table_open.restype = LENT, c_uint64
@@ -74,15 +74,15 @@ class Table:
     def open(self):
         return Library.function("open")(*self.lent)
 
-    def answer(self, call, last, name=None):
-        """Makes one call, by its own function or by the one that `name` says."""
-        asked = CCall(KINDS.index(call.kind), call.client, call.a, call.b, last)
-        answer = Library.function(name or call.kind)(*self.lent, asked)
+    def answer(self, call, last, told):
+        """Makes one call by its own function; `told` stands in the field `kind`, at which none looks."""
+        asked = CCall(told, call.client, call.a, call.b, last)
+        answer = Library.function(call.kind)(*self.lent, asked)
         return Answer(answer.number, answer.clock)
 
     def make(self, call):
         """Makes the call on what the last one left, and writes it into the history."""
-        number, self.clock = self.answer(call, self.clock)
+        number, self.clock = self.answer(call, self.clock, KINDS.index(call.kind))
         phase = self.records[call.client].phase if call.client < len(self.records) else None
         made = Made(call, number, phase)
         self.history.append(made)

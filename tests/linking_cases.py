@@ -140,8 +140,8 @@ def declared_structs():
 
 
 def declared_functions():
-    """Every function that the library exports is declared, and no other. `table_act` is for programs in Rattle."""
-    exported = set(re.findall(r'pub extern "C" fn (\w+)\(', source("table"))) - {"table_act"}
+    """Every function that the library exports is declared, and no other."""
+    exported = set(re.findall(r'pub extern "C" fn (\w+)\(', source("table")))
     for place, path in enumerate(DECLARATIONS.values()):
         declared = set(re.findall(r"^(?:\w+ |    pub fn )(table_\w+)\(", path.read_text(), re.MULTILINE))
         yield case("declared functions", [place], (len(exported), 0)), (len(declared), len(declared - exported))

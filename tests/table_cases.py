@@ -11,17 +11,19 @@ from compiled_table import Library, Table
 from histories import TOP, Driver, Shape, Watch
 from history_cases import CAUSES, MUST_OCCUR, SHAPE, lent_with_causes
 from model import table, tree
-from model.history import Call, Opened
+from model.history import KINDS, Call, Opened
 from model.record import IDLE, Record, Settings
 from record_states import any_clock
 
 UNLIKE = ("number", "clock", "records unlike", "words unlike")
 NAMES["compiled opening"] = ("levels", "words", "clients"), ("number", "records unlike", "words unlike")
-NAMES["compiled call"] = ("seed", "call", "by kind"), UNLIKE
-NAMES["compiled refusal"] = ("kind", "causes taken away", "by kind"), UNLIKE
+NAMES["compiled call"] = ("seed", "call", "kind told"), UNLIKE
+NAMES["compiled refusal"] = ("kind", "causes taken away", "kind told"), UNLIKE
 NAMES["compiled history"] = SHAPE, ("overlaps", "words left", "refused by 6", "refused by 9")
 NAMES["compiled occurs"] = ("place in the list of what must occur",), ("occurs",)
 
+# what may stand in a call's field `kind`: its own number, another call's, or none
+TOLD = *range(len(KINDS) + 1), TOP
 FILLED = Record(*range(1, len(Record._fields) + 1))
 
 
@@ -42,24 +44,24 @@ def model_answer(settings, words, records, call, last):
     return getattr(table, call.kind)(settings, words, records, call.client, *others, last)
 
 
-def compared(name, arguments, lent, call, last, by_kind):
+def compared(name, arguments, lent, call, last, told):
     """A case whose answer has the compiled call's number and clock, and how much of what it leaves is unlike the
     model's."""
     settings, words, records = lent
     compiled = Table(settings, words, records)
-    answer = compiled.answer(call, last, "act" if by_kind else None)
+    answer = compiled.answer(call, last, told)
     expected = model_answer(settings, words, records, call, last)
     return case(name, arguments, (*expected, 0, 0)), (*answer, *compiled.unlike(words, records))
 
 
 def refusals_in_order():
-    """Each kind with all of its causes, then with the first taken away, and so on, by its own function and by kind."""
+    """Each kind with all of its causes, then with the first taken away, and so on, whatever the field `kind` says."""
     for place, (kind, causes) in enumerate(CAUSES.items()):
         for away in range(len(causes)):
-            for by_kind in (0, 1):
+            for told in TOLD:
                 settings, words, records, client, *others = lent_with_causes(kind, causes[away:])
                 call = Call(kind, client, *others)
-                yield compared("compiled refusal", [place, away, by_kind], (settings, words, records), call, 9, by_kind)
+                yield compared("compiled refusal", [place, away, told], (settings, words, records), call, 9, told)
 
 
 def damaged(rng, record):
@@ -77,14 +79,14 @@ def single_calls():
         lock = Opened(settings, [0] * tree.node_count(settings.levels), [IDLE] * rng.choice([1, 2, 3, 6]))
         driver = Driver(lock, seed)
         for place in range(100):
-            call, by_kind = driver.next_call(), rng.randrange(2)
-            yield compared("compiled call", [seed, place, by_kind], (settings, list(lock.words), list(lock.records)), call, lock.clock, by_kind)
+            call, told = driver.next_call(), rng.choice(TOLD)
+            yield compared("compiled call", [seed, place, told], (settings, list(lock.words), list(lock.records)), call, lock.clock, told)
             client = rng.randrange(len(lock.records))
             words = list(lock.words)
             words[rng.randrange(len(words))] ^= 1 << rng.randrange(64)
             records = [damaged(rng, record) if c == client else record for c, record in enumerate(lock.records)]
             aimed = rng.choice([call, call._replace(client=client)])
-            yield compared("compiled call", [seed, place + 100, by_kind], (settings, words, records), aimed, lock.clock, by_kind)
+            yield compared("compiled call", [seed, place + 100, told], (settings, words, records), aimed, lock.clock, told)
             lock.make(call)
 
 

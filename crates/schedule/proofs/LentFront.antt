@@ -16,14 +16,11 @@ use denote.Struct.Laws as LL
 use Rattle.lock.specs.declared.Record.{Record}
 use Rattle.lock.proofs.Record as Rec
 use Rattle.lock.proofs.Record.Laws as Rec′
-use Rattle.table.proofs.Thin.{bytes}
+use Rattle.table.proofs.Rows.{R, bytes}
 use Rattle.schedule.specs.declared.Shelf.{Shelf}
 use Rattle.schedule.proofs.Lent.{field-of}
 use Rattle.schedule.proofs.Shelf as S
 use Rattle.schedule.proofs.Shelf.Laws as S′
-
-abbrev pub R : RattleType
-R = Rec.the-row
 
 abbrev pub RS : RattleType
 RS = S.the-row

@@ -5,7 +5,8 @@ ghost use Prim.Native.Nat.{_≤_};
 ghost use lib.ListN.{getD, take, replicate};
 ghost use Rattle.lock.specs.rules.Table as Table;
 ghost use Rattle.lock.specs.rules.Records.{idleWith};
-ghost use Rattle.table.specs.rules.Lent.{lent, result, callOf};
+ghost use Rattle.lock.specs.rules.ByValue.{callOf};
+ghost use Rattle.table.specs.rules.Lent.{lent, result};
 use crate::Acted;
 use crate::Shelf;
 use lock::Call;
@@ -35,7 +36,7 @@ pub fn act_front(
     ensures { λ r. ⌜ result (r .answer .number) (take clients (r .shelf .records)) (now (words .exit)) (r .answer .clock) ≡ Table.call settings (lent (take clients (shelf .records)) (now (words .entry)) (call .last)) (callOf (call .kind) (call .client) (call .a) (call .b)) ⌝ }
 {
     let mut records = shelf.records;
-    let answer = table_act(&mut records[..clients], words, settings, call);
+    let answer = table_act(&mut records[..clients], words, settings, call, call.kind);
     Acted {
         answer: answer,
         shelf: Shelf { records: records },

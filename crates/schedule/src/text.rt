@@ -2,7 +2,7 @@
 ghost use Prim.Native.Nat.{_+_, _≤_};
 ghost use mathlib.Core.List.{_++_};
 ghost use lib.ListN.{length};
-ghost use Rattle.table.specs.rules.Lent.{callOf};
+ghost use Rattle.lock.specs.rules.ByValue.{callOf};
 ghost use Rattle.schedule.specs.laws.Appended.{Appended};
 ghost use Rattle.schedule.specs.rules.Log.{kindText, headerLine, line, refusedLine};
 ghost use Rattle.schedule.specs.rules.Text.{text, decimal, spaced};

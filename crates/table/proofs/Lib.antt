@@ -1,3 +1,4 @@
 pub mod Filled
-pub mod Thin
+pub mod Forward
+pub mod Rows
 pub mod Walk

@@ -1,5 +1,3 @@
-pub mod ByValue
-pub mod ByValueLaws
 pub mod CallLaws
 pub mod CauseLaws
 pub mod Causes

@@ -2,13 +2,13 @@
 // client's record. Its promise is one equation, of one definition, the crate lock's `Table.call`, for every table, word list, client and number.
 ghost use mathlib.Core.Path.{_≡_};
 ghost use Rattle.lock.specs.rules.Table as Table;
-ghost use Rattle.table.specs.rules.Lent.{lent, result, callOf};
+ghost use Rattle.lock.specs.rules.ByValue.{callOf};
+ghost use Rattle.table.specs.rules.Lent.{lent, result};
 use lock::Call;
 use lock::Record;
 use lock::Settings;
 
 mod causes;
-mod kinds;
 mod zeroes;
 
 pub use causes::opening_cause;
@@ -18,6 +18,34 @@ pub use causes::opening_cause;
 pub struct Answer {
     pub number: u64,
     pub clock: u64,
+}
+
+// The call that its kind names: 0 request, 1 step, 2 release, any other number cancel. All calls over the table are this one function, so that the call by value
+// has one caller and is built into it once; the exported calls only pass their arguments on.
+pub fn table_act(
+    records: &mut [Record],
+    words: &mut [u64],
+    settings: Settings,
+    call: Call,
+    kind: u64,
+) -> Answer
+    ensures { λ r. ⌜ result (r .number) (now (records .exit)) (now (words .exit)) (r .clock) ≡ Table.call settings (lent (now (records .entry)) (now (words .entry)) (call .last)) (callOf kind (call .client) (call .a) (call .b)) ⌝ }
+{
+    let cause = causes::table_cause(settings, words.len(), records.len(), call.client);
+    if 0 < cause {
+        return Answer {
+            number: cause,
+            clock: call.last,
+        };
+    }
+    let client = call.client as usize;
+    let record = records[client];
+    let stepped = record.act(words, settings, call, kind);
+    records[client] = stepped.next;
+    Answer {
+        number: stepped.number,
+        clock: stepped.clock,
+    }
 }
 
 // Tests 1, 2, 3, 4, 6, 7, 8.
@@ -30,21 +58,7 @@ pub extern "C" fn table_request(
 ) -> Answer
     ensures { λ r. ⌜ result (r .number) (now (records .exit)) (now (words .exit)) (r .clock) ≡ Table.call settings (lent (now (records .entry)) (now (words .entry)) (call .last)) (Table.request (call .client) (call .a) (call .b)) ⌝ }
 {
-    let cause = causes::table_cause(settings, words.len(), records.len(), call.client);
-    if 0 < cause {
-        return Answer {
-            number: cause,
-            clock: call.last,
-        };
-    }
-    let client = call.client as usize;
-    let record = records[client];
-    let stepped = record.request(words, settings, call);
-    records[client] = stepped.next;
-    Answer {
-        number: stepped.number,
-        clock: stepped.clock,
-    }
+    table_act(records, words, settings, call, 0)
 }
 
 // Tests 1, 2, 3, 4, 5, 6, 9.
@@ -57,21 +71,7 @@ pub extern "C" fn table_step(
 ) -> Answer
     ensures { λ r. ⌜ result (r .number) (now (records .exit)) (now (words .exit)) (r .clock) ≡ Table.call settings (lent (now (records .entry)) (now (words .entry)) (call .last)) (Table.step (call .client) (call .a)) ⌝ }
 {
-    let cause = causes::table_cause(settings, words.len(), records.len(), call.client);
-    if 0 < cause {
-        return Answer {
-            number: cause,
-            clock: call.last,
-        };
-    }
-    let client = call.client as usize;
-    let record = records[client];
-    let stepped = record.step(words, settings, call);
-    records[client] = stepped.next;
-    Answer {
-        number: stepped.number,
-        clock: stepped.clock,
-    }
+    table_act(records, words, settings, call, 1)
 }
 
 // Tests 1, 2, 3, 4, 6, 8.
@@ -84,21 +84,7 @@ pub extern "C" fn table_release(
 ) -> Answer
     ensures { λ r. ⌜ result (r .number) (now (records .exit)) (now (words .exit)) (r .clock) ≡ Table.call settings (lent (now (records .entry)) (now (words .entry)) (call .last)) (Table.release (call .client)) ⌝ }
 {
-    let cause = causes::table_cause(settings, words.len(), records.len(), call.client);
-    if 0 < cause {
-        return Answer {
-            number: cause,
-            clock: call.last,
-        };
-    }
-    let client = call.client as usize;
-    let record = records[client];
-    let stepped = record.release(words, settings, call);
-    records[client] = stepped.next;
-    Answer {
-        number: stepped.number,
-        clock: stepped.clock,
-    }
+    table_act(records, words, settings, call, 2)
 }
 
 // Tests 1, 2, 3, 4, 6, 8.
@@ -111,48 +97,7 @@ pub extern "C" fn table_cancel(
 ) -> Answer
     ensures { λ r. ⌜ result (r .number) (now (records .exit)) (now (words .exit)) (r .clock) ≡ Table.call settings (lent (now (records .entry)) (now (words .entry)) (call .last)) (Table.cancel (call .client)) ⌝ }
 {
-    let cause = causes::table_cause(settings, words.len(), records.len(), call.client);
-    if 0 < cause {
-        return Answer {
-            number: cause,
-            clock: call.last,
-        };
-    }
-    let client = call.client as usize;
-    let record = records[client];
-    let stepped = record.cancel(words, settings, call);
-    records[client] = stepped.next;
-    Answer {
-        number: stepped.number,
-        clock: stepped.clock,
-    }
-}
-
-// The call that its kind names: 0 request, 1 step, 2 release, any other number cancel.
-#[no_mangle]
-pub extern "C" fn table_act(
-    records: &mut [Record],
-    words: &mut [u64],
-    settings: Settings,
-    call: Call,
-) -> Answer
-    ensures { λ r. ⌜ result (r .number) (now (records .exit)) (now (words .exit)) (r .clock) ≡ Table.call settings (lent (now (records .entry)) (now (words .entry)) (call .last)) (callOf (call .kind) (call .client) (call .a) (call .b)) ⌝ }
-{
-    let cause = causes::table_cause(settings, words.len(), records.len(), call.client);
-    if 0 < cause {
-        return Answer {
-            number: cause,
-            clock: call.last,
-        };
-    }
-    let client = call.client as usize;
-    let record = records[client];
-    let stepped = kinds::act(record, words, settings, call);
-    records[client] = stepped.next;
-    Answer {
-        number: stepped.number,
-        clock: stepped.clock,
-    }
+    table_act(records, words, settings, call, 3)
 }
 
 // "Opening tests 1 to 3, then zeroes words, records and clock." The clock travels beside the table: it is 0 from here on.

@@ -12,7 +12,7 @@ use Rattle.base.specs.laws.ChoiceLaws.{choose-unless, by-lt}
 use Rattle.lock.specs.declared.Call.{Call as CallStruct}
 use Rattle.lock.specs.rules.Unreadable.{differ}
 use Rattle.base.specs.laws.TestLaws.{true-first, true-later, next-test}
-use Rattle.table.specs.rules.Lent.{callOf}
+use Rattle.lock.specs.rules.ByValue.{callOf}
 use Rattle.schedule.specs.rules.Format.{little, offsetIn, placeOf, kindIn, clientIn, aIn, bIn, callIn, callWrong, anyWrong}
 
 -- ---- a call as the code has it

@@ -14,7 +14,8 @@ use Rattle.lock.specs.declared.Record.{Record}
 use Rattle.lock.specs.declared.Settings.{Settings}
 use Rattle.lock.specs.rules.Records.{idleWith}
 use Rattle.lock.specs.rules.Table.{State, call, openingNumber, opened, opening}
-use Rattle.table.specs.rules.Lent.{lent, callOf}
+use Rattle.lock.specs.rules.ByValue.{callOf}
+use Rattle.table.specs.rules.Lent.{lent}
 use Rattle.schedule.specs.declared.Run.{Run}
 use Rattle.schedule.specs.rules.Format.{callIn, lentFor}
 use Rattle.schedule.specs.laws.FormatLaws.{CallRead, call-read}

@@ -12,7 +12,7 @@ use Rattle.lock.specs.rules.Records.{idleWith}
 use Rattle.lock.specs.rules.Unreadable.{differ}
 use Rattle.lock.specs.rules.Calls.{firstCause}
 use Rattle.lock.specs.rules.Table.{State, Call}
-use Rattle.table.specs.rules.Lent.{callOf}
+use Rattle.lock.specs.rules.ByValue.{callOf}
 
 -- "little-endian": the number that k bytes from place i on hold
 unfoldable pub little : ℕ → List ℕ → ℕ → ℕ

@@ -12,11 +12,11 @@ use Rattle.lock.specs.declared.Record.{Record}
 use Rattle.lock.specs.declared.Settings.{Settings}
 use Rattle.lock.specs.declared.Stepped.{Stepped}
 use Rattle.lock.specs.rules.Records.{idleWith}
-use Rattle.lock.specs.rules.Calls.{firstCause, treeTests, clientTests, requested, released, cancelled, answered as answeredBy, requestNumber, requestAnswer, releaseAnswer, cancelAnswer, stepNumber, stepAnswer, stepWords}
+use Rattle.lock.specs.rules.Calls.{firstCause, treeTests, clientTests, requested, released, cancelled, answered, requestNumber, requestAnswer, releaseAnswer, cancelAnswer, stepNumber, stepAnswer, stepWords}
 use Rattle.lock.specs.rules.Table.{State, Call, request, step, release, cancel, clientOf, recordAt, Out, ownTests, numberOf, after, call}
+use Rattle.lock.specs.rules.ByValue.{answerTo, wordsAfter}
 use Rattle.table.specs.declared.Answer.{Answer}
 use Rattle.table.specs.rules.Lent.{lent, result}
-use Rattle.table.specs.laws.ByValue.{answered, wordsAfter}
 use Rattle.table.specs.laws.Causes.{tableCause}
 use Rattle.table.specs.laws.CauseLaws.{first-hits, first-passes, both-none}
 
@@ -82,8 +82,8 @@ module _ (s : Settings) (records : List Record) (words : List ℕ) (last : ℕ) 
   -- an answer by value with the number n, put back into the table
   put-back : (c n t : ℕ) (next : Record) (others : List ℕ)
       → Same (record { number = n; state = choose (eqb n 0) (record { words = others; records = set records c next; clock = t }) st })
-      (answeredOf (answeredBy n (recordAt st c) last next t)) (set records c (answeredBy n (recordAt st c) last next t .next)) (choose (eqb n 0) others words)
-  unfolding answeredBy
+      (answeredOf (answered n (recordAt st c) last next t)) (set records c (answered n (recordAt st c) last next t .next)) (choose (eqb n 0) others words)
+  unfolding answered
   put-back c n t next others = put-back-by c n t next others (eqb n 0) (eqb→eq n 0)
 
   -- a call that the number n is known of
@@ -92,18 +92,18 @@ module _ (s : Settings) (records : List Record) (words : List ℕ) (last : ℕ) 
 
   abbrev Taken : Call → Out → Type 0
   Taken k out =
-      Same out (answeredOf (answered s (recordAt st (clientOf k)) words last k)) (set records (clientOf k) (answered s (recordAt st (clientOf k)) words last k .next)) (wordsAfter s (recordAt st (clientOf k)) words last k)
+      Same out (answeredOf (answerTo s (recordAt st (clientOf k)) words last k)) (set records (clientOf k) (answerTo s (recordAt st (clientOf k)) words last k .next)) (wordsAfter s (recordAt st (clientOf k)) words last k)
 
   -- a call that touches no word
   no-word : (c n t : ℕ) (next : Record)
       → Same (record { number = n; state = choose (eqb n 0) (record { words = words; records = set records c next; clock = t }) st })
-      (answeredOf (answeredBy n (recordAt st c) last next t)) (set records c (answeredBy n (recordAt st c) last next t .next)) words
+      (answeredOf (answered n (recordAt st c) last next t)) (set records c (answered n (recordAt st c) last next t .next)) words
   no-word c n t next =
-      let by-value = answeredBy n (recordAt st c) last next t in
+      let by-value = answered n (recordAt st c) last next t in
       (λ i. result (by-value .number) (set records c (by-value .next)) (sym (choose-same (eqb n 0) words) i) (by-value .clock)) ∙ put-back c n t next words
 
   by-value : (k : Call) → Taken k (outOf k (firstCause (treeTests s (length words) ++ ownTests s st k)))
-  unfolding ownTests after clientOf answered wordsAfter requestNumber requestAnswer releaseAnswer cancelAnswer stepNumber stepAnswer stepWords
+  unfolding ownTests after clientOf answerTo wordsAfter requestNumber requestAnswer releaseAnswer cancelAnswer stepNumber stepAnswer stepWords
   by-value (request c a b) = no-word c (requestNumber s (recordAt st c) words last a b) last (requested s a b)
   by-value (step c t) = put-back c (stepNumber s (recordAt st c) words last t) t _ _
   by-value (release c) = no-word c _ last (released (recordAt st c))
@@ -115,7 +115,7 @@ module _ (s : Settings) (records : List Record) (words : List ℕ) (last : ℕ) 
 
   -- the same where the client is known by another name
   pub table-takes : (k : Call) (c : ℕ) → clientOf k ≡ c → tableCause s (length words) (length records) c ≡ 0
-      → Same (call s st k) (answeredOf (answered s (recordAt st c) words last k)) (set records c (answered s (recordAt st c) words last k .next)) (wordsAfter s (recordAt st c) words last k)
+      → Same (call s st k) (answeredOf (answerTo s (recordAt st c) words last k)) (set records c (answerTo s (recordAt st c) words last k .next)) (wordsAfter s (recordAt st c) words last k)
   table-takes k c e z =
-      subst (λ (d : ℕ). Same (call s st k) (answeredOf (answered s (recordAt st d) words last k)) (set records d (answered s (recordAt st d) words last k .next)) (wordsAfter s (recordAt st d) words last k)) e
+      subst (λ (d : ℕ). Same (call s st k) (answeredOf (answerTo s (recordAt st d) words last k)) (set records d (answerTo s (recordAt st d) words last k .next)) (wordsAfter s (recordAt st d) words last k)) e
       (table-passes k (ap (tableCause s (length words) (length records)) e ∙ z))

@@ -55,9 +55,11 @@ use Rattle.lock.proofs.Settings.Laws as G′
 use Rattle.lock.proofs.Call as K
 use Rattle.lock.proofs.Call.Laws as K′
 use Rattle.table.specs.declared.Answer.{Answer}
-use Rattle.table.specs.rules.Lent.{lent, result, callOf}
+use Rattle.lock.specs.rules.ByValue.{callOf}
+use Rattle.table.specs.rules.Lent.{lent, result}
 use Rattle.table.proofs.Answer as An
 use Rattle.table.proofs.Answer.Laws as An′
+use Rattle.table.proofs.Rows.{R, RG, RK, RA}
 use Rattle.table.proofs.Walk.{shows-that}
 use Rattle.table.proofs.table_act as callee
 use Rattle.table.proofs.table_act.Symbol as callee-def
@@ -66,7 +68,7 @@ use Rattle.table.proofs.table_act.Met as callee-thm
 use Rattle.schedule.specs.declared.Shelf.{Shelf}
 use Rattle.schedule.specs.declared.Acted.{Acted}
 use Rattle.schedule.proofs.Lent.{held, kept, lends-front, front-back, let-go, use4, of-field}
-use Rattle.schedule.proofs.LentFront.{R, RS, AR, lowered, room-of, on-shelf, shelf-is, shelf-made}
+use Rattle.schedule.proofs.LentFront.{RS, AR, lowered, room-of, on-shelf, shelf-is, shelf-made}
 use Rattle.schedule.proofs.Shelf as S
 use Rattle.schedule.proofs.Shelf.Laws as S′
 use Rattle.schedule.proofs.Acted as O
@@ -75,15 +77,6 @@ use Rattle.schedule.proofs.front.act_front.Key.{name as #this}
 use Rattle.schedule.proofs.front.act_front as this
 use Rattle.schedule.proofs.front.act_front.Statement as stated
 use Rattle.schedule.proofs.front.act_front.Code as code
-
-abbrev RG : RattleType
-RG = G.the-row
-
-abbrev RK : RattleType
-RK = K.the-row
-
-abbrev RA : RattleType
-RA = An.the-row
 
 abbrev RO : RattleType
 RO = O.the-row
@@ -142,18 +135,19 @@ module _ {M : Type 1} (𝓤 : URA M) (H : Heap 𝓤) (A : Atoms 𝓤) (W : Given
   abbrev x : ℕ → GName → RefT (List Record)
   x b γ = record { ptr = (b, 0); name = γ; now = front }
 
-  abbrev passed : ℕ → GName → RefT (List Record) × (RefT (List ℕ) × (Settings × (Call × Unit {0})))
-  passed b γ = (x b γ, (u, (st, (ca, tt))))
+  abbrev passed : ℕ → GName → RefT (List Record) × (RefT (List ℕ) × (Settings × (Call × (ℕ × Unit {0}))))
+  passed b γ = (x b γ, (u, (st, (ca, (ca .kind, tt)))))
 
   abbrev to : ℕ → ℕ → GName → Callee 𝓤 H A mem run .Ghost
-  to b α γ = (((α ∷ [], (κ, tt)), (fullShare, (q, tt)), tt, passed b γ, (sliceVal (b, 0) (length front) ∷ [], (s′ ∷ [], (G′.lowered st ∷ [], (K′.lowered ca ∷ [], tt))))), tt)
+  to b α γ = (((α ∷ [], (κ, tt)), (fullShare, (q, tt)), tt, passed b γ, (sliceVal (b, 0) (length front) ∷ [], (s′ ∷ [], (G′.lowered st ∷ [], (K′.lowered ca ∷ [], (vint w64 (ca .kind) ∷ [], tt)))))), tt)
 
   goes : (b α : ℕ) (γ : GName)
       → ent 𝓤 (sep 𝓤 (sep 𝓤 (A .lft (α ∷ []) fullShare) (sep 𝓤 (A .lft κ q) (sem 𝓤 H A ftrue))) (sep 𝓤 (sem 𝓤 H A (MutSlice (named 0) (α ∷ []) R .own (x b γ) (sliceVal (b, 0) (length front) ∷ []))) (sem 𝓤 H A (MutSlice (named 0) κ u64 .own u (s′ ∷ [])))))
       (Callee 𝓤 H A mem run .pre (to b α γ))
   goes b α γ =
       qed W ((‵ (flft (α ∷ []) fullShare) ⊛ (‵ (flft κ q) ⊛ ‵ ftrue)) ∷ ‵ (MutSlice (named 0) (α ∷ []) R .own (x b γ) (sliceVal (b, 0) (length front) ∷ [])) ∷ ‵ (MutSlice (named 0) κ u64 .own u (s′ ∷ [])) ∷ []) ∵
-      nothing ! $ owned ! RK (Is RK) ((LL.makes K.the-type K′.the-plain) 𝓤 H A) ca _ gc $ fjoin ! $ owned ! RG (Is RG) ((LL.makes G.the-type G′.the-plain) 𝓤 H A) st _ gs $ fjoin ! $
+      nothing ! $ owned ! u64 (Is u64) (uint-makes 𝓤 H A W w64) (ca .kind) _ (refl, LL.owed K.the-type K′.the-laws ca _ gc .0 .1) $ fjoin ! $
+      owned ! RK (Is RK) ((LL.makes K.the-type K′.the-plain) 𝓤 H A) ca _ gc $ fjoin ! $ owned ! RG (Is RG) ((LL.makes G.the-type G′.the-plain) 𝓤 H A) st _ gs $ fjoin ! $
       move ! (3 ∷ 0 ∷ []) $ fjoin ! $ move ! (2 ∷ 0 ∷ []) $ fjoin ! $ move ! (1 ∷ 0 ∷ []) $ join ! $ nothing ! $ move ! (1 ∷ 0 ∷ []) $ done !
 
   -- the records `ys` are the first of the shelf at exit
@@ -200,10 +194,10 @@ module _ {M : Type 1} (𝓤 : URA M) (H : Heap 𝓤) (A : Atoms 𝓤) (W : Given
         await ! tt $ split ! $ move ! (1 ∷ []) $ pick ! (λ γ. split ! $ move ! (0 ∷ 1 ∷ 3 ∷ 4 ∷ 5 ∷ []) $
         -- [the slice; the lender's part; its token; the token; what words owns; the elements that stay; _13; …, without _6's cell]
         move ! (2 ∷ 3 ∷ []) $ join ! $ move ! (0 ∷ 1 ∷ 3 ∷ []) $ use3 W (raw (Callee 𝓤 H A mem run .pre (to l₆ α γ))) (goes l₆ α γ) $
-        calls-at ! fm (Callee 𝓤 H A mem run) known (to l₆ α γ) (and-then ! (load ! (from ! (stop !)) (look ! 11 refl)) (and-then ! (load ! (from ! (stop !)) (look ! 7 refl)) (and-then ! (load ! (from ! (stop !)) (look ! 20 refl)) (and-then ! (load ! (from ! (stop !)) (look ! 18 refl)) (no-more !))))) (λ w.
+        calls-at ! fm (Callee 𝓤 H A mem run) known (to l₆ α γ) (and-then ! (load ! (from ! (stop !)) (look ! 11 refl)) (and-then ! (load ! (from ! (stop !)) (look ! 7 refl)) (and-then ! (load ! (from ! (stop !)) (look ! 20 refl)) (and-then ! (load ! (from ! (stop !)) (look ! 18 refl)) (and-then ! (load ! (from ! (fld ! refl (stop !))) (look-in ! 18 (sub ! 0 refl (whole !)))) (no-more !)))))) (λ w.
         use1 W (later (some (λ (n : Answer). ((‵ (flft (α ∷ []) fullShare) ⊛ (‵ (flft κ q) ⊛ ‵ ftrue)) ⊛ ‵ (RA .own n (w ∷ []))) ⊛ raw (ensured 𝓤 H A callee.ended (callee.clauses 𝓤 H A mem run) (α ∷ [], (κ, tt)) (passed l₆ γ) tt n)))) (id⊢ 𝓤 _) $
         await ! tt $ pick ! (λ n. split ! $ move ! (1 ∷ []) $
-        use1 W (some (λ (vs : List Record × (List ℕ × (Unit {0} × (Unit {0} × Unit {0})))). ‵ (lasts callee.ended (α ∷ [], (κ, tt)) (passed l₆ γ) vs) ⊛ raw (fact 𝓤 (result (n .number) (vs .0) (vs .1 .0) (n .clock) ≡ made-of)))) (id⊢ 𝓤 _) $
+        use1 W (some (λ (vs : List Record × (List ℕ × (Unit {0} × (Unit {0} × (Unit {0} × Unit {0}))))). ‵ (lasts callee.ended (α ∷ [], (κ, tt)) (passed l₆ γ) vs) ⊛ raw (fact 𝓤 (result (n .number) (vs .0) (vs .1 .0) (n .clock) ≡ made-of)))) (id⊢ 𝓤 _) $
         pick ! (λ vs. let zs = vs .0 ++ drop-list m xs in split ! $ move ! (1 ∷ []) $ heard ! (result (n .number) (vs .0) (vs .1 .0) (n .clock) ≡ made-of) (λ h.
         fsplit ! $ fsplit ! $ move ! (1 ∷ []) $ feqL ! (λ k. move ! (1 ∷ []) $ fsplit ! $ fsplit ! $ move ! (1 ∷ []) $ feqL ! (λ l. move ! (1 ∷ []) $ drop ! $
         move ! (2 ∷ []) $ split ! $ split ! $

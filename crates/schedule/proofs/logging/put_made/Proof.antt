@@ -1,5 +1,5 @@
 -- `schedule::logging::put_made` meets its contract. Assumes nothing.
-use Rattle.table.specs.laws.ByValueLaws.{client-of-kind}
+use Rattle.lock.specs.laws.ByKind.{client-of-kind}
 use Rattle.schedule.specs.laws.Appended.{restated}
 use Rattle.schedule.specs.laws.FormatLaws.{call-read}
 use Rattle.schedule.specs.laws.Writing.{line-in}

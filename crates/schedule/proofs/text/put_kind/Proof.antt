@@ -1,7 +1,7 @@
 -- `schedule::text::put_kind` meets its contract. Assumes nothing.
 use mathlib.Core.Path.{sym, ap}
 use Rattle.schedule.specs.laws.Appended.{restated}
-use Rattle.table.specs.laws.ByValueLaws.{kind-request, kind-step, kind-release, kind-cancel}
+use Rattle.lock.specs.laws.ByKind.{kind-request, kind-step, kind-release, kind-cancel}
 use Rattle.schedule.specs.rules.Log.{kindText}
 use borrow.Author.Needs.{needs}
 use Rattle.schedule.proofs.text.put_kind.Statement.{statement}

@@ -1,6 +1,6 @@
 -- `schedule::text::put_line` meets its contract. Assumes nothing.
 use native.Mathlib.Omega.{arith}
-use Rattle.table.specs.laws.ByValueLaws.{client-of-kind}
+use Rattle.lock.specs.laws.ByKind.{client-of-kind}
 use Rattle.schedule.specs.laws.Appended.{joined, restated}
 use Rattle.schedule.specs.laws.Writing.{line-of}
 use borrow.Author.Needs.{needs}
