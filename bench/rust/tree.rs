@@ -21,9 +21,43 @@ pub fn check_node(node: u64, place: u64) -> u64 {
     ((node - 1) << (2 * (level(place + 1) - 1))) + place + 1
 }
 
-/// How far above the leaves the lowest node stands that holds both leaves, which are counted from 0.
-fn height(leaf: u64, other: u64) -> u64 {
-    (65 - (leaf ^ other).leading_zeros() as u64) / 2
+/// How far above the leaves the lowest node stands that holds both units.
+fn height(unit: u64, other: u64) -> u64 {
+    (65 - (unit >> 6 ^ other >> 6).leading_zeros() as u64) / 2
+}
+
+/// The one or two pieces of a window, the second 0 for none, and their over-cover.
+pub struct Cover {
+    pub first: u64,
+    pub second: u64,
+    pub over: u64,
+}
+
+/// The lowest node that holds [l, r) and its over-cover: nothing for a leaf, of which only the wanted bits are taken.
+fn lowest(levels: u64, l: u64, r: u64) -> (u64, u64) {
+    let height = height(l, r - 1);
+    let node = nodes(levels - 1 - height) + 1 + (l >> (2 * height + 6));
+    let over = if height == 0 { 0 } else { (64 << (2 * height)) - (r - l) };
+    (node, over)
+}
+
+/// The cover of [l, r); nothing if the window is empty or ends past the tree.
+#[inline]
+pub fn cover(levels: u64, l: u64, r: u64) -> Option<Cover> {
+    if l >= r || r > 64 << (2 * (levels - 1)) {
+        return None;
+    }
+    // Where the window meets just two neighbouring children of the lowest node that holds it, a piece in each is less than that node.
+    // Where it meets more, no two nodes below that node hold it.
+    let height = height(l, r - 1);
+    let child = 2 * height + 4;
+    if height == 0 || (r - 1 >> child) - (l >> child) > 1 {
+        let (first, over) = lowest(levels, l, r);
+        return Some(Cover { first, second: 0, over });
+    }
+    let edge = r - 1 >> child << child;
+    let ((first, over), (second, further)) = (lowest(levels, l, edge), lowest(levels, edge, r));
+    Some(Cover { first, second, over: over + further })
 }
 
 impl Settings {
@@ -45,31 +79,5 @@ impl Settings {
     /// How many nodes an inner node at level d checks.
     pub fn check_count(&self, d: u64) -> u64 {
         nodes(self.distance.min(self.levels - d))
-    }
-
-    /// The lowest node that holds both leaves.
-    fn lowest_of(&self, leaf: u64, other: u64) -> u64 {
-        let height = height(leaf, other);
-        nodes(self.levels - 1 - height) + 1 + (leaf >> (2 * height))
-    }
-
-    /// The one or two pieces of [l, r), the second 0 for none; nothing if the window is empty or ends past the tree.
-    #[inline]
-    pub fn cover(&self, l: u64, r: u64) -> Option<(u64, u64)> {
-        if l >= r || r > 64 << (2 * (self.levels - 1)) {
-            return None;
-        }
-        let (left, right) = (l / 64, (r - 1) / 64);
-        if left == right {
-            return Some((nodes(self.levels - 1) + 1 + left, 0));
-        }
-        // Where the window meets just two neighbouring children of the lowest node that holds it, a piece in each is less than
-        // that node. Where it meets more, no two nodes below that node hold it.
-        let child = 2 * (height(left, right) - 1);
-        if (right >> child) - (left >> child) > 1 {
-            return Some((self.lowest_of(left, right), 0));
-        }
-        let edge = right >> child << child;
-        Some((self.lowest_of(left, edge - 1), self.lowest_of(edge, right)))
     }
 }

@@ -1,7 +1,7 @@
 //! Whether a record is unreadable, which every call asks first: the clauses of document 01's paragraph "Unreadable".
 
 use super::record::{grip, outcome, phase};
-use super::tree::level;
+use super::tree::{cover, level};
 use crate::nolthewyr::{Record, Settings};
 
 const MOST_TICKET: u64 = 32767;
@@ -42,7 +42,8 @@ impl Record {
         if self.phase == phase::IDLE {
             return *self != Record { outcome: self.outcome, ..Record::default() };
         }
-        if settings.cover(self.left, self.right) != Some((self.first, self.second)) {
+        let cover = cover(settings.levels, self.left, self.right);
+        if !cover.is_some_and(|cover| cover.first == self.first && cover.second == self.second) {
             return true;
         }
         if self.current > (self.second != 0) as u64 || self.ticket > MOST_TICKET || self.t1 > last || self.t0 > last {
