@@ -21,9 +21,24 @@ pub fn check_node(node: u64, place: u64) -> u64 {
     ((node - 1) << (2 * (level(place + 1) - 1))) + place + 1
 }
 
-/// How far above the leaves the lowest node stands that holds both units.
-fn height(unit: u64, other: u64) -> u64 {
-    (65 - (unit >> 6 ^ other >> 6).leading_zeros() as u64) / 2
+/// How far above the leaves the lowest node stands that holds both leaves, which are counted from 0.
+fn height(leaf: u64, other: u64) -> u64 {
+    (65 - (leaf ^ other).leading_zeros() as u64) / 2
+}
+
+/// The node so many levels above a leaf, in a tree with so many inner nodes: the count of nodes before its level loses two bits a level
+/// as the leaf's place does.
+fn above(inner: u64, leaf: u64, height: u64) -> u64 {
+    (inner >> (2 * height)) + (leaf >> (2 * height)) + 1
+}
+
+/// What of a node's units is outside its part of the window: nothing for a leaf, of which only the wanted bits are taken.
+fn over(height: u64, part: u64) -> u64 {
+    if height == 0 {
+        0
+    } else {
+        (64 << (2 * height)) - part
+    }
 }
 
 /// The one or two pieces of a window, the second 0 for none, and their over-cover.
@@ -33,31 +48,32 @@ pub struct Cover {
     pub over: u64,
 }
 
-/// The lowest node that holds [l, r) and its over-cover: nothing for a leaf, of which only the wanted bits are taken.
-fn lowest(levels: u64, l: u64, r: u64) -> (u64, u64) {
-    let height = height(l, r - 1);
-    let node = nodes(levels - 1 - height) + 1 + (l >> (2 * height + 6));
-    let over = if height == 0 { 0 } else { (64 << (2 * height)) - (r - l) };
-    (node, over)
-}
-
-/// The cover of [l, r); nothing if the window is empty or ends past the tree.
-#[inline]
+/// The cover of [l, r); nothing if the window is empty or ends past the tree. Built into its callers, which then work out only what they
+/// ask of it.
+#[inline(always)]
 pub fn cover(levels: u64, l: u64, r: u64) -> Option<Cover> {
     if l >= r || r > 64 << (2 * (levels - 1)) {
         return None;
     }
+    let inner = nodes(levels - 1);
+    let (left, right) = (l / 64, (r - 1) / 64);
+    if left == right {
+        return Some(Cover { first: above(inner, left, 0), second: 0, over: 0 });
+    }
     // Where the window meets just two neighbouring children of the lowest node that holds it, a piece in each is less than that node.
     // Where it meets more, no two nodes below that node hold it.
-    let height = height(l, r - 1);
-    let child = 2 * height + 4;
-    if height == 0 || (r - 1 >> child) - (l >> child) > 1 {
-        let (first, over) = lowest(levels, l, r);
-        return Some(Cover { first, second: 0, over });
+    let whole = height(left, right);
+    let child = 2 * (whole - 1);
+    if (right >> child) - (left >> child) > 1 {
+        return Some(Cover { first: above(inner, left, whole), second: 0, over: over(whole, r - l) });
     }
-    let edge = r - 1 >> child << child;
-    let ((first, over), (second, further)) = (lowest(levels, l, edge), lowest(levels, edge, r));
-    Some(Cover { first, second, over: over + further })
+    let edge = right >> child << child;
+    let (low, high) = (height(left, edge - 1), height(edge, right));
+    Some(Cover {
+        first: above(inner, left, low),
+        second: above(inner, edge, high),
+        over: over(low, 64 * edge - l) + over(high, r - 64 * edge),
+    })
 }
 
 impl Settings {
@@ -65,10 +81,14 @@ impl Settings {
         node > nodes(self.levels - 1)
     }
 
-    /// How many ancestors a node at level d notifies: (d + m - 2) / m. Every m divides 12, so that no division by m is left.
+    /// How many ancestors a node at level d notifies: (d + m - 2) / m, with a divisor for each m that the compiler knows.
     pub fn notify_count(&self, d: u64) -> u64 {
-        const PARTS: [u64; 4] = [12, 6, 4, 3];
-        (d + self.distance - 2) * PARTS[(self.distance - 1) as usize & 3] / 12
+        match self.distance {
+            1 => d - 1,
+            2 => d / 2,
+            3 => (d + 1) / 3,
+            _ => (d + 2) / 4,
+        }
     }
 
     /// The ancestor that a node at level d notifies at a place: m levels above the one before, and the last at level m.
