@@ -6,6 +6,7 @@ use crate::nolthewyr::{Record, Settings};
 use crate::random::Random;
 use crate::row;
 use crate::rust::linked::{self, Covered};
+use crate::rust::phase;
 use crate::settings::{SETTINGS, WINDOWS};
 use crate::tables::print_table;
 use crate::timing::{best, time};
@@ -22,7 +23,7 @@ type Unreadable = unsafe extern "C" fn(Record, Settings, u64) -> bool;
 const COVER: [Cover; 2] = [probe_cover, linked::cover];
 const UNREADABLE: [Unreadable; 2] = [probe_unreadable, linked::unreadable];
 
-const ROUNDS: usize = 200;
+const ROUNDS: usize = 500;
 const CALLS: usize = 20000;
 const COMPARED: usize = 200_000;
 
@@ -41,7 +42,17 @@ fn compare_tests(random: &mut Random, mix: &[Met]) {
         let record = if random.seldom(4) { whole } else { random.damaged(whole) };
         let [rattle, rust] = UNREADABLE.map(|unreadable| unsafe { unreadable(record, SETTINGS, last) });
         assert_eq!(rattle, rust, "{record:?}, last clock {last}: Rattle on the left, Rust on the right");
+        assert!(record != whole || !rust, "{whole:?}, last clock {last}: unreadable");
     }
+}
+
+/// The records of a window, and one that waits for an ancestor, since alone in the tree no client does.
+fn records(window: Window) -> Vec<Met> {
+    let mut records = met(SETTINGS, window);
+    let climbing = records.iter().find(|(record, _)| record.phase == phase::CLIMB);
+    let (record, last) = *climbing.expect("a record that climbs");
+    records.push((Record { phase: phase::BLOCKED, ..record }, last));
+    records
 }
 
 /// Nanoseconds of a call that is made on each item of a mix in turn.
@@ -76,7 +87,7 @@ fn mixes<T: Clone>(of: impl Fn(Window) -> Vec<T>) -> Vec<(&'static str, Vec<T>)>
 
 pub fn measure() {
     let covers = mixes(|window| vec![window]);
-    let tests = mixes(|window| met(SETTINGS, window));
+    let tests = mixes(records);
     compare_covers(&mut Random(1));
     compare_tests(&mut Random(2), &tests[WINDOWS.len()].1);
     let times = best(ROUNDS, || {
@@ -84,11 +95,12 @@ pub fn measure() {
         let tests = tests.iter().flat_map(|(_, mix)| test_times(mix));
         covers.chain(tests).collect()
     });
-    let names = covers.iter().map(|(name, _)| ("cover", name)).chain(tests.iter().map(|(name, _)| ("unreadable test, every record of the window", name)));
-    let rows = names.zip(times.chunks(2)).map(|((what, name), times)| {
+    let covers = covers.iter().map(|(name, _)| ("cover", *name));
+    let tests = tests.iter().map(|(name, _)| ("unreadable, each record of the window", *name));
+    let rows = covers.chain(tests).zip(times.chunks(2)).map(|((call, name), times)| {
         let (rattle, rust) = (times[0], times[1]);
         let ratio = rattle / rust;
-        row!["{what}", "{name}", "{rattle:.1}", "{rust:.1}", "{ratio:.2}"]
+        row!["{call}", "{name}", "{rattle:.1}", "{rust:.1}", "{ratio:.2}"]
     });
     print_table("alone", &["call", "window", "Rattle ns", "Rust ns", "Rattle / Rust"], rows);
 }

@@ -8,7 +8,7 @@ use crate::tables::print_table;
 use crate::timing::{best, time};
 use std::path::Path;
 
-const ROUNDS: usize = 200;
+const ROUNDS: usize = 500;
 const TAKES: usize = 500;
 
 type Measured = (&'static str, Box<dyn FnMut(Window) -> f64>);
@@ -25,17 +25,16 @@ fn file(name: &'static str, path: &Path) -> Measured {
 
 pub fn measure(directory: &Path) {
     let mut measured = [
-        calls("Rattle, settings and call copied for each call, as in the other tables", RATTLE),
-        calls("Rust, the same way", RUST),
-        calls("Rattle, their fields written where the function reads them", Written(RATTLE)),
-        calls("Rust, the same way", Written(RUST)),
-        calls("Rust, the same way, no unreadable test in the steps", Written(UNTESTED)),
+        calls("Rattle, settings and call copied for a call, as in the other tables", RATTLE),
+        calls("Rust, in the same way", RUST),
+        calls("Rust, in the same way, without the unreadable test in a step", UNTESTED),
+        calls("Rattle, settings and call written where the function reads them", Written(RATTLE)),
+        calls("Rust, in the same way", Written(RUST)),
+        calls("Rust, in the same way, without the unreadable test in a step", Written(UNTESTED)),
         calls("Rust called from Rust, by reference", Seen),
         file("fcntl, no range held by others", &directory.join("held-0")),
     ];
-    let times = best(ROUNDS, || {
-        measured.iter_mut().flat_map(|(_, measure)| WINDOWS.map(|(_, window)| measure(window))).collect()
-    });
+    let times = best(ROUNDS, || measured.iter_mut().flat_map(|(_, measure)| WINDOWS.map(|(_, window)| measure(window))).collect());
     let rows = measured.iter().zip(times.chunks(WINDOWS.len())).map(|((name, _), times)| {
         let times = times.iter().map(|time| format!("{time:.0}"));
         std::iter::once(name.to_string()).chain(times).collect()

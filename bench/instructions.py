@@ -1,16 +1,18 @@
-"""Prints the table of instructions from callgrind's output, which has the cost of every called function by its caller: instructions.py FILE"""
+"""Prints the table of instructions from callgrind's output: instructions.py FILE
+
+The output has the cost of every called function by its caller, and the benchmark makes each call from a function for its client's phase."""
 
 import re
 import sys
 from collections import defaultdict
 
 PHASES = {1: "ticket", 2: "turn", 3: "climb", 4: "blocked", 5: "claim", 6: "notify", 7: "wait", 8: "check", 10: "returning"}
-CALLER = re.compile(r"in_phase::<(\d+)>|in_phase.*Ky([0-9a-f]+)_")
+CALLER = re.compile(r"in_phase::<(\d+)>$")
 CALLED = re.compile(r"(table_|linked::)(request|step|release|cancel)$")
 
 
 def costs(lines):
-    """Calls and instructions by side, kind and phase. A line 'calls=' is followed by one that ends with the instructions of those calls."""
+    """Calls and their instructions by side, kind and phase. After a line 'calls=' stands one that ends with the instructions of those."""
     found = defaultdict(lambda: [0, 0])
     caller = called = None
     calls = 0
@@ -49,7 +51,7 @@ def main():
     steps = {phase: ("step", phase) for phase in PHASES}
     windows = [("request", 0), ("release", 9)] + [step for phase, step in steps.items() if phase != 4]
     print("<!-- bench/run: instructions -->")
-    print("| call | calls counted | Rattle | Rust | Rattle / Rust |")
+    print("| call | calls counted | Rattle instructions a call | Rust instructions a call | Rattle / Rust |")
     print("|---|---|---|---|---|")
     for phase, step in steps.items():
         print(row(found, f"step in {phase} {PHASES[phase]}", [step]))

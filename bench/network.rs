@@ -17,6 +17,7 @@ pub fn print(nanoseconds: &[f64]) {
         let (own, at_low, at_high) = (own / 1e3, own / 10.0 / low, own / 10.0 / high);
         row!["{name}", "{calls}", "{operations}", "{low:.0}", "{high:.0}", "{own:.2}", "{at_low:.1} %", "{at_high:.1} %"]
     });
-    let head = ["window", "calls", "round trips", "µs at 2 µs each", "µs at 5 µs each", "Rattle µs", "of the first", "of the second"];
+    let head =
+        ["window", "calls", "round trips", "µs at 2 µs each", "µs at 5 µs each", "Rattle µs", "part of 2 µs", "part of 5 µs"];
     print_table("network", &head, rows);
 }

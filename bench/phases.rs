@@ -11,7 +11,13 @@ use std::hint::black_box;
 type InPhase = fn(OnTable, &mut [Record], &mut [u64], Settings, Call) -> Answer;
 
 #[inline(never)]
-fn in_phase<const PHASE: u64>(on_table: OnTable, records: &mut [Record], words: &mut [u64], settings: Settings, call: Call) -> Answer {
+fn in_phase<const PHASE: u64>(
+    on_table: OnTable,
+    records: &mut [Record],
+    words: &mut [u64],
+    settings: Settings,
+    call: Call,
+) -> Answer {
     let answer = unsafe { on_table(records.as_mut_ptr(), records.len(), words.as_mut_ptr(), words.len(), settings, call) };
     // Something after the call, and another thing for each phase: otherwise the compiler could jump in place of calling, or make one
     // function of all.

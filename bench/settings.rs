@@ -6,7 +6,10 @@ use crate::nolthewyr::Settings;
 pub const SETTINGS: Settings = Settings { levels: 12, distance: 2, wait: 1 };
 pub const MOST_CLIENTS: usize = 32767;
 
-pub const LEAF: (&str, Window) = ("leaf [10, 20)", (10, 20));
-pub const INNER: (&str, Window) = ("inner node [4096, 8192)", (4096, 8192));
-pub const TWO: (&str, Window) = ("leaf and inner node [4090, 8192)", (4090, 8192));
-pub const WINDOWS: [(&str, Window); 3] = [LEAF, INNER, TWO];
+/// A window and what it is called in the tables.
+pub type Named = (&'static str, Window);
+
+pub const LEAF: Named = ("leaf [10, 20)", (10, 20));
+pub const INNER: Named = ("inner node [4096, 8192)", (4096, 8192));
+pub const TWO: Named = ("leaf and inner node [4090, 8192)", (4090, 8192));
+pub const WINDOWS: [Named; 3] = [LEAF, INNER, TWO];

@@ -11,7 +11,8 @@ pub fn time(takes: usize, mut take: impl FnMut()) -> f64 {
     start.elapsed().as_nanos() as f64 / takes as f64
 }
 
-/// The least of each time over all rounds. A round measures everything in turn, so that a change of the machine's speed meets all alike.
+/// The least of each time over all rounds. A round measures everything in turn, so that a change of the machine's speed meets all
+/// alike.
 pub fn best(rounds: usize, mut round: impl FnMut() -> Vec<f64>) -> Vec<f64> {
     let mut least = round();
     for _ in 1..rounds {

@@ -1,5 +1,4 @@
-//! The table of windows: a window from its request to idle through the library, plain Rust and `fcntl`, while others hold from none up to
-//! 10,000 windows.
+//! A window from its request to idle through the library, plain Rust and `fcntl`, while others hold from none up to 10,000 windows.
 
 use crate::lent::{agree, Lent, Window};
 use crate::ranges::{most_descriptions, Ranges};
@@ -13,7 +12,7 @@ use std::path::Path;
 const MEASURED: u64 = MOST_CLIENTS as u64 - 1;
 const HELD: [usize; 4] = [0, 100, 1000, 10000];
 
-const ROUNDS: usize = 200;
+const ROUNDS: usize = 500;
 const TAKES: usize = 500;
 
 /// The window that another client holds: in turn a part of a leaf and an inner node one level above the leaves.

@@ -26,7 +26,7 @@ fn height(leaf: u64, other: u64) -> u64 {
     (65 - (leaf ^ other).leading_zeros() as u64) / 2
 }
 
-/// The node so many levels above a leaf, in a tree with so many inner nodes: the count of nodes before its level loses two bits a level
+/// The node so many levels above a leaf, in a tree with so many inner nodes: at each level the count of nodes before it loses two bits,
 /// as the leaf's place does.
 fn above(inner: u64, leaf: u64, height: u64) -> u64 {
     (inner >> (2 * height)) + (leaf >> (2 * height)) + 1
@@ -48,8 +48,8 @@ pub struct Cover {
     pub over: u64,
 }
 
-/// The cover of [l, r); nothing if the window is empty or ends past the tree. Built into its callers, which then work out only what they
-/// ask of it.
+/// The cover of [l, r); nothing if the window is empty or ends past the tree. It is built into its callers, which then work out only
+/// what they ask of it.
 #[inline(always)]
 pub fn cover(levels: u64, l: u64, r: u64) -> Option<Cover> {
     if l >= r || r > 64 << (2 * (levels - 1)) {
