@@ -1,6 +1,7 @@
 """Prints the table of instructions from callgrind's output: instructions.py FILE
 
-The output has the cost of every called function by its caller, and the benchmark makes each call from a function for its client's phase."""
+The output has the cost of every called function by its caller, and the benchmark makes each call from a function for its client's
+phase."""
 
 import re
 import sys
@@ -12,7 +13,7 @@ CALLED = re.compile(r"(table_|linked::)(request|step|release|cancel)$")
 
 
 def costs(lines):
-    """Calls and their instructions by side, kind and phase. After a line 'calls=' stands one that ends with the instructions of those."""
+    """Calls and their instructions by side, kind and phase. After a line 'calls=' stands one that ends with those instructions."""
     found = defaultdict(lambda: [0, 0])
     caller = called = None
     calls = 0
@@ -59,7 +60,7 @@ def main():
     print(row(found, "release", [("release", 9)]))
     print(row(found, "cancel in 1 to 8", [("cancel", phase) for phase in range(1, 9)]))
     print(row(found, "all calls of the three windows", windows))
-    print("<!-- end -->\n")
+    print("<!-- -->\n")
 
 
 main()

@@ -1,5 +1,5 @@
-//! Compares the library's calls with the same calls in plain Rust, and measures both. `main DIRECTORY` prints the tables of times; the
-//! directory is for the files to lock. `main` alone makes the calls whose instructions callgrind counts.
+//! Compares the library's calls with the same calls in plain Rust, and measures both. `main DIRECTORY` prints the tables of times,
+//! with its files to lock in the directory. `main` alone makes the calls whose instructions callgrind counts.
 
 mod alone;
 mod called;

@@ -28,7 +28,7 @@ pub fn met(settings: Settings, window: Window) -> Vec<Met> {
     lent.side.0
 }
 
-/// How many of the calls touch a word: all steps but that of the wait. The request finds the record idle, the release finds it held.
+/// How many of the calls touch a word: all steps but that of the wait. A request finds the record idle, a release finds it held.
 pub fn operations(met: &[Met]) -> usize {
     met.iter().filter(|(record, _)| !matches!(record.phase, phase::IDLE | phase::WAIT | phase::HELD)).count()
 }

@@ -1,4 +1,4 @@
-//! The calls whose instructions callgrind counts. Each goes through a function of its own for the phase that its client is in, so that
+//! The calls whose instructions callgrind counts. Each is made from a function for the phase that its client is in, so that
 //! callgrind's output, which has the cost of every called function by its caller, tells the phases apart.
 
 use crate::lent::{Lent, Window};
@@ -19,7 +19,7 @@ fn in_phase<const PHASE: u64>(
     call: Call,
 ) -> Answer {
     let answer = unsafe { on_table(records.as_mut_ptr(), records.len(), words.as_mut_ptr(), words.len(), settings, call) };
-    // Something after the call, and another thing for each phase: otherwise the compiler could jump in place of calling, or make one
+    // Something after the call, another thing for each phase: otherwise the compiler could jump in place of calling, or make one
     // function of all.
     black_box(PHASE);
     answer

@@ -24,8 +24,8 @@ pub trait Side {
     fn make(&mut self, kind: Kind, records: &mut [Record], words: &mut [u64], settings: Settings, call: Call) -> Answer;
 }
 
-/// A side as C and Rust link it: the opening, and the calls in the order of their kinds. Both sides are called by C's convention, so
-/// that both pay the same for a call.
+/// A side as C and Rust link it: the opening, and the calls in the order of their kinds. Both are called by C's convention, so that
+/// both pay the same for a call.
 #[derive(Clone, Copy)]
 pub struct Linked {
     pub open: Open,
@@ -51,8 +51,8 @@ impl Side for Linked {
     }
 }
 
-/// Settings and call as single numbers. C's convention on x86-64 puts a struct of more than 16 bytes on the stack, and numbers too once
-/// six stand in registers: after two that nobody reads, the fields of the structs lie where the structs would.
+/// Settings and call as single numbers. C's convention on x86-64 puts a struct of more than 16 bytes on the stack, and numbers too
+/// once six stand in registers: after two that nobody reads, the fields of the structs lie where the structs would.
 type ByNumbers =
     unsafe extern "C" fn(*mut Record, usize, *mut u64, usize, u64, u64, u64, u64, u64, u64, u64, u64, u64, u64) -> Answer;
 

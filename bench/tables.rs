@@ -1,4 +1,5 @@
-//! The tables as the program prints them: in Markdown, between the marks by which `bench/run --write` finds them in docs/BENCHMARKS.md.
+//! The tables as the program prints them: in Markdown, between the marks by which `bench/run --write` finds them in
+//! docs/BENCHMARKS.md.
 
 /// The cells of a row, each by its own format.
 #[macro_export]
@@ -13,5 +14,5 @@ pub fn print_table(name: &str, head: &[&str], rows: impl IntoIterator<Item = Vec
     for row in rows {
         println!("| {} |", row.join(" | "));
     }
-    println!("<!-- end -->\n");
+    println!("<!-- -->\n");
 }

@@ -1,11 +1,11 @@
 """Puts the tables of a benchmark's output in place of those in a document: write_tables.py OUTPUT DOCUMENT
 
-A table stands between '<!-- bench/run: NAME -->' and '<!-- end -->' in both."""
+A table stands between '<!-- bench/run: NAME -->' and '<!-- -->' in both."""
 
 import re
 import sys
 
-TABLE = re.compile(r"<!-- bench/run: (\w+) -->\n.*?<!-- end -->", re.DOTALL)
+TABLE = re.compile(r"<!-- bench/run: (\w+) -->\n.*?<!-- -->", re.DOTALL)
 
 
 def main():

@@ -4,7 +4,7 @@ use super::Cover;
 use crate::nolthewyr::{Answer, Call, Record, Settings};
 use std::slice::from_raw_parts_mut;
 
-/// What the cover as a call answers: 0, the pieces, the second 0 for none, and their over-cover; or the cause of a refusal, and zeros.
+/// What the cover as a call answers: 0, the pieces (the second 0 for none) and their over-cover; or the cause of a refusal.
 #[repr(C)]
 #[derive(Clone, Copy, Debug, Default, PartialEq)]
 pub struct Covered {

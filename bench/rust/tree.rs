@@ -26,8 +26,8 @@ fn height(leaf: u64, other: u64) -> u64 {
     (65 - (leaf ^ other).leading_zeros() as u64) / 2
 }
 
-/// The node so many levels above a leaf, in a tree with so many inner nodes: at each level the count of nodes before it loses two bits,
-/// as the leaf's place does.
+/// The node so many levels above a leaf, in a tree with so many inner nodes: at each level the count of nodes before it loses two
+/// bits, as the leaf's place does.
 fn above(inner: u64, leaf: u64, height: u64) -> u64 {
     (inner >> (2 * height)) + (leaf >> (2 * height)) + 1
 }
@@ -48,8 +48,8 @@ pub struct Cover {
     pub over: u64,
 }
 
-/// The cover of [l, r); nothing if the window is empty or ends past the tree. It is built into its callers, which then work out only
-/// what they ask of it.
+/// The cover of [l, r); nothing if the window is empty or ends past the tree. It is built into its callers, which then work out
+/// only what they ask of it.
 #[inline(always)]
 pub fn cover(levels: u64, l: u64, r: u64) -> Option<Cover> {
     if l >= r || r > 64 << (2 * (levels - 1)) {
@@ -60,8 +60,8 @@ pub fn cover(levels: u64, l: u64, r: u64) -> Option<Cover> {
     if left == right {
         return Some(Cover { first: above(inner, left, 0), second: 0, over: 0 });
     }
-    // Where the window meets just two neighbouring children of the lowest node that holds it, a piece in each is less than that node.
-    // Where it meets more, no two nodes below that node hold it.
+    // Where the window meets just two neighbouring children of the lowest node that holds it, a piece in each is less than that
+    // node. Where it meets more, no two nodes below that node hold it.
     let whole = height(left, right);
     let child = 2 * (whole - 1);
     if (right >> child) - (left >> child) > 1 {
