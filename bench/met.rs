@@ -3,29 +3,32 @@
 use crate::lent::{Lent, Window};
 use crate::nolthewyr::{Answer, Call, Record, Settings};
 use crate::rust::phase;
-use crate::sides::{Kind, Side, RUST};
+use crate::sides::{Kind, Linked, Side, RUST};
 
 /// A record and the last clock beside it.
 pub type Met = (Record, u64);
 
-/// Plain Rust, with the records before its calls kept.
-struct Watched(Vec<Met>);
+/// A side of which the records before its calls are kept.
+struct Watched {
+    linked: Linked,
+    met: Vec<Met>,
+}
 
 impl Side for Watched {
     fn open(&mut self, records: &mut [Record], words: &mut [u64], settings: Settings) -> u64 {
-        { RUST }.open(records, words, settings)
+        self.linked.open(records, words, settings)
     }
 
     fn make(&mut self, kind: Kind, records: &mut [Record], words: &mut [u64], settings: Settings, call: Call) -> Answer {
-        self.0.push((records[call.client as usize], call.last));
-        { RUST }.make(kind, records, words, settings, call)
+        self.met.push((records[call.client as usize], call.last));
+        self.linked.make(kind, records, words, settings, call)
     }
 }
 
 pub fn met(settings: Settings, window: Window) -> Vec<Met> {
-    let mut lent = Lent::opened(Watched(Vec::new()), settings, 1);
+    let mut lent = Lent::opened(Watched { linked: RUST, met: Vec::new() }, settings, 1);
     lent.take_and_give_back(0, window);
-    lent.side.0
+    lent.side.met
 }
 
 /// How many of the calls touch a word: all steps but that of the wait. A request finds the record idle, a release finds it held.

@@ -12,12 +12,12 @@ const ROUND_TRIP: [f64; 2] = [2.0, 5.0];
 pub fn print(nanoseconds: &[f64]) {
     let rows = WINDOWS.iter().zip(nanoseconds).map(|((name, window), own)| {
         let met = met(SETTINGS, *window);
-        let (calls, operations) = (met.len(), operations(&met));
+        let (calls, operations, own) = (met.len(), operations(&met), own / 1e3);
         let [low, high] = ROUND_TRIP.map(|trip| trip * operations as f64);
-        let (own, at_low, at_high) = (own / 1e3, own / 10.0 / low, own / 10.0 / high);
-        row!["{name}", "{calls}", "{operations}", "{low:.0}", "{high:.0}", "{own:.2}", "{at_low:.1} %", "{at_high:.1} %"]
+        let [of_low, of_high] = [low, high].map(|trips| 100.0 * own / trips);
+        row!["{name}", "{calls}", "{operations}", "{own:.2}", "{low:.0}", "{of_low:.1} %", "{high:.0}", "{of_high:.1} %"]
     });
-    let head =
-        ["window", "calls", "round trips", "µs at 2 µs each", "µs at 5 µs each", "Rattle µs", "part of 2 µs", "part of 5 µs"];
+    let trips = ROUND_TRIP.map(|trip| [format!("µs of round trips at {trip} µs"), format!("Rattle / round trips at {trip} µs")]);
+    let head = ["window", "calls", "round trips", "Rattle µs", &trips[0][0], &trips[0][1], &trips[1][0], &trips[1][1]];
     print_table("network", &head, rows);
 }
