@@ -9,7 +9,7 @@ use crate::tables::print_table;
 use crate::timing::{best, time};
 use std::hint::black_box;
 
-const ROUNDS: usize = 50;
+const ROUNDS: usize = 200;
 
 /// Zeroes the memory by libc's `memset`, to which the compiler turns `write_bytes`.
 fn zero<T>(items: &mut [T]) {
