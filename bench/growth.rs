@@ -15,7 +15,7 @@ const LEVELS: [u64; 7] = [2, 3, 4, 6, 8, 10, 12];
 /// An inner node that every tree has: one level above the leaves, in the lowest tree the root.
 const LOW: Named = ("inner node [0, 256)", (0, 256));
 
-const ROUNDS: usize = 200;
+const ROUNDS: usize = 500;
 const TAKES: usize = 500;
 
 /// The tables of both sides, in which the last client takes windows.
