@@ -1,8 +1,12 @@
 //! Sees that both sides are the same protocol: after each call of random histories their answers, words, records and clocks are
 //! equal. The time of a competitor that leaves something out would be worth nothing.
 
-use crate::lent::{agree, Kind, Lent, Window, KINDS, SIDES};
+use crate::lent::{agree, Lent};
 use crate::nolthewyr::{Record, Settings};
+use crate::random::Random;
+use crate::sides::{Kind, Linked, KINDS, SIDES};
+
+type Tables = [Lent<Linked>; SIDES.len()];
 
 const CALLS: usize = 20000;
 const CLIENTS: u64 = 5;
@@ -16,73 +20,22 @@ struct Planned {
     b: u64,
 }
 
-/// The generator of Steele, Lea and Flood (splitmix64), so that every run makes the same calls.
-struct Random(u64);
-
-impl Random {
-    fn next(&mut self) -> u64 {
-        self.0 = self.0.wrapping_add(0x9e37_79b9_7f4a_7c15);
-        let mixed = (self.0 ^ self.0 >> 30).wrapping_mul(0xbf58_476d_1ce4_e5b9);
-        let mixed = (mixed ^ mixed >> 27).wrapping_mul(0x94d0_49bb_1331_11eb);
-        mixed ^ mixed >> 31
-    }
-
-    fn below(&mut self, bound: u64) -> u64 {
-        self.next() % bound
-    }
-
-    fn one_of<T: Copy>(&mut self, items: &[T]) -> T {
-        items[self.below(items.len() as u64) as usize]
-    }
-
-    /// True once in so many times.
-    fn seldom(&mut self, times: u64) -> bool {
-        self.below(times) == 0
-    }
-
-    /// A window of any length, which may be empty or end past the tree.
-    fn window(&mut self, levels: u64) -> Window {
-        if self.seldom(50) {
-            return (self.next(), self.next());
-        }
-        let l = self.below(64 << (2 * (levels - 1)));
-        let bound = 2 << self.below(2 * levels + 5);
-        (l, l + self.below(bound))
-    }
-
+impl Planned {
     /// Mostly steps that go on, seldom a client or a clock that is refused.
-    fn call(&mut self, levels: u64, clock: u64) -> Planned {
-        let client = if self.seldom(50) { self.one_of(&[CLIENTS, 1 << 32, u64::MAX]) } else { self.below(CLIENTS) };
-        let kind = if self.below(10) < 7 { Kind::Step } else { self.one_of(&KINDS) };
+    fn any(random: &mut Random, levels: u64, clock: u64) -> Planned {
+        let client = if random.seldom(50) { random.one_of(&[CLIENTS, 1 << 32, u64::MAX]) } else { random.below(CLIENTS) };
+        let kind = if random.below(10) < 7 { Kind::Step } else { random.one_of(&KINDS) };
         let (a, b) = match kind {
-            Kind::Request => self.window(levels),
-            Kind::Step if self.seldom(60) => (clock.saturating_sub(1), 0),
-            Kind::Step => (clock + self.seldom(6) as u64, 0),
+            Kind::Request => random.window(levels),
+            Kind::Step if random.seldom(60) => (clock.saturating_sub(1), 0),
+            Kind::Step => (clock + random.seldom(6) as u64, 0),
             Kind::Release | Kind::Cancel => (0, 0),
         };
         Planned { kind, client, a, b }
     }
-
-    /// A word in which nobody has set Occ: all 0, all counters at their highest, or anything.
-    fn word(&mut self) -> u64 {
-        let any = self.next();
-        self.one_of(&[0, u64::MAX, any]) & !(1 << 62)
-    }
-
-    /// The record with one field altered: to a small number, as most fields are, to one beside what it was, or to one at or past
-    /// an end of a range.
-    fn damaged(&mut self, mut record: Record) -> Record {
-        let Record { phase, outcome, left, right, first, second, current, giving, grip, ticket, place, notices, t1, t0 } =
-            &mut record;
-        let fields = [phase, outcome, left, right, first, second, current, giving, grip, ticket, place, notices, t1, t0];
-        let (field, small) = (self.below(fields.len() as u64) as usize, self.below(12));
-        let number = *fields[field];
-        *fields[field] = self.one_of(&[small, number.wrapping_add(1), number.wrapping_sub(1), 32767, 32768, u64::MAX]);
-        record
-    }
 }
 
-fn put(tables: &mut [Lent; 2], client: usize, record: Record) {
+fn put(tables: &mut Tables, client: usize, record: Record) {
     for lent in tables {
         lent.records[client] = record;
     }
@@ -90,7 +43,7 @@ fn put(tables: &mut [Lent; 2], client: usize, record: Record) {
 
 /// In both tables alike a word becomes another, the client's record idle, or a field of it another number, so that the refusals
 /// occur that no history from an opened table has.
-fn damage(random: &mut Random, tables: &mut [Lent; 2], client: usize) {
+fn damage(random: &mut Random, tables: &mut Tables, client: usize) {
     if random.seldom(20) {
         let (node, word) = (random.below(tables[0].words.len() as u64) as usize, random.word());
         for lent in &mut *tables {
@@ -135,7 +88,7 @@ fn compare_refused(met: &mut Met) {
 }
 
 /// Makes the call on both sides and gives the number.
-fn compare_call(tables: &mut [Lent; 2], planned: Planned, met: &mut Met) -> u64 {
+fn compare_call(tables: &mut Tables, planned: Planned, met: &mut Met) -> u64 {
     let [rattle, rust] = tables.each_mut().map(|lent| lent.make(planned.kind, planned.client, planned.a, planned.b));
     assert_eq!(rattle, rust, "{planned:?}: Rattle on the left, Rust on the right");
     assert!(agree(tables), "{planned:?}: words or records differ");
@@ -150,7 +103,7 @@ fn compare_history(seed: u64, settings: Settings, damaging: bool, met: &mut Met)
     let mut random = Random(seed);
     let mut tables = SIDES.map(|side| Lent::opened(side, settings, CLIENTS as usize));
     for _ in 0..CALLS {
-        let planned = random.call(settings.levels, tables[0].clock);
+        let planned = Planned::any(&mut random, settings.levels, tables[0].clock);
         let client = planned.client as usize;
         let whole = tables[0].records.get(client).copied();
         if damaging {

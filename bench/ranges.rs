@@ -67,11 +67,8 @@ impl Ranges {
         ranges
     }
 
-    pub fn take(&self, window: Window) {
+    pub fn take_and_give_back(&self, window: Window) {
         assert!(set(&self.measured, F_WRLCK, window), "{window:?} is not locked");
-    }
-
-    pub fn give_back(&self, window: Window) {
         assert!(set(&self.measured, F_UNLCK, window), "{window:?} is not unlocked");
     }
 

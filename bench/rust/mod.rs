@@ -1,6 +1,7 @@
-//! The lock in plain Rust, the competitor of the Rattle code: the calls over the table with the library's signatures, each of which
-//! tests all that document 01 says and changes the record where it stands.
+//! The lock in plain Rust, the competitor of the Rattle code: the calls over the table, each of which tests all that document 01
+//! says and changes the record where it stands.
 
+pub mod linked;
 mod record;
 mod step;
 mod tree;
@@ -8,10 +9,9 @@ mod unreadable;
 mod word;
 
 use crate::nolthewyr::{Answer, Call, Record, Settings};
-use std::slice::from_raw_parts_mut;
 
 pub use record::phase;
-pub use tree::nodes;
+pub use tree::{nodes, Cover};
 
 const MOST_CLIENTS: usize = 32767;
 
@@ -29,10 +29,14 @@ pub enum Cause {
     ClearBit = 9,
 }
 
+fn has_levels(levels: u64) -> bool {
+    (2..=12).contains(&levels)
+}
+
 /// Causes 1 to 3.
 fn test_table(records: &[Record], words: &[u64], settings: &Settings) -> Result<(), Cause> {
     let Settings { levels, distance, wait } = *settings;
-    if !(2..=12).contains(&levels) || !(1..=4).contains(&distance) || !(1..=u32::MAX as u64).contains(&wait) {
+    if !has_levels(levels) || !(1..=4).contains(&distance) || !(1..=u32::MAX as u64).contains(&wait) {
         Err(Cause::Settings)
     } else if words.len() as u64 != nodes(levels) {
         Err(Cause::WordCount)
@@ -43,57 +47,57 @@ fn test_table(records: &[Record], words: &[u64], settings: &Settings) -> Result<
     }
 }
 
-/// The record of the call's client, after causes 1 to 4.
-fn record_of<'a>(records: &'a mut [Record], words: &[u64], settings: &Settings, call: &Call) -> Result<&'a mut Record, Cause> {
-    test_table(records, words, settings)?;
-    records.get_mut(call.client as usize).ok_or(Cause::Client)
-}
-
-/// A refused call leaves the clock as it was.
-fn answer(made: Result<(), Cause>, clock: u64, last: u64) -> Answer {
-    match made {
+/// Makes a call on the record of its client, after causes 1 to 4. An accepted call leaves the given clock, a refused one the last.
+fn on_record(
+    records: &mut [Record],
+    words: &mut [u64],
+    settings: &Settings,
+    call: &Call,
+    clock: u64,
+    make: impl FnOnce(&mut Record, &mut [u64]) -> Result<(), Cause>,
+) -> Answer {
+    let tested = test_table(records, words, settings);
+    let record = tested.and_then(|()| records.get_mut(call.client as usize).ok_or(Cause::Client));
+    match record.and_then(|record| make(record, words)) {
         Ok(()) => Answer { number: 0, clock },
-        Err(cause) => Answer { number: cause as u64, clock: last },
+        Err(cause) => Answer { number: cause as u64, clock: call.last },
     }
 }
 
-/// The lent records and words, as slices.
-///
-/// # Safety
-/// As include/nolthewyr.h says: the lengths are true, and nothing overlaps.
-unsafe fn lent<'a>(records: *mut Record, clients: usize, words: *mut u64, count: usize) -> (&'a mut [Record], &'a mut [u64]) {
-    (from_raw_parts_mut(records, clients), from_raw_parts_mut(words, count))
+pub fn request(records: &mut [Record], words: &mut [u64], settings: &Settings, call: &Call) -> Answer {
+    on_record(records, words, settings, call, call.last, |record, _| record.request(settings, call))
 }
 
-/// A call over the table under the name and with the signature that the library's has.
-macro_rules! on_table {
-    ($name:ident, $clock:ident, |$record:ident, $words:ident, $settings:ident, $call:ident| $made:expr) => {
-        pub unsafe extern "C" fn $name(
-            records: *mut Record,
-            clients: usize,
-            words: *mut u64,
-            count: usize,
-            $settings: Settings,
-            $call: Call,
-        ) -> Answer {
-            let (records, $words) = lent(records, clients, words, count);
-            let made = record_of(records, $words, &$settings, &$call).and_then(|$record| $made);
-            answer(made, $call.$clock, $call.last)
-        }
-    };
+pub fn step(records: &mut [Record], words: &mut [u64], settings: &Settings, call: &Call) -> Answer {
+    on_record(records, words, settings, call, call.a, |record, words| record.step(words, settings, call))
 }
 
-on_table!(request, last, |record, words, settings, call| record.request(&settings, &call));
-on_table!(step, a, |record, words, settings, call| record.step(words, &settings, &call));
-on_table!(release, last, |record, words, settings, call| record.release(&settings, &call));
-on_table!(cancel, last, |record, words, settings, call| record.cancel(&settings, &call));
+/// A step that takes the record for readable. No call of the lock may: it is here to measure what the test costs.
+pub fn untested_step(records: &mut [Record], words: &mut [u64], settings: &Settings, call: &Call) -> Answer {
+    on_record(records, words, settings, call, call.a, |record, words| record.untested_step(words, settings, call))
+}
 
-pub unsafe extern "C" fn open(records: *mut Record, clients: usize, words: *mut u64, count: usize, settings: Settings) -> u64 {
-    let (records, words) = lent(records, clients, words, count);
-    if let Err(cause) = test_table(records, words, &settings) {
+pub fn release(records: &mut [Record], words: &mut [u64], settings: &Settings, call: &Call) -> Answer {
+    on_record(records, words, settings, call, call.last, |record, _| record.release(settings, call))
+}
+
+pub fn cancel(records: &mut [Record], words: &mut [u64], settings: &Settings, call: &Call) -> Answer {
+    on_record(records, words, settings, call, call.last, |record, _| record.cancel(settings, call))
+}
+
+pub fn open(records: &mut [Record], words: &mut [u64], settings: &Settings) -> u64 {
+    if let Err(cause) = test_table(records, words, settings) {
         return cause as u64;
     }
     records.fill(Record::default());
     words.fill(0);
     0
+}
+
+/// The cover as a call, which tests 1 for H, then 7.
+pub fn cover(levels: u64, l: u64, r: u64) -> Result<Cover, Cause> {
+    if !has_levels(levels) {
+        return Err(Cause::Settings);
+    }
+    tree::cover(levels, l, r).ok_or(Cause::Window)
 }

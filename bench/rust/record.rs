@@ -1,6 +1,6 @@
 //! The calls on one record, after causes 1 to 4.
 
-use super::tree::level;
+use super::tree::{cover, level, Cover};
 use super::Cause;
 use crate::nolthewyr::{Call, Record, Settings};
 
@@ -39,6 +39,16 @@ impl Settings {
             phase::CLIMB
         } else {
             phase::TICKET
+        }
+    }
+}
+
+impl Call {
+    fn in_time(&self) -> Result<(), Cause> {
+        if self.a < self.last {
+            Err(Cause::Clock)
+        } else {
+            Ok(())
         }
     }
 }
@@ -87,7 +97,7 @@ impl Record {
     pub fn request(&mut self, settings: &Settings, call: &Call) -> Result<(), Cause> {
         self.readable(settings, call.last)?;
         let (left, right) = (call.a, call.b);
-        let (first, second) = settings.cover(left, right).ok_or(Cause::Window)?;
+        let Cover { first, second, .. } = cover(settings.levels, left, right).ok_or(Cause::Window)?;
         if self.phase != phase::IDLE {
             return Err(Cause::Phase);
         }
@@ -96,10 +106,13 @@ impl Record {
     }
 
     pub fn step(&mut self, words: &mut [u64], settings: &Settings, call: &Call) -> Result<(), Cause> {
-        if call.a < call.last {
-            return Err(Cause::Clock);
-        }
+        call.in_time()?;
         self.readable(settings, call.last)?;
+        self.advance(words, settings, call.a)
+    }
+
+    pub fn untested_step(&mut self, words: &mut [u64], settings: &Settings, call: &Call) -> Result<(), Cause> {
+        call.in_time()?;
         self.advance(words, settings, call.a)
     }
 

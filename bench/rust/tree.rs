@@ -26,15 +26,69 @@ fn height(leaf: u64, other: u64) -> u64 {
     (65 - (leaf ^ other).leading_zeros() as u64) / 2
 }
 
+/// The node so many levels above a leaf, in a tree with so many inner nodes: at each level the count of nodes before it loses two
+/// bits, as the leaf's place does.
+fn above(inner: u64, leaf: u64, height: u64) -> u64 {
+    (inner >> (2 * height)) + (leaf >> (2 * height)) + 1
+}
+
+/// What of a node's units is outside its part of the window: nothing for a leaf, of which only the wanted bits are taken.
+fn over(height: u64, part: u64) -> u64 {
+    if height == 0 {
+        0
+    } else {
+        (64 << (2 * height)) - part
+    }
+}
+
+/// The one or two pieces of a window, the second 0 for none, and their over-cover.
+pub struct Cover {
+    pub first: u64,
+    pub second: u64,
+    pub over: u64,
+}
+
+/// The cover of [l, r); nothing if the window is empty or ends past the tree. It is built into its callers, which then work out
+/// only what they ask of it.
+#[inline(always)]
+pub fn cover(levels: u64, l: u64, r: u64) -> Option<Cover> {
+    if l >= r || r > 64 << (2 * (levels - 1)) {
+        return None;
+    }
+    let inner = nodes(levels - 1);
+    let (left, right) = (l / 64, (r - 1) / 64);
+    if left == right {
+        return Some(Cover { first: above(inner, left, 0), second: 0, over: 0 });
+    }
+    // Where the window meets just two neighbouring children of the lowest node that holds it, a piece in each is less than that
+    // node. Where it meets more, no two nodes below that node hold it.
+    let whole = height(left, right);
+    let child = 2 * (whole - 1);
+    if (right >> child) - (left >> child) > 1 {
+        return Some(Cover { first: above(inner, left, whole), second: 0, over: over(whole, r - l) });
+    }
+    let edge = right >> child << child;
+    let (low, high) = (height(left, edge - 1), height(edge, right));
+    Some(Cover {
+        first: above(inner, left, low),
+        second: above(inner, edge, high),
+        over: over(low, 64 * edge - l) + over(high, r - 64 * edge),
+    })
+}
+
 impl Settings {
     pub fn is_leaf(&self, node: u64) -> bool {
         node > nodes(self.levels - 1)
     }
 
-    /// How many ancestors a node at level d notifies: (d + m - 2) / m. Every m divides 12, so that no division by m is left.
+    /// How many ancestors a node at level d notifies: (d + m - 2) / m, with a divisor for each m that the compiler knows.
     pub fn notify_count(&self, d: u64) -> u64 {
-        const PARTS: [u64; 4] = [12, 6, 4, 3];
-        (d + self.distance - 2) * PARTS[(self.distance - 1) as usize & 3] / 12
+        match self.distance {
+            1 => d - 1,
+            2 => d / 2,
+            3 => (d + 1) / 3,
+            _ => (d + 2) / 4,
+        }
     }
 
     /// The ancestor that a node at level d notifies at a place: m levels above the one before, and the last at level m.
@@ -45,31 +99,5 @@ impl Settings {
     /// How many nodes an inner node at level d checks.
     pub fn check_count(&self, d: u64) -> u64 {
         nodes(self.distance.min(self.levels - d))
-    }
-
-    /// The lowest node that holds both leaves.
-    fn lowest_of(&self, leaf: u64, other: u64) -> u64 {
-        let height = height(leaf, other);
-        nodes(self.levels - 1 - height) + 1 + (leaf >> (2 * height))
-    }
-
-    /// The one or two pieces of [l, r), the second 0 for none; nothing if the window is empty or ends past the tree.
-    #[inline]
-    pub fn cover(&self, l: u64, r: u64) -> Option<(u64, u64)> {
-        if l >= r || r > 64 << (2 * (self.levels - 1)) {
-            return None;
-        }
-        let (left, right) = (l / 64, (r - 1) / 64);
-        if left == right {
-            return Some((nodes(self.levels - 1) + 1 + left, 0));
-        }
-        // Where the window meets just two neighbouring children of the lowest node that holds it, a piece in each is less than
-        // that node. Where it meets more, no two nodes below that node hold it.
-        let child = 2 * (height(left, right) - 1);
-        if (right >> child) - (left >> child) > 1 {
-            return Some((self.lowest_of(left, right), 0));
-        }
-        let edge = right >> child << child;
-        Some((self.lowest_of(left, edge - 1), self.lowest_of(edge, right)))
     }
 }

@@ -1,12 +1,13 @@
 //! Whether a record is unreadable, which every call asks first: the clauses of document 01's paragraph "Unreadable".
 
 use super::record::{grip, outcome, phase};
-use super::tree::level;
+use super::tree::{cover, level};
 use crate::nolthewyr::{Record, Settings};
 
 const MOST_TICKET: u64 = 32767;
 
 impl Record {
+    #[inline(always)]
     fn wrong_in_returning(&self, settings: &Settings, leaf: bool) -> bool {
         let no_grip = if leaf { !matches!(self.grip, grip::NOTHING | grip::TAKEN) } else { self.grip > grip::TAKEN };
         self.place > self.notices_to_return(settings)
@@ -18,6 +19,7 @@ impl Record {
 
     /// The clauses that go by the phase: place, grip, and which node may be in it. The root needs no clause: its lists of ancestors
     /// are empty, so that any place is past them.
+    #[inline(always)]
     fn wrong_in_phase(&self, settings: &Settings, d: u64, notices: u64) -> bool {
         let leaf = d == settings.levels;
         let turn = if leaf { grip::NOTHING } else { grip::TURN };
@@ -35,6 +37,7 @@ impl Record {
     }
 
     /// All clauses have one answer, so their order is free: those that go by the phase are last.
+    #[inline(always)]
     pub fn unreadable(&self, settings: &Settings, last: u64) -> bool {
         if self.phase > phase::RETURNING || self.outcome > outcome::CANCELLED {
             return true;
@@ -42,7 +45,8 @@ impl Record {
         if self.phase == phase::IDLE {
             return *self != Record { outcome: self.outcome, ..Record::default() };
         }
-        if settings.cover(self.left, self.right) != Some((self.first, self.second)) {
+        let cover = cover(settings.levels, self.left, self.right);
+        if !cover.is_some_and(|cover| cover.first == self.first && cover.second == self.second) {
             return true;
         }
         if self.current > (self.second != 0) as u64 || self.ticket > MOST_TICKET || self.t1 > last || self.t0 > last {

@@ -1,0 +1,106 @@
+//! The cover and the unreadable test alone, through the library `probe` and in plain Rust, both by C's convention.
+
+use crate::lent::Window;
+use crate::met::{met, Met};
+use crate::nolthewyr::{Record, Settings};
+use crate::random::Random;
+use crate::row;
+use crate::rust::linked::{self, Covered};
+use crate::rust::phase;
+use crate::settings::{SETTINGS, WINDOWS};
+use crate::tables::print_table;
+use crate::timing::{best, time};
+use std::hint::black_box;
+
+extern "C" {
+    fn probe_cover(levels: u64, l: u64, r: u64) -> Covered;
+    fn probe_unreadable(record: Record, settings: Settings, last: u64) -> bool;
+}
+
+type Cover = unsafe extern "C" fn(u64, u64, u64) -> Covered;
+type Unreadable = unsafe extern "C" fn(Record, Settings, u64) -> bool;
+
+const COVER: [Cover; 2] = [probe_cover, linked::cover];
+const UNREADABLE: [Unreadable; 2] = [probe_unreadable, linked::unreadable];
+
+const ROUNDS: usize = 500;
+const CALLS: usize = 20000;
+const COMPARED: usize = 200_000;
+
+fn compare_covers(random: &mut Random) {
+    for _ in 0..COMPARED {
+        let levels = random.below(14);
+        let (l, r) = random.window(levels.clamp(2, 12));
+        let [rattle, rust] = COVER.map(|cover| unsafe { cover(levels, l, r) });
+        assert_eq!(rattle, rust, "cover {levels}, [{l}, {r}): Rattle on the left, Rust on the right");
+    }
+}
+
+fn compare_tests(random: &mut Random, mix: &[Met]) {
+    for place in 0..COMPARED {
+        let (whole, last) = mix[place % mix.len()];
+        let record = if random.seldom(4) { whole } else { random.damaged(whole) };
+        let [rattle, rust] = UNREADABLE.map(|unreadable| unsafe { unreadable(record, SETTINGS, last) });
+        assert_eq!(rattle, rust, "{record:?}, last clock {last}: Rattle on the left, Rust on the right");
+        assert!(record != whole || !rust, "{whole:?}, last clock {last}: unreadable");
+    }
+}
+
+/// The records of a window, and one that waits for an ancestor, since alone in the tree no client does.
+fn records(window: Window) -> Vec<Met> {
+    let mut records = met(SETTINGS, window);
+    let climbing = records.iter().find(|(record, _)| record.phase == phase::CLIMB);
+    let (record, last) = *climbing.expect("a record that climbs");
+    records.push((Record { phase: phase::BLOCKED, ..record }, last));
+    records
+}
+
+/// Nanoseconds of a call that is made on each item of a mix in turn.
+fn time_each<T: Copy>(mix: &[T], mut call: impl FnMut(T)) -> f64 {
+    let times = CALLS / mix.len();
+    time(times, || mix.iter().for_each(|item| call(*item))) / mix.len() as f64
+}
+
+fn cover_times(mix: &[Window]) -> [f64; 2] {
+    black_box(COVER).map(|cover| {
+        time_each(mix, |(l, r)| {
+            black_box(unsafe { cover(SETTINGS.levels, l, r) });
+        })
+    })
+}
+
+fn test_times(mix: &[Met]) -> [f64; 2] {
+    black_box(UNREADABLE).map(|unreadable| {
+        time_each(mix, |(record, last)| {
+            black_box(unsafe { unreadable(record, SETTINGS, last) });
+        })
+    })
+}
+
+/// The mixes: each window by itself, and all of them in turn.
+fn mixes<T: Clone>(of: impl Fn(Window) -> Vec<T>) -> Vec<(&'static str, Vec<T>)> {
+    let mut mixes: Vec<_> = WINDOWS.iter().map(|&(name, window)| (name, of(window))).collect();
+    let all = mixes.iter().flat_map(|(_, mix)| mix.clone()).collect();
+    mixes.push(("all three in turn", all));
+    mixes
+}
+
+pub fn measure() {
+    let covers = mixes(|window| vec![window]);
+    let tests = mixes(records);
+    compare_covers(&mut Random(1));
+    compare_tests(&mut Random(2), &tests[WINDOWS.len()].1);
+    let times = best(ROUNDS, || {
+        let covers = covers.iter().flat_map(|(_, mix)| cover_times(mix));
+        let tests = tests.iter().flat_map(|(_, mix)| test_times(mix));
+        covers.chain(tests).collect()
+    });
+    let covers = covers.iter().map(|(name, _)| ("cover", *name));
+    let tests = tests.iter().map(|(name, _)| ("unreadable, each record of the window", *name));
+    let rows = covers.chain(tests).zip(times.chunks(2)).map(|((call, name), times)| {
+        let (rattle, rust) = (times[0], times[1]);
+        let ratio = rattle / rust;
+        row!["{call}", "{name}", "{rattle:.1}", "{rust:.1}", "{ratio:.2}"]
+    });
+    print_table("alone", &["call", "window", "Rattle ns", "Rust ns", "Rattle / Rust"], rows);
+}
