@@ -75,7 +75,7 @@ impl Record {
         ensures words { λ s. ⌜ now (words .exit) ≡ leftBy settings self (now (words .entry)) (call .a) ⌝ }
     {
         let n = self.touched(settings);
-        let m = self.moved(settings, word_at(words, n), call.a);
+        let m = self.moved(settings, n, word_at(words, n), call.a);
         if m.number != 0 {
             return self.refused(9, call.last);
         }

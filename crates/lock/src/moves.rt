@@ -61,16 +61,16 @@ impl Record {
         }
     }
 
-    // What the step leaves there, and the next record.
-    pub fn moved(self, settings: Settings, found: u64, clock: u64) -> Moved
-        requires { ⌜ Settled settings × Sound settings self × (self .t1 ≤ clock) × (self .t0 ≤ clock) ⌝ }
+    // What the step leaves at that node n, where it found a word, and the next record.
+    pub fn moved(self, settings: Settings, n: u64, found: u64, clock: u64) -> Moved
+        requires { ⌜ Settled settings × Sound settings self × (self .t1 ≤ clock) × (self .t0 ≤ clock) × (n ≡ touched settings self) ⌝ }
         ensures { λ m. ⌜ m ≡ moved settings self found clock ⌝ }
     {
         let phase = self.phase;
         match phase {
             1 => leaves(word::add_tmax(found, 1), self.ticket_taken(found)),
             2 => leaves(found, self.turn_awaited(found)),
-            3 => leaves(found, self.climbed(found, clock)),
+            3 => leaves(found, self.climbed(n, found, clock)),
             4 => leaves(found, self.unblocked(found)),
             5 => self.claim_piece(settings, found, clock),
             6 => leaves(word::add_dmax(found, 1), self.notice_given(settings, clock)),

@@ -4,12 +4,13 @@ ghost use Prim.Native.Nat.{_≤_, _<_};
 ghost use lib.Dec.{eqb};
 ghost use lib.ListN.{length};
 ghost use Rattle.base.specs.rules.Choice.{choose};
-ghost use Rattle.tree.specs.rules.Lists.{ancestors, notifyList, checkList};
+ghost use Rattle.tree.specs.rules.Lists.{notifyList, checkList};
 ghost use Rattle.lock.specs.rules.Records.{pieces, currentPiece, withT1};
 ghost use Rattle.lock.specs.rules.Steps.{startPhase, begin, taken, ticketTaken, turnAwaited, goUp, climbed, unblocked, bitsClaimed, occClaimed, allNotified, noticeGiven, waited, checkPassed};
 ghost use Rattle.tree.specs.rules.Tree.{Node};
 ghost use Rattle.lock.specs.laws.Active.{Settled};
 ghost use Rattle.lock.specs.laws.Placed.{Pieced};
+ghost use Rattle.lock.specs.laws.StepLaws.{Read};
 use crate::Record;
 use crate::Settings;
 
@@ -51,18 +52,17 @@ impl Record {
         self
     }
 
-    // "go up, after the root to 5"
-    fn go_up(mut self) -> Record
-        requires { ⌜ Pieced self × (self .place < length (ancestors (currentPiece self))) ⌝ }
+    // "go up, after the root to 5": n is the ancestor that was read.
+    fn go_up(mut self, n: u64) -> Record
+        requires { ⌜ Read n self ⌝ }
         ensures { λ r. ⌜ r ≡ goUp self ⌝ }
     {
-        let up = self.place + 1;
-        if up < tree::level(self.current_piece()) - 1 {
-            self.place = up;
+        if n == 1 {
+            self.phase = 5;
+            self.place = 0;
             return self;
         }
-        self.phase = 5;
-        self.place = 0;
+        self.place = self.place + 1;
         self
     }
 
@@ -78,15 +78,15 @@ impl Record {
     }
 
     // 3 climb
-    pub fn climbed(mut self, found: u64, clock: u64) -> Record
-        requires { ⌜ Pieced self × (self .place < length (ancestors (currentPiece self))) ⌝ }
+    pub fn climbed(mut self, n: u64, found: u64, clock: u64) -> Record
+        requires { ⌜ Read n self ⌝ }
         ensures { λ r. ⌜ r ≡ climbed self found clock ⌝ }
     {
         if word::occ(found) == 1 {
             self.phase = 4;
             return self;
         }
-        self.parent_noted(clock).go_up()
+        self.parent_noted(clock).go_up(n)
     }
 
     // 4 blocked

@@ -9,7 +9,9 @@ use lib.ListN.{length, getD}
 use Rattle.base.specs.rules.Choice.{choose}
 use Rattle.base.specs.laws.ChoiceLaws.{on-choose, choose-eq, choose-ne, choose-lt, choose-ge, choose-le, choose-gt}
 use Rattle.word.specs.rules.Word.{occ, tcnt, dcnt, dmax}
-use Rattle.tree.specs.rules.Tree.{level, Node}
+use Rattle.tree.specs.rules.Tree.{climb, level, Node}
+use Rattle.tree.specs.laws.Level.{climb-level, level-pos, level-root, level-root-only}
+use Rattle.tree.specs.laws.Ancestors.{ancestors-count, ancestors-place}
 use Rattle.tree.specs.rules.Lists.{ancestors, notifyList, checkList}
 use Rattle.tree.specs.laws.Check.{checkCount, check-count}
 use Rattle.tree.specs.laws.Closed.{first-small}
@@ -18,6 +20,12 @@ use Rattle.lock.specs.declared.Settings.{Settings}
 use Rattle.lock.specs.rules.Records.{pieces, pieceAt, currentPiece, isLeaf, change, toPhase, toBlocked, withOutcome, withGrip, withPlace, withNotices, withT1, withT0}
 use Rattle.lock.specs.rules.Steps.{startPhase, begin, taken, turnAwaited, goUp, climbed, unblocked, bitsClaimed, occClaimed, allNotified, noticeGiven, waited, checkPassed}
 use Rattle.lock.specs.laws.Placed.{Pieced}
+
+-- the ancestor n that a climbing record reads
+pub record Read (n : ℕ) (r : Record) : Type 0 where
+  pub pieced : Pieced r
+  pub within : r .place < length (ancestors (currentPiece r))
+  pub node : n ≡ getD (ancestors (currentPiece r)) (r .place) 0
 
 -- the pieces of a record are not changed by a step
 pub pieced-kept : (r q : Record) → Pieced r → q .current ≡ r .current → q .first ≡ r .first → q .second ≡ r .second → Pieced q
@@ -51,22 +59,36 @@ module _ (r : Record) where
 
   -- ---- 3 climb and 4 blocked
 
-  pub up-more : r .place + 1 < length (ancestors (currentPiece r)) → goUp r ≡ withPlace (r .place + 1) r
-  unfolding goUp
-  up-more b = choose-lt (suc (r .place)) _ _ _ (omega arith) ∙ ap (λ (p : ℕ). withPlace p r) (sym (plus-one (r .place)))
+  module _ {n : ℕ} (v : Read n r) where
+    read-level : (1 ≤ n) × (level n ≡ level (currentPiece r) - suc (r .place))
+    read-level =
+        let p = currentPiece r in
+        let node = v .pieced .nodes (r .current) (v .pieced .exists) in
+        let b : suc (r .place) < level p = omega (arith, v .within, ancestors-count p) in
+        let e : climb (suc (r .place)) p ≡ n = sym (v .node ∙ ancestors-place p (r .place) (omega arith)) in
+        subst (λ (x : ℕ). (1 ≤ x) × (level x ≡ level p - suc (r .place))) e (climb-level (suc (r .place)) p (node .some) b)
 
-  pub up-last : length (ancestors (currentPiece r)) ≤ r .place + 1 → goUp r ≡ toPhase 5 r
-  unfolding goUp
-  up-last b = choose-ge (suc (r .place)) _ _ _ (omega arith)
+    pub up-more : (n ≡ 1 → ⊥) → goUp r ≡ withPlace (r .place + 1) r
+    unfolding goUp
+    up-more d =
+        let l = read-level in
+        let other : level n ≡ 1 → ⊥ = λ e. d (level-root-only n (l .0) e) in
+        choose-lt (suc (r .place)) _ _ _ (omega (arith, ancestors-count (currentPiece r), level-pos n)) ∙ ap (λ (p : ℕ). withPlace p r) (sym (plus-one (r .place)))
 
-  -- noting t1 changes neither piece nor place
-  pub noted-parent : (t : ℕ) → Pieced r × (r .place < length (ancestors (currentPiece r))) → (x : Record) → x ≡ choose (eqb (r .place) 0) (withT1 t r) r
-      → Pieced x × (x .place < length (ancestors (currentPiece x)))
-  unfolding pieces pieceAt
-  noted-parent t v x e =
-      subst (λ y. Pieced y × (y .place < length (ancestors (currentPiece y)))) (sym e)
-      (on-choose (λ y. Pieced y × (y .place < length (ancestors (currentPiece y)))) (eqb (r .place) 0) (withT1 t r) r
-      (λ _. (pieced-kept r (withT1 t r) (v .0) refl refl refl, v .1)) (λ _. v))
+    pub up-last : n ≡ 1 → goUp r ≡ toPhase 5 r
+    unfolding goUp
+    up-last e = choose-ge (suc (r .place)) _ _ _ (omega (arith, ancestors-count (currentPiece r), read-level, level-root n (omega arith)))
+
+    pub up-small : r .place + 1 < 12
+    up-small = let node = v .pieced .nodes (r .current) (v .pieced .exists) in omega (arith, v .within, ancestors-count (currentPiece r), node .inside)
+
+    -- noting t1 changes neither piece nor place
+    pub noted-parent : (t : ℕ) (x : Record) → x ≡ choose (eqb (r .place) 0) (withT1 t r) r → Read n x
+    unfolding pieces pieceAt
+    noted-parent t x e =
+        subst (Read n) (sym e)
+        (on-choose (Read n) (eqb (r .place) 0) (withT1 t r) r
+        (λ _. record { pieced = pieced-kept r (withT1 t r) (v .pieced) refl refl refl; within = v .within; node = v .node }) (λ _. v))
 
   pub climb-set : (w t : ℕ) → occ w ≡ 1 → climbed r w t ≡ toBlocked r
   unfolding climbed

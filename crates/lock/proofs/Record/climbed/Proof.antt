@@ -19,7 +19,7 @@ parent-noted-requires c κs = search needs
 
 go-up-requires : tie.Need-go-up-requires
 go-up-requires c κs =
-    noted-parent (c .before .before .before .args .self) (c .before .before .before .args .clock) (c .before .before .before .pre) (c .parent-noted .result) (c .parent-noted .ensures)
+    noted-parent (c .before .before .before .args .self) (c .before .before .before .pre) (c .before .before .before .args .clock) (c .parent-noted .result) (c .parent-noted .ensures)
 
 returns-2 : tie.Need-returns-2
 returns-2 c =

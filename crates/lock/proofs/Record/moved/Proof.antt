@@ -2,7 +2,7 @@
 use mathlib.Core.Path.{sym, ap, ap₂, _∙_}
 use native.Mathlib.Omega.{arith}
 use mathlib.Core.Logic.{inl}
-use Rattle.lock.specs.rules.Steps.{leaves, movedIn, climbed, unblocked, waited}
+use Rattle.lock.specs.rules.Steps.{touchedIn, leaves, movedIn, climbed, unblocked, waited}
 use Rattle.lock.specs.laws.Placed.{pieced, sound-placed}
 use Rattle.lock.specs.laws.Phases.{at-ticket, at-turn, at-climb, at-blocked, at-claim, at-notify, at-wait, at-check, at-returning}
 use Rattle.lock.specs.laws.MoveLaws.{moved-none}
@@ -32,13 +32,14 @@ leaves-requires-2 : tie.Need-leaves-requires-2
 leaves-requires-2 c κs = search needs
 
 climbed-requires : tie.Need-climbed-requires
+unfolding touchedIn
 climbed-requires c κs =
     let a = c .before .args in
     let q = c .before .pre in
     let e = c .match .keys3 in
     let v = sound-placed (a .settings) (a .self) (q .1) (omega arith) in
     let p = pieced (a .settings) (a .self) (q .0) v in
-    (p, v .climbing (inl e))
+    record { pieced = p; within = v .climbing (inl e); node = q .4 ∙ ap (touchedIn (a .settings) (a .self)) (at-climb (a .self .phase) e) }
 
 leaves-requires-3 : tie.Need-leaves-requires-3
 leaves-requires-3 c κs = search needs

@@ -32,7 +32,7 @@ moved-requires c κs =
     let r = c .before .before .before .before .args .self in
     let q = c .before .before .before .before .pre in
     let f = readable s r (c .before .before .before .before .args .call .last) (q .0) (q .2) in
-    (q .0, f .sound, omega (arith, f .t1-past, q .3), omega (arith, f .t0-past, q .3))
+    (q .0, f .sound, omega (arith, f .t1-past, q .3), omega (arith, f .t0-past, q .3), c .before .before .touched .ensures)
 
 refused-requires : tie.Need-refused-requires
 refused-requires c κs = search needs
