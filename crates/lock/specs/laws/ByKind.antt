@@ -11,6 +11,7 @@ use Rattle.base.specs.rules.Choice.{choose}
 use Rattle.base.specs.laws.ChoiceLaws.{choose-eq, choose-ne, by-eq, on-choose}
 use Rattle.tree.specs.rules.Tree.{wordCount}
 use Rattle.cover.specs.rules.Answer.{windowOutside}
+use Rattle.lock.specs.declared.Call.{Call as Asked}
 use Rattle.lock.specs.declared.Record.{Record}
 use Rattle.lock.specs.declared.Settings.{Settings}
 use Rattle.lock.specs.declared.Moved.{Moved}
@@ -18,10 +19,12 @@ use Rattle.lock.specs.declared.Stepped.{Stepped}
 use Rattle.lock.specs.rules.Records.{wordAt, written}
 use Rattle.lock.specs.rules.Unreadable.{differ, unreadable}
 use Rattle.lock.specs.rules.Steps.{touched, moved}
-use Rattle.lock.specs.rules.Calls.{Tests, firstCause, settingsOutside, treeTests, requestTests, stepTests, releaseTests, cancelTests, requested, released, cancelled, answered, requestNumber, requestAnswer, releaseAnswer, cancelAnswer, stepNumber, stepAnswer, stepWords}
+use Rattle.lock.specs.rules.Calls.{Tests, firstCause, treeTests, requestTests, stepTests, releaseTests, cancelTests, requested, released, cancelled, answered, requestNumber, requestAnswer, releaseAnswer, cancelAnswer, stepNumber, stepAnswer, stepWords}
 use Rattle.lock.specs.rules.Table.{Call, request, step, release, cancel, clientOf}
 use Rattle.lock.specs.rules.ByValue.{callOf, answerTo, wordsAfter}
-use Rattle.lock.specs.laws.CallLaws.{cause-hit, cause-skip, tree-passed, answer-accepted, refused-by}
+use Rattle.lock.specs.laws.Active.{Settled}
+use Rattle.lock.specs.laws.ActiveLaws.{settled}
+use Rattle.lock.specs.laws.CallLaws.{TreeTested, cause-tested, cause-hit, cause-skip, tree-passed, answer-accepted, refused-by}
 
 module _ (kind client a b : ℕ) where
   pub kind-request : kind ≡ 0 → callOf kind client a b ≡ request client a b
@@ -123,21 +126,48 @@ module _ (s : Settings) (r : Record) (words : List ℕ) (last : ℕ) where
   left-call (release c) x vs e q w = (q ∙ ap (λ (m : ℕ). answered m r last (released r) last) (sym e), w)
   left-call (cancel c) x vs e q w = (q ∙ ap (λ (m : ℕ). answered m r last (cancelled r) last) (sym e), w)
 
-  module _ (o : settingsOutside s ≡ false) (n : length words ≡ wordCount (s .levels)) (k : Call) where
-    pub number-back : backOf last k ≡ true → numberOf k ≡ 5
-    number-back e = tree-passed s (length words) _ o n ∙ cause-hit (backOf last k) 5 _ e
+-- a call in code: `n` is what the tests of 1 and 2 give
+module _ (s : Settings) (r : Record) (words : List ℕ) (c : Asked) (kind n : ℕ) (t : n ≡ firstCause (treeTests s (length words))) where
+  abbrev k : Call
+  k = callOf kind (c .client) (c .a) (c .b)
 
-    pub number-unreadable : backOf last k ≡ false → unreadable s r last ≡ true → numberOf k ≡ 6
-    number-unreadable b e = tree-passed s (length words) _ o n ∙ cause-skip (backOf last k) 5 _ b ∙ cause-hit (unreadable s r last) 6 _ e
+  abbrev Gives : Stepped → List ℕ → Type 0
+  Gives x vs = (x ≡ answerTo s r words (c .last) k) × (vs ≡ wordsAfter s r words (c .last) k)
 
-    number-rest : backOf last k ≡ false → unreadable s r last ≡ false → numberOf k ≡ firstCause (restOf k)
-    number-rest b e = tree-passed s (length words) _ o n ∙ cause-skip (backOf last k) 5 _ b ∙ cause-skip (unreadable s r last) 6 _ e
+  abbrev back : Bool
+  back = eqb kind 1 && ltb (c .a) (c .last)
 
-    pub acted : (j : Call) → k ≡ j → (x : Stepped) (vs : List ℕ) → backOf last k ≡ false → unreadable s r last ≡ false
-        → x ≡ answered (firstCause (restOf j)) r last (nextBy j) (clockBy j) → vs ≡ wordsBy j → (x ≡ answerTo s r words last k) × (vs ≡ wordsAfter s r words last k)
-    acted j i x vs b u q w =
-        let a = left-call j x vs (ap numberOf (sym i) ∙ number-rest b u ∙ ap (λ (m : Call). firstCause (restOf m)) i) q w in
-        (a .0 ∙ ap (answerTo s r words last) (sym i), a .1 ∙ ap (wordsAfter s r words last) (sym i))
+  tested : TreeTested s (length words) n
+  tested = cause-tested s (length words) n t
+
+  pub refuses-tree : {x : Stepped} → (n ≡ 0 → ⊥) → x ≡ record { number = n; clock = c .last; next = r } → Gives x words
+  refuses-tree d q = refused-call s r words (c .last) k n _ (tested .refused d _) d q
+
+  module _ (z : n ≡ 0) where
+    pub settles : Settled s
+    settles = settled s (tested .settings z)
+
+    pub counts : length words ≡ wordCount (s .levels)
+    counts = tested .count-right z
+
+    behind-tree : numberOf s r words (c .last) k ≡ firstCause ((back, 5) ∷ (unreadable s r (c .last), 6) ∷ restOf s r words (c .last) k)
+    behind-tree =
+        tree-passed s (length words) _ (tested .settings z) counts
+        ∙ ap (λ (x : Bool). firstCause ((x, 5) ∷ (unreadable s r (c .last), 6) ∷ restOf s r words (c .last) k)) (sym (back-of-kind kind (c .client) (c .a) (c .b) (c .last)))
+
+    pub refuses-back : {x : Stepped} → back ≡ true → x ≡ record { number = 5; clock = c .last; next = r } → Gives x words
+    refuses-back e q = refused-call s r words (c .last) k 5 _ (behind-tree ∙ cause-hit back 5 _ e) (λ f. omega arith) q
+
+    module _ (b : back ≡ false) where
+      pub refuses-unreadable : {x : Stepped} → unreadable s r (c .last) ≡ true → x ≡ record { number = 6; clock = c .last; next = r } → Gives x words
+      refuses-unreadable e q = refused-call s r words (c .last) k 6 _ (behind-tree ∙ cause-skip back 5 _ b ∙ cause-hit (unreadable s r (c .last)) 6 _ e) (λ f. omega arith) q
+
+      pub gives : {x : Stepped} {vs : List ℕ} (j : Call) → unreadable s r (c .last) ≡ false → k ≡ j
+          → x ≡ answered (firstCause (restOf s r words (c .last) j)) r (c .last) (nextBy s r words (c .last) j) (clockBy s r words (c .last) j) → vs ≡ wordsBy s r words (c .last) j → Gives x vs
+      gives j u i q w =
+          let rest = behind-tree ∙ cause-skip back 5 _ b ∙ cause-skip (unreadable s r (c .last)) 6 _ u in
+          let a = left-call s r words (c .last) j _ _ (ap (numberOf s r words (c .last)) (sym i) ∙ rest ∙ ap (λ (m : Call). firstCause (restOf s r words (c .last) m)) i) q w in
+          (a .0 ∙ ap (answerTo s r words (c .last)) (sym i), a .1 ∙ ap (wordsAfter s r words (c .last)) (sym i))
 
 -- ---- what is left of a step
 

@@ -8,13 +8,11 @@ use Rattle.lock.proofs.Record.parent_noted.Tie as tie
 
 returns : tie.Need-returns
 returns c =
-    let r = c .before .before .args .self in
-    sym (choose-eq (r .place) 0 (withT1 (c .before .before .args .clock) r) r (c .if1 .taken))
+    let a = c .before .before .args in sym (choose-eq (a .self .place) 0 (withT1 (a .clock) (a .self)) (a .self) (c .if1 .taken))
 
 returns-2 : tie.Need-returns-2
 returns-2 c =
-    let r = c .before .before .args .self in
-    sym (choose-ne (r .place) 0 (withT1 (c .before .before .args .clock) r) r (c .if1 .left))
+    let a = c .before .before .args in sym (choose-ne (a .self .place) 0 (withT1 (a .clock) (a .self)) (a .self) (c .if1 .left))
 
 pub parent-noted-spec : {M : Type 1} → statement M
 parent-noted-spec = tie.close (tie.spec returns returns-2)

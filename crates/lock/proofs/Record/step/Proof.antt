@@ -12,26 +12,23 @@ use Rattle.lock.proofs.Record.step.Tie as tie
 
 touched-requires : tie.Need-touched-requires
 touched-requires c κs =
-    let s = c .before .args .settings in
-    let r = c .before .args .self in
+    let a = c .before .args in
     let q = c .before .pre in
-    let f = readable s r (c .before .args .call .last) (q .0) (q .2) in
+    let f = readable (a .settings) (a .self) (a .call .last) (q .0) (q .2) in
     (q .0, f .sound)
 
 word-at-requires : tie.Need-word-at-requires
 word-at-requires c κs =
-    let s = c .before .before .before .args .settings in
-    let r = c .before .before .before .args .self in
+    let a = c .before .before .before .args in
     let q = c .before .before .before .pre in
-    let f = readable s r (c .before .before .before .args .call .last) (q .0) (q .2) in
-    omega (arith, touched-counted s r (q .0) (f .sound), c .before .touched .ensures, q .1)
+    let f = readable (a .settings) (a .self) (a .call .last) (q .0) (q .2) in
+    omega (arith, touched-counted (a .settings) (a .self) (q .0) (f .sound), c .before .touched .ensures, q .1)
 
 moved-requires : tie.Need-moved-requires
 moved-requires c κs =
-    let s = c .before .before .before .before .args .settings in
-    let r = c .before .before .before .before .args .self in
+    let a = c .before .before .before .before .args in
     let q = c .before .before .before .before .pre in
-    let f = readable s r (c .before .before .before .before .args .call .last) (q .0) (q .2) in
+    let f = readable (a .settings) (a .self) (a .call .last) (q .0) (q .2) in
     (q .0, f .sound, omega (arith, f .t1-past, q .3), omega (arith, f .t0-past, q .3), c .before .before .touched .ensures)
 
 refused-requires : tie.Need-refused-requires
@@ -51,11 +48,10 @@ returns c =
 
 put-word-requires : tie.Need-put-word-requires
 put-word-requires c κs =
-    let s = c .before .before .before .before .before .before .before .before .args .settings in
-    let r = c .before .before .before .before .before .before .before .before .args .self in
+    let a = c .before .before .before .before .before .before .before .before .args in
     let q = c .before .before .before .before .before .before .before .before .pre in
-    let f = readable s r (c .before .before .before .before .before .before .before .before .args .call .last) (q .0) (q .2) in
-    omega (arith, touched-counted s r (q .0) (f .sound), c .before .before .before .before .before .before .touched .ensures, q .1)
+    let f = readable (a .settings) (a .self) (a .call .last) (q .0) (q .2) in
+    omega (arith, touched-counted (a .settings) (a .self) (q .0) (f .sound), c .before .before .before .before .before .before .touched .ensures, q .1)
 
 same-length-2 : tie.Need-same-length-2
 same-length-2 c = search needs
