@@ -15,7 +15,7 @@ use Rattle.tree.specs.rules.Lists.{ancestor, ancestors, notifyList, chec
 use Rattle.tree.specs.laws.Ancestors.{ancestors-count, ancestors-place}
 use Rattle.tree.specs.laws.Level.{level-pos, level-range}
 use Rattle.tree.specs.laws.Closed.{four, first-is, left-is, climb-is, level-is-log, node-small, left-small}
-use Rattle.tree.specs.laws.Notify.{notifyCount, notifyLevel, Bounded, notify-count}
+use Rattle.tree.specs.laws.Notify.{notifyCount, notifyLevel, Bounded, notify-count, notify-place, notify-some, notify-higher}
 use Rattle.tree.specs.laws.Check.{checkCount, checkNode, check-count, check-place, check-is, check-level}
 
 pub four-small : (k : ℕ) → k ≤ 12 → 4 ^ k ≤ 16777216
@@ -114,16 +114,27 @@ count-small m n b =
     (λ l. omega (arith, count-one m d q l)))
     (λ q. omega (arith, count-none m d q))
 
-pub level-near : (m d i : ℕ) → d ≤ m → notifyLevel m d i ≡ d - 1
+pub steps-near : (m d i : ℕ) → 1 ≤ d → d ≤ m → 1 ≡ d - notifyLevel m d i
 unfolding notifyLevel
-level-near m d i h = choose-le d m (d - 1) _ h
+steps-near m d i a b = omega (arith, choose-le d m (d - 1) (max m (d - 1 - i * m)) b)
 
-pub level-far : (m d i : ℕ) → m < d → notifyLevel m d i ≡ max m (d - 1 - i * m)
+pub steps-far : (m d i : ℕ) → m < d → d - max m (d - 1 - i * m) ≡ d - notifyLevel m d i
 unfolding notifyLevel
-level-far m d i h = choose-gt d m (d - 1) _ h
+steps-far m d i b = ap (λ (x : ℕ). d - x) (sym (choose-gt d m (d - 1) _ b))
 
 pub place-small : (i m : ℕ) → i < 12 → m ≤ 4 → i * m ≤ 44
 place-small i m a b = mul-le-mul {n₁ = i} {m₁ = m} {n₂ = 11} {m₂ = 4} (omega arith) b
+
+-- the steps lead to an ancestor, the one at place i
+pub steps-code : {m n i d s : ℕ} → (1 ≤ m) × (m ≤ 4) × Node 12 n × (i < length (notifyList m n)) → d ≡ level n → s ≡ d - notifyLevel m d i
+    → (s < level n) × (climb s n ≡ getD (notifyList m n) i 0)
+steps-code {m} {n} {i} {d} v e f =
+    let b = bounded m n (v .0) (v .1) (v .2) in
+    let l : i < notifyCount m (level n) = omega (arith, v .3, notify-count m n b) in
+    let g = f ∙ ap (λ (x : ℕ). x - notifyLevel m x i) e in (
+      omega (arith, g, notify-some m (level n) i b l, notify-higher m (level n) i b l),
+      ap (λ (x : ℕ). climb x n) g ∙ ancestor-code n (notifyLevel m (level n) i) (level n) refl ∙ sym (notify-place m n b i l),
+    )
 
 -- ---- the check list
 
