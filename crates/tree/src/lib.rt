@@ -135,11 +135,10 @@ pub fn check_count(h: u64, m: u64, n: u64) -> u64
     first_node(k + 1) - 1
 }
 
-// The nodes below n stand in the order of the nodes 1, 2, 3, .. below the root.
+// The nodes below n stand in the order of the nodes 1, 2, 3, .. below the root: each that is k levels down stands (n - 1) * 4 ^ k further on.
 pub fn check_node(h: u64, m: u64, n: u64, i: u64) -> u64
     requires { ⌜ (h ≤ 12) × (1 ≤ m) × Node h n × (i < length (checkList h m n)) ⌝ }
     ensures { λ r. ⌜ r ≡ getD (checkList h m n) i 0 ⌝ }
 {
-    let d = level(i + 1);
-    leftmost(n, d - 1) + (i + 1 - first_node(d))
+    ((n - 1) << (2 * (level(i + 1) - 1))) + i + 1
 }

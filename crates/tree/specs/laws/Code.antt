@@ -146,24 +146,35 @@ pub check-count-h : (h m n : ℕ) → h - level n ≤ m → first (h - level n +
 unfolding checkCount
 check-count-h h m n b = let e : h - level n + 1 ≡ suc (min m (h - level n)) = omega arith in ap (λ (k : ℕ). first k - 1) e ∙ sym (check-count h m n)
 
--- what the code at place i needs
-pub record Spotted (h m n i : ℕ) : Type 0 where
-  pub node : Node 12 (i + 1)
-  pub deep : level n + (level (i + 1) - 1) ≤ 12
-  pub low : first (level (i + 1)) ≤ i + 1
-  pub is : leftmost (level (i + 1) - 1) n + (i + 1 - first (level (i + 1))) ≡ getD (checkList h m n) i 0
+module _ {h m n i : ℕ} (v : (h ≤ 12) × (1 ≤ m) × Node h n × (i < length (checkList h m n))) where
+  counted-place : i < checkCount h m n
+  counted-place = omega (arith, v .3, check-count h m n)
 
-pub spotted : (h m n i : ℕ) → h ≤ 12 → 1 ≤ m → 1 ≤ n → i < length (checkList h m n) → Spotted h m n i
-unfolding checkNode
-spotted h m n i h12 m1 n1 b =
-    let e : suc i ≡ i + 1 = omega arith in
-    let l : i < checkCount h m n = omega (arith, check-count h m n) in
-    let v = check-is n n1 h m m1 i l in
-    let d = check-level n n1 i in
-    let le : level (suc i) ≡ level (i + 1) = ap level e in
-    record {
-      node = record { some = omega arith; inside = omega (arith, v .inner, level-pos n) };
-      deep = omega (arith, v .inner);
-      low = level-range (i + 1) (omega arith) .0;
-      is = ap (λ (x : ℕ). leftmost (level x - 1) n + (x - first (level x))) (sym e) ∙ sym (check-place h m n i l);
-    }
+  place-deep : level n + (level (i + 1) - 1) ≤ 12
+  place-deep =
+      let e : level (suc i) ≡ level (i + 1) = ap level (omega arith) in
+      omega (arith, v .0, check-is n (v .2 .some) h m (v .1) i counted-place .inner, check-level n (v .2 .some) i)
+
+  pub place-node : Node 12 (i + 1)
+  place-node = record { some = omega arith; inside = omega (arith, place-deep, level-pos n) }
+
+  module _ {d : ℕ} (e : d ≡ level (i + 1)) where
+    pub place-level : (1 ≤ d) × (d ≤ 12)
+    place-level = (omega (arith, level-pos (i + 1)), omega (arith, place-node .inside))
+
+    -- the code's node: as far after the first of the nodes d - 1 levels below n as node i + 1 is after the first of its level
+    shift-place : ((n - 1) * 2 ^ (2 * (d - 1))) % 2 ^ 64 + i + 1 ≡ leftmost (d - 1) n + (i + 1 - first d)
+    shift-place =
+        let s : d ≡ d - 1 + 1 = omega (arith, place-level) in
+        let l : first d ≤ i + 1 = rw e (level-range (i + 1) (omega arith) .0) in
+        omega (arith, left-code (d - 1) n (first d) (ap first s) (v .2 .some) (omega (arith, place-deep)))
+
+    pub check-small : ((n - 1) * 2 ^ (2 * (d - 1))) % 2 ^ 64 + i + 1 < 2 ^ 64
+    check-small = omega (arith, shift-place, left-small (d - 1) n (v .2 .some) (omega (arith, place-deep)), node-small (i + 1) place-node)
+
+    pub check-code : ((n - 1) * 2 ^ (2 * (d - 1))) % 2 ^ 64 + i + 1 ≡ getD (checkList h m n) i 0
+    unfolding checkNode
+    check-code =
+        let s : i + 1 ≡ suc i = omega arith in
+        shift-place ∙ ap (λ (x : ℕ). leftmost (x - 1) n + (i + 1 - first x)) e ∙ ap (λ (x : ℕ). leftmost (level x - 1) n + (x - first (level x))) s
+        ∙ sym (check-place h m n i counted-place)
