@@ -32,13 +32,14 @@ fn rise(l: u64, u: u64) -> u64
     (65 - u64::leading_zeros((l >> 6) ^ (u >> 6))) as u64 / 2
 }
 
-// The lowest node that has all of [l, r).
+// The lowest node that has all of [l, r). The count of the nodes before a level loses two bits at each level up, as a unit's place does: so no
+// division or product is left beside that of the leaves' first number, which is the same for every window.
 fn lowest_node(h: u64, l: u64, r: u64) -> u64
     requires { ⌜ Window h l r ⌝ }
     ensures { λ n. ⌜ n ≡ lowest h l r ⌝ }
 {
     let up = rise(l, r - 1);
-    tree::first_node(h - up) + (l >> (2 * up + 6))
+    ((tree::first_node(h) - 1) >> (2 * up)) + (l >> (2 * up + 6)) + 1
 }
 
 // That node and its over-cover: nothing for a leaf.
@@ -147,13 +148,13 @@ pub fn cover(h: u64, l: u64, r: u64) -> Answer
     pieces(h, l, r)
 }
 
-// Whether the pieces are not `first` and `second` (0 for none). No over-cover is worked out. A window within one leaf is asked first, since there the lowest node is a shift.
+// Whether the pieces are not `first` and `second` (0 for none). No over-cover is worked out. A window within one leaf is asked first: its piece is that leaf.
 fn other_pieces(h: u64, l: u64, r: u64, first: u64, second: u64) -> bool
     requires { ⌜ Window h l r ⌝ }
     ensures { λ b. ⌜ b ≡ notCover false (leastCover 2 h l r) first second ⌝ }
 {
     if rise(l, r - 1) == 0 {
-        return (first != lowest_node(h, l, r)) | (second != 0);
+        return (first != tree::first_node(h) + (l >> 6)) | (second != 0);
     }
     let t = cut(h, l, r);
     if t == 0 {

@@ -1,7 +1,7 @@
 // Node numbers of the quaternary tree: level, parent, child, range of units, and the lists of nodes that a client walks. No function has a
 // loop: a step of k levels is a shift by 2 * k bits. `Node 12 n` says that n is a node of the highest tree.
 ghost use mathlib.Core.Path.{_≡_};
-ghost use Prim.Native.Nat.{_+_, _<_, _≤_};
+ghost use Prim.Native.Nat.{_+_, _-_, _<_, _≤_};
 ghost use lib.ListN.{length, getD};
 ghost use Rattle.tree.specs.rules.Tree.{parent, child, climb, leftmost, first, last, level, Node, size, left};
 ghost use Rattle.tree.specs.rules.Lists.{ancestor, ancestors, notifyList, checkList};
@@ -103,26 +103,25 @@ pub fn notify_count(m: u64, n: u64) -> u64
     }
 }
 
-// The level that a node of level d notifies at place i.
-fn notify_level(m: u64, d: u64, i: u64) -> u64
+// How many levels above a node of level d the node stands that it notifies at place i.
+fn notify_steps(m: u64, d: u64, i: u64) -> u64
     requires { ⌜ (m ≤ 4) × (1 ≤ d) × (i < 12) ⌝ }
-    ensures { λ r. ⌜ r ≡ notifyLevel m d i ⌝ }
+    ensures { λ r. ⌜ r ≡ d - notifyLevel m d i ⌝ }
 {
     if d <= m {
-        return d - 1;
+        return 1;
     }
     if i * m + m < d {
-        return d - 1 - i * m;
+        return i * m + 1;
     }
-    m
+    d - m
 }
 
 pub fn notify_node(m: u64, n: u64, i: u64) -> u64
     requires { ⌜ (1 ≤ m) × (m ≤ 4) × Node 12 n × (i < length (notifyList m n)) ⌝ }
     ensures { λ r. ⌜ r ≡ getD (notifyList m n) i 0 ⌝ }
 {
-    let d = level(n);
-    climb(n, d - notify_level(m, d, i))
+    climb(n, notify_steps(m, level(n), i))
 }
 
 pub fn check_count(h: u64, m: u64, n: u64) -> u64
@@ -136,11 +135,10 @@ pub fn check_count(h: u64, m: u64, n: u64) -> u64
     first_node(k + 1) - 1
 }
 
-// The nodes below n stand in the order of the nodes 1, 2, 3, .. below the root.
+// The nodes below n stand in the order of the nodes 1, 2, 3, .. below the root: each that is k levels down stands (n - 1) * 4 ^ k further on.
 pub fn check_node(h: u64, m: u64, n: u64, i: u64) -> u64
     requires { ⌜ (h ≤ 12) × (1 ≤ m) × Node h n × (i < length (checkList h m n)) ⌝ }
     ensures { λ r. ⌜ r ≡ getD (checkList h m n) i 0 ⌝ }
 {
-    let d = level(i + 1);
-    leftmost(n, d - 1) + (i + 1 - first_node(d))
+    ((n - 1) << (2 * (level(i + 1) - 1))) + i + 1
 }

@@ -7,14 +7,15 @@ use native.Mathlib.Omega.{arith}
 use borrow.Author.Tests.{ltb-false, leb-false}
 use lib.Dec.{eqb, leb, ltb}
 use lib.ListN.{getD}
-use native.Mathlib.Nat.{mod-eq-of-lt, div-mul-le-self}
+use native.Mathlib.Nat.{mod-eq-of-lt, div-mul-le-self, div-one}
 use lib.Pow.{shr-shr, pow-add}
 use Rattle.base.specs.rules.Choice.{choose}
 use Rattle.base.specs.laws.ChoiceLaws.{choose-eq, choose-ne, by-eq}
 use Rattle.base.specs.laws.TestLaws.{both-false}
 use Rattle.tree.specs.rules.Tree.{holder, level, left, size, units, first}
+use Rattle.tree.specs.laws.Climb.{first-pos}
 use Rattle.tree.specs.laws.Range.{holder-level, right-in}
-use Rattle.tree.specs.laws.Closed.{four, holder-is, left-edge-is, node-small}
+use Rattle.tree.specs.laws.Closed.{four, first-up, holder-is, left-edge-is, node-small}
 use Rattle.tree.specs.laws.Code.{four-small, shifted}
 use Rattle.cover.specs.declared.Answer.{Answer}
 use Rattle.cover.specs.declared.Piece.{Piece}
@@ -56,12 +57,24 @@ module _ {h l r k : ℕ} (w : Window h l r) (ek : k ≡ rise l (r - 1)) where
   pub levels-left : (k < h) × (h ≤ 12)
   levels-left = (omega (arith, rise-le h l r w, w .levels), w .most)
 
-  pub node-code : {f : ℕ} → f ≡ first (h - k) → f + l / 2 ^ (2 * k + 6) ≡ lowest h l r
+  -- by its level's first number and its place there
+  low-is : first (h - k) + l / 64 / 4 ^ k ≡ lowest h l r
   unfolding lowest
-  node-code {f} e =
+  low-is =
       let b = levels-left in
-      let s : h - (h - k) ≡ k = omega arith in
-      ap₂ _+_ e (place-code l k ∙ ap (λ (x : ℕ). l / 64 / 4 ^ x) (sym s)) ∙ sym (holder-is h (h - k) l (omega arith) (omega arith)) ∙ ap (λ (x : ℕ). holder h (h - x) l) ek
+      let s : k ≡ h - (h - k) = omega arith in
+      ap (λ (x : ℕ). first (h - k) + l / 64 / 4 ^ x) s ∙ sym (holder-is h (h - k) l (omega arith) (omega arith)) ∙ ap (λ (x : ℕ). holder h (h - x) l) ek
+
+  pub leaf-code : {f : ℕ} → k ≡ 0 → f ≡ first h → f + l / 64 ≡ lowest h l r
+  leaf-code {f} z e =
+      let s : first h ≡ first (h - k) = ap first (omega arith) in
+      let p : l / 64 ≡ l / 64 / 4 ^ k = sym (ap (λ (x : ℕ). l / 64 / 4 ^ x) z ∙ div-one (l / 64)) in
+      ap₂ _+_ (e ∙ s) p ∙ low-is
+
+  pub node-code : {f : ℕ} → f ≡ first h → (f - 1) / 2 ^ (2 * k) + l / 2 ^ (2 * k + 6) + 1 ≡ lowest h l r
+  node-code {f} e =
+      let u : (f - 1) / 2 ^ (2 * k) ≡ first (h - k) - 1 = ap₂ (λ (x p : ℕ). (x - 1) / p) e (four k) ∙ first-up h k (levels-left .0) in
+      omega (arith, u, place-code l k, first-pos (h - k), low-is)
 
   size-is : size h (lowest h l r) ≡ 64 * 4 ^ k
   unfolding size

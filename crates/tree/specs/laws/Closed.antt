@@ -2,7 +2,7 @@
 use mathlib.Core.Path.{_≡_, refl, sym, ap, _∙_, subst}
 use Prim.Native.Nat.{ℕ, zero, suc, _+_, _-_, _*_, _/_, _%_, _^_, _≤_, _<_}
 use native.Mathlib.Omega.{arith}
-use native.Mathlib.Nat.{mod-lt, div-add-mod'}
+use native.Mathlib.Nat.{mod-lt, div-add-mod', div-eq-of-lt, mul-add-div-right}
 use lib.Pow.{pow-mono}
 use Rattle.base.specs.laws.ChoiceLaws.{by-lt}
 use Rattle.tree.specs.rules.Tree.{climb, leftmost, first, level, Node, left, leaf, holder}
@@ -27,6 +27,15 @@ unfolding first
 left-is k n h =
     let e : n ≡ 1 + (n - 1) = omega arith in
     ap (leftmost k) e ∙ left-shift k 1 (n - 1) (omega arith) ∙ omega arith
+
+-- the count of the nodes before a level loses two bits at each level up
+pub first-up : (h k : ℕ) → k < h → (first h - 1) / 4 ^ k ≡ first (h - k) - 1
+first-up h k b =
+    let d = h - k in
+    let e : k + d ≡ h = omega arith in
+    let l : first h ≡ (first d - 1) * 4 ^ k + first (suc k) = sym (left-first k d (omega arith) ∙ ap first e) ∙ left-is k (first d) (first-pos d) in
+    let c : first h - 1 ≡ (first d - 1) * 4 ^ k + (first (suc k) - 1) = omega (arith, first-pos (suc k)) in
+    ap (λ (x : ℕ). x / 4 ^ k) c ∙ mul-add-div-right (pow4 k) (first d - 1) (first (suc k) - 1) ∙ omega (arith, div-eq-of-lt {n = first (suc k) - 1} {m = 4 ^ k} (omega (arith, first-closed k, pow4 k)))
 
 pub climb-is : (k n : ℕ) → 1 ≤ n → k < level n → climb k n ≡ (n - first (suc k)) / 4 ^ k + 1
 climb-is k n h b =

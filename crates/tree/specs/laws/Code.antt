@@ -15,7 +15,7 @@ use Rattle.tree.specs.rules.Lists.{ancestor, ancestors, notifyList, chec
 use Rattle.tree.specs.laws.Ancestors.{ancestors-count, ancestors-place}
 use Rattle.tree.specs.laws.Level.{level-pos, level-range}
 use Rattle.tree.specs.laws.Closed.{four, first-is, left-is, climb-is, level-is-log, node-small, left-small}
-use Rattle.tree.specs.laws.Notify.{notifyCount, notifyLevel, Bounded, notify-count}
+use Rattle.tree.specs.laws.Notify.{notifyCount, notifyLevel, Bounded, notify-count, notify-place, notify-some, notify-higher}
 use Rattle.tree.specs.laws.Check.{checkCount, checkNode, check-count, check-place, check-is, check-level}
 
 pub four-small : (k : ℕ) → k ≤ 12 → 4 ^ k ≤ 16777216
@@ -114,16 +114,27 @@ count-small m n b =
     (λ l. omega (arith, count-one m d q l)))
     (λ q. omega (arith, count-none m d q))
 
-pub level-near : (m d i : ℕ) → d ≤ m → notifyLevel m d i ≡ d - 1
+pub steps-near : (m d i : ℕ) → 1 ≤ d → d ≤ m → 1 ≡ d - notifyLevel m d i
 unfolding notifyLevel
-level-near m d i h = choose-le d m (d - 1) _ h
+steps-near m d i a b = omega (arith, choose-le d m (d - 1) (max m (d - 1 - i * m)) b)
 
-pub level-far : (m d i : ℕ) → m < d → notifyLevel m d i ≡ max m (d - 1 - i * m)
+pub steps-far : (m d i : ℕ) → m < d → d - max m (d - 1 - i * m) ≡ d - notifyLevel m d i
 unfolding notifyLevel
-level-far m d i h = choose-gt d m (d - 1) _ h
+steps-far m d i b = ap (λ (x : ℕ). d - x) (sym (choose-gt d m (d - 1) _ b))
 
 pub place-small : (i m : ℕ) → i < 12 → m ≤ 4 → i * m ≤ 44
 place-small i m a b = mul-le-mul {n₁ = i} {m₁ = m} {n₂ = 11} {m₂ = 4} (omega arith) b
+
+-- the steps lead to an ancestor, the one at place i
+pub steps-code : {m n i d s : ℕ} → (1 ≤ m) × (m ≤ 4) × Node 12 n × (i < length (notifyList m n)) → d ≡ level n → s ≡ d - notifyLevel m d i
+    → (s < level n) × (climb s n ≡ getD (notifyList m n) i 0)
+steps-code {m} {n} {i} {d} v e f =
+    let b = bounded m n (v .0) (v .1) (v .2) in
+    let l : i < notifyCount m (level n) = omega (arith, v .3, notify-count m n b) in
+    let g = f ∙ ap (λ (x : ℕ). x - notifyLevel m x i) e in (
+      omega (arith, g, notify-some m (level n) i b l, notify-higher m (level n) i b l),
+      ap (λ (x : ℕ). climb x n) g ∙ ancestor-code n (notifyLevel m (level n) i) (level n) refl ∙ sym (notify-place m n b i l),
+    )
 
 -- ---- the check list
 
@@ -135,24 +146,35 @@ pub check-count-h : (h m n : ℕ) → h - level n ≤ m → first (h - level n +
 unfolding checkCount
 check-count-h h m n b = let e : h - level n + 1 ≡ suc (min m (h - level n)) = omega arith in ap (λ (k : ℕ). first k - 1) e ∙ sym (check-count h m n)
 
--- what the code at place i needs
-pub record Spotted (h m n i : ℕ) : Type 0 where
-  pub node : Node 12 (i + 1)
-  pub deep : level n + (level (i + 1) - 1) ≤ 12
-  pub low : first (level (i + 1)) ≤ i + 1
-  pub is : leftmost (level (i + 1) - 1) n + (i + 1 - first (level (i + 1))) ≡ getD (checkList h m n) i 0
+module _ {h m n i : ℕ} (v : (h ≤ 12) × (1 ≤ m) × Node h n × (i < length (checkList h m n))) where
+  counted-place : i < checkCount h m n
+  counted-place = omega (arith, v .3, check-count h m n)
 
-pub spotted : (h m n i : ℕ) → h ≤ 12 → 1 ≤ m → 1 ≤ n → i < length (checkList h m n) → Spotted h m n i
-unfolding checkNode
-spotted h m n i h12 m1 n1 b =
-    let e : suc i ≡ i + 1 = omega arith in
-    let l : i < checkCount h m n = omega (arith, check-count h m n) in
-    let v = check-is n n1 h m m1 i l in
-    let d = check-level n n1 i in
-    let le : level (suc i) ≡ level (i + 1) = ap level e in
-    record {
-      node = record { some = omega arith; inside = omega (arith, v .inner, level-pos n) };
-      deep = omega (arith, v .inner);
-      low = level-range (i + 1) (omega arith) .0;
-      is = ap (λ (x : ℕ). leftmost (level x - 1) n + (x - first (level x))) (sym e) ∙ sym (check-place h m n i l);
-    }
+  place-deep : level n + (level (i + 1) - 1) ≤ 12
+  place-deep =
+      let e : level (suc i) ≡ level (i + 1) = ap level (omega arith) in
+      omega (arith, v .0, check-is n (v .2 .some) h m (v .1) i counted-place .inner, check-level n (v .2 .some) i)
+
+  pub place-node : Node 12 (i + 1)
+  place-node = record { some = omega arith; inside = omega (arith, place-deep, level-pos n) }
+
+  module _ {d : ℕ} (e : d ≡ level (i + 1)) where
+    pub place-level : (1 ≤ d) × (d ≤ 12)
+    place-level = (omega (arith, level-pos (i + 1)), omega (arith, place-node .inside))
+
+    -- the code's node: as far after the first of the nodes d - 1 levels below n as node i + 1 is after the first of its level
+    shift-place : ((n - 1) * 2 ^ (2 * (d - 1))) % 2 ^ 64 + i + 1 ≡ leftmost (d - 1) n + (i + 1 - first d)
+    shift-place =
+        let s : d ≡ d - 1 + 1 = omega (arith, place-level) in
+        let l : first d ≤ i + 1 = rw e (level-range (i + 1) (omega arith) .0) in
+        omega (arith, left-code (d - 1) n (first d) (ap first s) (v .2 .some) (omega (arith, place-deep)))
+
+    pub check-small : ((n - 1) * 2 ^ (2 * (d - 1))) % 2 ^ 64 + i + 1 < 2 ^ 64
+    check-small = omega (arith, shift-place, left-small (d - 1) n (v .2 .some) (omega (arith, place-deep)), node-small (i + 1) place-node)
+
+    pub check-code : ((n - 1) * 2 ^ (2 * (d - 1))) % 2 ^ 64 + i + 1 ≡ getD (checkList h m n) i 0
+    unfolding checkNode
+    check-code =
+        let s : i + 1 ≡ suc i = omega arith in
+        shift-place ∙ ap (λ (x : ℕ). leftmost (x - 1) n + (i + 1 - first x)) e ∙ ap (λ (x : ℕ). leftmost (level x - 1) n + (x - first (level x))) s
+        ∙ sym (check-place h m n i counted-place)
