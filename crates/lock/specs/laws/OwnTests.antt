@@ -64,11 +64,6 @@ pub or-false : (b : Bool) → (b || false) ≡ b
 or-false true = refl
 or-false false = refl
 
-pub by-leaf : (leaf x y : Bool) → ((leaf && x) || (not leaf && y)) ≡ choose leaf x y
-unfolding choose
-by-leaf true x y = or-false x
-by-leaf false x y = refl
-
 pub untaken-is : (leaf : Bool) (grip : ℕ) → choose leaf (differ grip 0) (differ grip 2) ≡ differ grip (choose leaf 0 2)
 unfolding choose
 untaken-is true grip = refl
