@@ -4,7 +4,7 @@ use mathlib.Core.Bool.{Bool, true, false, _||_}
 use mathlib.Core.List.{[], _∷_, _++_}
 use Prim.Native.Nat.{ℕ, _≤_, _<_}
 use native.Mathlib.Omega.{arith}
-use borrow.Author.Tests.{ltb-false, leb-false, eqb-true, eqb-false, not-false}
+use borrow.Author.Tests.{ltb-false, leb-false, eqb-false}
 use lib.Dec.{eqb, leb, ltb}
 use lib.ListN.{length}
 use Rattle.base.specs.rules.Choice.{choose}
@@ -18,6 +18,7 @@ use Rattle.lock.specs.rules.Steps.{touched, moved}
 use Rattle.lock.specs.rules.Calls.{Tests, firstCause, settingsOutside, treeTests, clientsOutside, clientTests, requestTests, stepTests, releaseTests, cancelTests}
 use Rattle.lock.specs.rules.Table.{State, Call, request, step, release, cancel, clientOf, recordAt, ownTests, numberOf, openingNumber}
 use Rattle.lock.specs.laws.Active.{Settled}
+use Rattle.lock.specs.laws.ReadableLaws.{same-number}
 use Rattle.base.specs.laws.TestLaws.{both-false}
 use Rattle.lock.specs.laws.ActiveLaws.{settled}
 
@@ -26,9 +27,6 @@ test-passed : (b : Bool) (k : ℕ) (ts : Tests) → 0 < k → firstCause ((b, k)
 unfolding firstCause choose
 test-passed true k ts some e = absurd (omega arith)
 test-passed false k ts some e = (refl, e)
-
-same-number : (m n : ℕ) → differ m n ≡ false → m ≡ n
-same-number m n e = eqb-true m n (not-false (eqb m n) e)
 
 -- ---- 1 to 4
 

@@ -4,7 +4,7 @@ use mathlib.Core.Path.{_≡_, refl, sym, ap, ap₂, subst, _∙_}
 use mathlib.Core.Bool.{Bool, true, false, not, _&&_, _||_}
 use Prim.Native.Nat.{ℕ, suc, _≤_, _<_}
 use native.Mathlib.Omega.{arith}
-use borrow.Author.Tests.{lt-ltb, le-ltb, le-leb, eq-eqb, ne-eqb, eqb-true, not-false}
+use borrow.Author.Tests.{lt-ltb, le-ltb, le-leb, eq-eqb, ne-eqb}
 use lib.Dec.{T, eqb, leb, ltb, lt→ltb, ltb→lt}
 use lib.ListN.{length}
 use Rattle.base.specs.rules.Choice.{choose}
@@ -29,7 +29,7 @@ ownWrong s r =
 
 -- the clauses in document 01's order, and in two parts
 parted : (n c u t p q a e h o l v : Bool)
-    → (n || (((c || u)) || ((((((((t || p) || q) || a) || e) || h) || o) || l) || v))) ≡ ((((c || u) || t) || a) || (n || (p || (q || (e || (h || (o || (l || v))))))))
+    → (n || ((c || u) || ((((((((t || p) || q) || a) || e) || h) || o) || l) || v))) ≡ ((((c || u) || t) || a) || (n || (p || (q || (e || (h || (o || (l || v))))))))
 parted n true u t p q a e h o l v = sym (true-later n _ refl)
 parted n false true t p q a e h o l v = sym (true-later n _ refl)
 parted n false false true p q a e h o l v = sym (true-later n _ refl)
@@ -56,9 +56,6 @@ unreadable-idle s r last e =
     ap₂ (λ (b c : Bool). (b || ltb 3 (r .outcome)) || c) (le-ltb 10 (r .phase) (omega arith)) (choose-eq (r .phase) 0 (idleFilled r) _ e)
 
 -- ---- tests that say the same
-
-pub same-number : (m n : ℕ) → differ m n ≡ false → m ≡ n
-same-number m n e = eqb-true m n (not-false (eqb m n) e)
 
 pub or-false : (b : Bool) → (b || false) ≡ b
 or-false true = refl

@@ -19,9 +19,9 @@ use Rattle.lock.specs.declared.Record.{Record}
 use Rattle.lock.specs.declared.Settings.{Settings}
 use Rattle.lock.specs.rules.Records.{pieces, currentPiece, isLeaf, isRoot, gripOf, noticesOf}
 use Rattle.lock.specs.rules.Unreadable.{nonzero, differ, numberTooLarge, placePast, noticesWrong, outcomeWrong, heldEarly, givingWrong}
-use Rattle.lock.specs.laws.ReadableLaws.{Begun, past-some, place-is, list-climbing, list-notifying, list-checking, list-returning, elsewhere-leaf, elsewhere-root, elsewhere-none, grip-climbing, grip-taken, grip-returning}
+use Rattle.lock.specs.laws.ReadableLaws.{same-number, Begun, past-some, place-is, list-climbing, list-notifying, list-checking, list-returning, elsewhere-leaf, elsewhere-root, elsewhere-none, grip-climbing, grip-taken, grip-returning}
 use Rattle.lock.specs.laws.ActiveLaws.{below-root, notified, checked}
-use Rattle.lock.specs.laws.OwnTests.{ownWrong, same-number, or-false, untaken-is, past-or, past-or-root, elsewhere, lacking, count, own-taking, notices-at, notices-few, notices-many, notices-waiting, notices-place, none-walked, bare}
+use Rattle.lock.specs.laws.OwnTests.{ownWrong, or-false, untaken-is, past-or, past-or-root, elsewhere, lacking, count, own-taking, notices-at, notices-few, notices-many, notices-waiting, notices-place, none-walked, bare}
 
 in-order : (n p q o l v : Bool) → (((((n || p) || q) || o) || l) || v) ≡ (n || (p || (q || (false || (false || (o || (l || v)))))))
 in-order true p q o l v = refl

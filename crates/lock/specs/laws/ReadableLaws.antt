@@ -3,6 +3,7 @@ use mathlib.Core.Path.{_≡_, refl, sym, ap, subst}
 use mathlib.Core.Bool.{Bool, false, not, _&&_}
 use Prim.Native.Nat.{ℕ, suc, _≤_, _<_}
 use native.Mathlib.Omega.{arith}
+use borrow.Author.Tests.{eqb-true, not-false}
 use lib.Dec.{eqb, leb, ltb}
 use lib.ListN.{length}
 use Rattle.base.specs.rules.Choice.{choose}
@@ -15,6 +16,9 @@ use Rattle.lock.specs.rules.Records.{phaseOf, pieces, pieceAt, currentPi
 use Rattle.lock.specs.rules.Unreadable.{nonzero, differ, listLength, placePast, phaseElsewhere, lacksGrip}
 use Rattle.lock.specs.laws.Phases.{on-phase}
 use Rattle.lock.specs.laws.Active.{Settled}
+
+pub same-number : (m n : ℕ) → differ m n ≡ false → m ≡ n
+same-number m n e = eqb-true m n (not-false (eqb m n) e)
 
 -- ---- what the clauses after the cover and the current piece stand on
 
