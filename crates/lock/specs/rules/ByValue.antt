@@ -15,6 +15,7 @@ unfoldable pub callOf : ℕ → ℕ → ℕ → ℕ → Call
 callOf kind client a b =
     choose (eqb kind 0) (request client a b) (choose (eqb kind 1) (step client a) (choose (eqb kind 2) (release client) (cancel client)))
 
+-- "A client record goes into a step and comes back by value": what a call gives on one record, its number, the clock and the record after it
 unfoldable pub answerTo : Settings → Record → List ℕ → ℕ → Call → Stepped
 answerTo s r words last (request c a b) = requestAnswer s r words last a b
 answerTo s r words last (step c t) = stepAnswer s r words last t
