@@ -85,11 +85,11 @@ module _ (s : Settings) (r : Record) (words : List ℕ) (last : ℕ) where
   restOf (cancel c) = (eqb (r .phase) 0 || eqb (r .phase) 9 || eqb (r .phase) 10, 8) ∷ []
 
   -- all tests of a call, the first ones in common
-  abbrev pub numberOf : Call → ℕ
-  numberOf k = firstCause (treeTests s (length words) ++ ((backOf last k, 5) ∷ (unreadable s r last, 6) ∷ restOf k))
+  abbrev numberBy : Call → ℕ
+  numberBy k = firstCause (treeTests s (length words) ++ ((backOf last k, 5) ∷ (unreadable s r last, 6) ∷ restOf k))
 
   -- a call that is refused, and one that is not
-  pub refused-call : (k : Call) (n : ℕ) (x : Stepped) → numberOf k ≡ n → (n ≡ 0 → ⊥) → x ≡ record { number = n; clock = last; next = r }
+  pub refused-call : (k : Call) (n : ℕ) (x : Stepped) → numberBy k ≡ n → (n ≡ 0 → ⊥) → x ≡ record { number = n; clock = last; next = r }
       → (x ≡ answerTo s r words last k) × (words ≡ wordsAfter s r words last k)
   unfolding treeTests firstCause choose backOf restOf answerTo wordsAfter requestTests stepTests releaseTests cancelTests requestNumber requestAnswer releaseAnswer cancelAnswer stepNumber stepAnswer stepWords
   refused-call (request c a b) n x e d q = (q ∙ refused-by _ n r last (requested s a b) last e d, refl)
@@ -117,7 +117,7 @@ module _ (s : Settings) (r : Record) (words : List ℕ) (last : ℕ) where
   wordsBy (cancel c) = words
 
   -- where the first tests pass, what is left of the call decides
-  left-call : (k : Call) (x : Stepped) (vs : List ℕ) → numberOf k ≡ firstCause (restOf k) → x ≡ answered (firstCause (restOf k)) r last (nextBy k) (clockBy k) → vs ≡ wordsBy k
+  left-call : (k : Call) (x : Stepped) (vs : List ℕ) → numberBy k ≡ firstCause (restOf k) → x ≡ answered (firstCause (restOf k)) r last (nextBy k) (clockBy k) → vs ≡ wordsBy k
       → (x ≡ answerTo s r words last k) × (vs ≡ wordsAfter s r words last k)
   unfolding treeTests firstCause choose backOf restOf nextBy clockBy wordsBy answerTo wordsAfter requestTests stepTests releaseTests cancelTests requestNumber requestAnswer releaseAnswer cancelAnswer stepNumber stepAnswer stepWords
   left-call (request c a b) x vs e q w = (q ∙ ap (λ (m : ℕ). answered m r last (requested s a b) last) (sym e), w)
@@ -150,7 +150,7 @@ module _ (s : Settings) (r : Record) (words : List ℕ) (c : Asked) (kind n : �
     pub counts : length words ≡ wordCount (s .levels)
     counts = tested .count-right z
 
-    behind-tree : numberOf s r words (c .last) k ≡ firstCause ((back, 5) ∷ (unreadable s r (c .last), 6) ∷ restOf s r words (c .last) k)
+    behind-tree : numberBy s r words (c .last) k ≡ firstCause ((back, 5) ∷ (unreadable s r (c .last), 6) ∷ restOf s r words (c .last) k)
     behind-tree =
         tree-passed s (length words) _ (tested .settings z) counts
         ∙ ap (λ (x : Bool). firstCause ((x, 5) ∷ (unreadable s r (c .last), 6) ∷ restOf s r words (c .last) k)) (sym (back-of-kind kind (c .client) (c .a) (c .b) (c .last)))
@@ -166,7 +166,7 @@ module _ (s : Settings) (r : Record) (words : List ℕ) (c : Asked) (kind n : �
           → x ≡ answered (firstCause (restOf s r words (c .last) j)) r (c .last) (nextBy s r words (c .last) j) (clockBy s r words (c .last) j) → vs ≡ wordsBy s r words (c .last) j → Gives x vs
       gives j u i q w =
           let rest = behind-tree ∙ cause-skip back 5 _ b ∙ cause-skip (unreadable s r (c .last)) 6 _ u in
-          let a = left-call s r words (c .last) j _ _ (ap (numberOf s r words (c .last)) (sym i) ∙ rest ∙ ap (λ (m : Call). firstCause (restOf s r words (c .last) m)) i) q w in
+          let a = left-call s r words (c .last) j _ _ (ap (numberBy s r words (c .last)) (sym i) ∙ rest ∙ ap (λ (m : Call). firstCause (restOf s r words (c .last) m)) i) q w in
           (a .0 ∙ ap (answerTo s r words (c .last)) (sym i), a .1 ∙ ap (wordsAfter s r words (c .last)) (sym i))
 
 -- ---- what is left of a step
