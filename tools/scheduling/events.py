@@ -1,0 +1,88 @@
+"""What happened: each call of a schedule with the client's record before and after it, by the model, held to the log line by line."""
+
+from typing import NamedTuple
+
+from model import tree
+from model.history import Call, Opened
+from model.record import IDLE, Record
+from model.schedule import header_line, line, record_after
+from scheduling.names import HELD
+from scheduling.problems import Failed
+
+
+class Event(NamedTuple):
+    """A call that was made: its place from 0, its number, the client's record and the last clock before it and after it, and its line
+    of the log."""
+
+    place: int
+    call: Call
+    number: int
+    before: Record
+    after: Record
+    last: int
+    clock: int
+    logged: str
+
+
+class Holding(NamedTuple):
+    """A window that a client held, from the step that took it to the release; with no end if it still holds. Each end is a call's
+    place and the clock then."""
+
+    client: int
+    left: int
+    right: int
+    start: Event
+    end: Event
+
+
+class Happened(NamedTuple):
+    """A schedule that was run: its events, and the words and records after the last."""
+
+    schedule: object
+    events: tuple
+    words: list
+    records: list
+    clock: int
+
+
+def fresh(schedule):
+    words, records = [0] * tree.node_count(schedule.settings.levels), [IDLE] * schedule.clients
+    return Opened(schedule.settings, words, records)
+
+
+def agree(place, expected, logged):
+    """The log is believed only where the model, written apart from it, says the same."""
+    if logged != expected:
+        raise Failed(f"line {place} of the log is `{logged}`, and the model says `{expected}`: one of the two is wrong; keep the file and report it")
+
+
+def happened(schedule, log):
+    """What the lines of a log tell, with all that the model knows beside it."""
+    opened, events = fresh(schedule), []
+    agree(1, header_line(schedule).rstrip("\n"), log[0])
+    for place, (call, logged) in enumerate(zip(schedule.calls, log[1:], strict=True)):
+        client_there = call.client < schedule.clients
+        before, last = opened.records[call.client] if client_there else IDLE, opened.clock
+        made = opened.make(call)
+        after = record_after(made, opened.records)
+        agree(place + 2, line(place, made, after).rstrip("\n"), logged)
+        events.append(Event(place, call, made.number, before, after, last, opened.clock, logged))
+    return Happened(schedule, tuple(events), opened.words, opened.records, opened.clock)
+
+
+def became(event, phase):
+    """Whether this call brought its client into a phase."""
+    return event.before.phase != phase and event.after.phase == phase
+
+
+def holdings(events):
+    """Every holding, in the order in which they began."""
+    found, held = [], {}
+    for event in events:
+        if became(event, HELD):
+            held[event.call.client] = len(found)
+            found.append(Holding(event.call.client, event.after.left, event.after.right, event, None))
+        elif event.before.phase == HELD and event.after.phase != HELD:
+            place = held.pop(event.call.client)
+            found[place] = found[place]._replace(end=event)
+    return found

@@ -1,0 +1,129 @@
+"""The program's command line: what is asked, where it comes from and goes to, and the exit status."""
+
+import argparse
+import signal
+import sys
+from typing import NamedTuple
+
+from model.schedule import LONGEST
+from scheduling import packed, report, running
+from scheduling.events import happened
+from scheduling.problems import Failed, Wrong
+from scheduling.refusals import foreseen
+from scheduling.streams import Streams, write_file
+from scheduling.text import LONGEST_TEXT, read_text
+
+# The parser of the command line ends with 2 itself.
+DONE, INPUT_WRONG, FAILED, INTERRUPTED = 0, 1, 3, 130
+
+DESCRIPTION = """\
+Make schedules for rangelog, run them, and see what happened.
+
+The first line of a text has the settings, and each line after it is a call:
+
+    tree 2 m 1 wait 5 clients 2
+    request 0 10 20             # client, left edge, right edge
+    step 0 1                    # client, clock
+    release 0                   # client
+    cancel 0                    # client
+
+Blank lines are passed over, and so is the rest of a line from a # on. FILE is - or left out for standard input.
+"""
+STATUS = "exit status: 0 done, 1 input wrong, 2 usage, 3 could not read, run or write. docs/SCHEDULES.md has more."
+
+
+class Made(NamedTuple):
+    """What a command makes: the bytes to write, what is said beside them on standard error, and the exit status."""
+
+    data: bytes
+    said: tuple = ()
+    status: int = DONE
+
+
+def read_source(data):
+    """The schedule of a text or of a packed file, which a byte 0 tells apart, and the file's bytes."""
+    if 0 in data[:LONGEST + 1]:
+        return packed.read_file(data), data
+    source = read_text(data)
+    return source, packed.pack(source.schedule)
+
+
+def lines(text):
+    return "".join(f"{line}\n" for line in text).encode()
+
+
+def do_pack(streams, options):
+    source = read_text(streams.read(options.file, LONGEST_TEXT))
+    return Made(packed.pack(source.schedule), tuple(foreseen(source)))
+
+
+def do_unpack(streams, options):
+    return Made(packed.unpack(streams.read(options.file, LONGEST)).encode())
+
+
+def run(streams, options):
+    """The schedule that was read, and the lines of its log."""
+    source, data = read_source(streams.read(options.file, LONGEST_TEXT))
+    return source, running.whole_log(data, source.schedule)
+
+
+def do_run(streams, options):
+    source, log = run(streams, options)
+    refused = running.refusal(log)
+    if options.log:
+        return Made(lines(log), refused, INPUT_WRONG if refused else DONE)
+    if refused:
+        raise Wrong(*refused)
+    return Made(lines(report.report(source, happened(source.schedule, log))))
+
+
+def parser(streams):
+    class Parser(argparse.ArgumentParser):
+        def print_help(self, file=None):
+            """As the commands do, so that a help that cannot be written is told of."""
+            streams.write(self.format_help().encode())
+
+    parser = Parser(prog="schedule", description=DESCRIPTION, epilog=STATUS, formatter_class=argparse.RawDescriptionHelpFormatter)
+    commands = parser.add_subparsers(dest="command", metavar="COMMAND", required=True)
+
+    def command(name, do, says):
+        added = commands.add_parser(name, help=says, description=says[0].upper() + says[1:] + ".", epilog=STATUS)
+        added.add_argument("file", nargs="?", default="-", metavar="FILE", help="what to read; - or nothing for standard input")
+        added.set_defaults(do=do, output=None)
+        return added
+
+    for name, do, says in (("pack", do_pack, "turn a text into rangelog's file"),
+                           ("unpack", do_unpack, "turn rangelog's file into a text")):
+        command(name, do, says).add_argument("-o", dest="output", metavar="FILE", help="write this file, whole or not at all")
+    runs = command("run", do_run, "run a text or a file, and say what happened beside each line of the log")
+    runs.add_argument("--log", action="store_true", help="print the log alone")
+    return parser
+
+
+def do(streams, options):
+    """Does what is asked. Nothing is written before all of it is known."""
+    made = options.do(streams, options)
+    if options.output is None:
+        streams.write(made.data)
+    else:
+        write_file(options.output, made.data)
+    for message in made.said:
+        streams.say(message)
+    return made.status
+
+
+def main():
+    signal.signal(signal.SIGINT, signal.default_int_handler)
+    streams = Streams()
+    try:
+        return do(streams, parser(streams).parse_args())
+    except Wrong as wrong:
+        for message in wrong.messages:
+            streams.say(message)
+        return INPUT_WRONG
+    except Failed as failed:
+        streams.say(f"schedule: {failed}")
+        return FAILED
+    except KeyboardInterrupt:
+        streams.say("schedule: interrupted")
+        return INTERRUPTED

@@ -1,0 +1,17 @@
+"""Phases, outcomes and causes in words. docs/SCHEDULES.md explains each."""
+
+PHASES = ("idle", "ticket", "turn", "climb", "blocked", "claim", "notify", "wait", "check", "held", "returning")
+OUTCOMES = ("", "released", "late", "cancelled")
+HELD = 9
+RETURNING = 10
+
+FILE_REFUSED = {
+    1: "H below 2, m not in 1 to 4, or wait 0: correct the settings",
+    3: "no clients: correct the settings",
+    10: "this is no schedule",
+    11: "a tree of over 6 levels, or over 64 clients: these are limits of rangelog",
+}
+
+
+def window(left, right):
+    return f"[{left}, {right})"

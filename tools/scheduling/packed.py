@@ -1,0 +1,75 @@
+"""A schedule as the file that `rangelog` reads: its bytes read, with the wrong one named, and written."""
+
+from model.record import Settings
+from model.history import Call
+from model.history import KINDS as KINDS_IN_ORDER
+from model.schedule import CALL, HEADER, LONGEST, Schedule, encode
+from scheduling.problems import Wrong
+from scheduling.text import KINDS, Source, line_of, settings_line
+
+pack = encode
+
+
+def header_of(data):
+    """The settings, the count of calls and the offset of a file in which these are right."""
+    if len(data) > LONGEST:
+        raise Wrong(f"byte {LONGEST}: a file has at most {LONGEST} bytes; this one goes on")
+    if data and 0 not in data:
+        raise Wrong("byte 0: this is a text and no packed file, in which some byte is 0; `pack` turns it into one")
+    if len(data) < HEADER.size:
+        raise Wrong(f"byte {len(data)}: the file ends within its header of {HEADER.size} bytes")
+    *settings, count, offset = HEADER.unpack_from(data)
+    if offset < HEADER.size:
+        raise Wrong(f"byte 12: the offset of the first call must be at least {HEADER.size}; got {offset}")
+    if offset + CALL.size * count > len(data):
+        end = f"{offset} + {CALL.size} * {count} = {offset + CALL.size * count}"
+        raise Wrong(f"byte 10: {count} calls from byte {offset} would end at {end}; the file has {len(data)} bytes")
+    return settings, count, offset
+
+
+def wrong_fields(place, start, name, zeros):
+    """A message for each field of a call that must be 0 and is filled."""
+    return [f"byte {start + at}: call {place}, a {name}, has {filled} in a field that must be 0"
+            for at, filled in zeros.items() if filled]
+
+
+def call_at(data, place, start):
+    """The call whose 24 bytes begin at byte `start`."""
+    kind, zero8, client, zero32, a, b = CALL.unpack_from(data, start)
+    if kind >= len(KINDS_IN_ORDER):
+        known = ", ".join(f"{number} {name}" for number, name in enumerate(KINDS_IN_ORDER))
+        raise Wrong(f"byte {start}: call {place} has the unknown kind {kind}; known are {known}")
+    name = KINDS_IN_ORDER[kind]
+    wanted = len(KINDS[name].numbers)
+    zeros = {1: zero8, 4: zero32, **({8: a} if wanted < 2 else {}), **({16: b} if wanted < 3 else {})}
+    if wrong := wrong_fields(place, start, name, zeros):
+        raise Wrong(*wrong)
+    return Call(name, client, a, b)
+
+
+def read_file(data):
+    """The schedule that a file says. All wrong calls are named."""
+    (*of_the_lock, clients), count, offset = header_of(data)
+    calls, wrong = [], []
+    for place in range(count):
+        try:
+            calls.append(call_at(data, place, offset + CALL.size * place))
+        except Wrong as problem:
+            wrong += problem.messages
+    if wrong:
+        raise Wrong(*wrong)
+    return Source(Schedule(Settings(*of_the_lock), clients, tuple(calls)), tuple(map(line_of, calls)))
+
+
+def ignored(data):
+    """A comment about bytes that belong to no call, if there are any."""
+    _, count, offset = header_of(data)
+    before, after = offset - HEADER.size, len(data) - offset - CALL.size * count
+    if before or after:
+        yield f"# left out: {before} bytes before the first call and {after} after the last, which rangelog ignores"
+
+
+def unpack(data):
+    """The text that a file says."""
+    source = read_file(data)
+    return "".join(f"{line}\n" for line in [settings_line(source.schedule), *ignored(data), *source.written])

@@ -1,0 +1,100 @@
+"""What `schedule run` prints: each line of the log beside the line it comes from, in words, and a summary at the end."""
+
+from collections import Counter
+
+from scheduling.events import became, holdings
+from scheduling.names import HELD, OUTCOMES, PHASES, RETURNING, window
+from scheduling.refusals import words_for
+from scheduling.waiting import wait_of
+
+HEADINGS = ("line", "call", "log", "clock", "what happened")
+
+
+def phase_in_words(event):
+    """The client's phase after the call, with the window it now holds or why it gives back, and the outcome once it is idle."""
+    after = event.after
+    if became(event, HELD):
+        return f"held: client {event.call.client} holds {window(after.left, after.right)}"
+    if after.phase == RETURNING:
+        return f"{PHASES[RETURNING]}, {OUTCOMES[after.outcome]}"
+    if became(event, 0):
+        return f"{PHASES[0]}, {OUTCOMES[after.outcome]}"
+    return PHASES[after.phase]
+
+
+def what_happened(schedule, event):
+    if event.number == 0:
+        return phase_in_words(event)
+    return f"refused {event.number}: {words_for(event.number, schedule, event.call, event.before, event.last)}"
+
+
+def rows(source, events):
+    """A row for each call: the number of its line (of its call, where a file has no lines), the call, its line of the log, the clock
+    after it, and what happened."""
+    places = source.lines or range(len(source.written))
+    for place, written, event in zip(places, source.written, events, strict=True):
+        yield str(place), written, event.logged, str(event.clock), what_happened(source.schedule, event)
+
+
+def in_columns(table):
+    """The rows with each column as wide as its widest entry, numbers to the right."""
+    widths = [max(map(len, column)) for column in zip(*table)]
+    for line, call, log, clock, words in table:
+        yield f"{line:>{widths[0]}}  {call:<{widths[1]}}  {log:<{widths[2]}}  {clock:>{widths[3]}}  {words}".rstrip()
+
+
+def at(event):
+    return f"clock {event.clock} (call {event.place})"
+
+
+def held_lines(events):
+    for holding in holdings(events):
+        end = f"to {at(holding.end)}" if holding.end else "and still holds it"
+        yield f"client {holding.client} held {window(holding.left, holding.right)} from {at(holding.start)} {end}"
+
+
+def named(clients):
+    """Clients in words: `client 3`, `clients 3 and 5`, `clients 1, 3 and 5`."""
+    *others, last = map(str, clients)
+    return f"clients {', '.join(others)} and {last}" if others else f"client {last}"
+
+
+def why_waiting(happened, client):
+    """For whom a client waits: others, the clock, or only its own next step."""
+    settings, record = happened.schedule.settings, happened.records[client]
+    if wait := wait_of(settings, happened.words, happened.records, client):
+        return f"for {named(wait.clients)}: {wait.reason}, node {wait.node}"
+    if record.phase == 7 and record.t0 + settings.wait > happened.clock:
+        return f"for nobody: until clock {record.t0 + settings.wait}"
+    return "for nobody: it needs steps"
+
+
+def waiting_lines(happened):
+    for client, record in enumerate(happened.records):
+        if record.phase not in (0, HELD):
+            giving = f", {OUTCOMES[record.outcome]}" if record.outcome else ""
+            where = f"client {client} {window(record.left, record.right)}, phase {record.phase} {PHASES[record.phase]}{giving}"
+            yield f"{where}, waits {why_waiting(happened, client)}"
+
+
+def counted_lines(happened):
+    """How the requests ended, and which calls were refused. A client is counted when it is told to give back."""
+    ended = Counter(event.after.outcome for event in happened.events if event.number == 0 and event.before.outcome == 0 and event.after.outcome)
+    yield ", ".join(f"{ended[number]} {name}" for number, name in enumerate(OUTCOMES) if number)
+    refused = Counter(event.number for event in happened.events if event.number)
+    by_cause = ", ".join(f"{count} by {number}" for number, count in sorted(refused.items()))
+    yield f"{len(happened.events)} calls, {refused.total()} refused" + (f": {by_cause}" if by_cause else "")
+
+
+def section(title, lines):
+    yield ""
+    yield title
+    yield from (f"  {line}" for line in list(lines) or ["nobody"])
+
+
+def report(source, happened):
+    """The whole report, line by line."""
+    yield from in_columns([HEADINGS, *rows(source, happened.events)])
+    yield from section("Held", held_lines(happened.events))
+    yield from section("Not idle and not holding at the end", waiting_lines(happened))
+    yield from section("In all", counted_lines(happened))

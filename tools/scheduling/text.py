@@ -1,0 +1,135 @@
+"""A schedule as a text: its lines read, with every wrong one named, and written."""
+
+import re
+from typing import NamedTuple
+
+from model.history import Call
+from model.record import Settings
+from model.schedule import CALL, HEADER, LONGEST, Schedule
+from scheduling.problems import Wrong, shown
+
+# Room for 2,730 calls with a comment on each. A text is read no further.
+LONGEST_TEXT = 2 ** 20
+MOST_CALLS = (LONGEST - HEADER.size) // CALL.size
+
+U16, U32, U64 = 2 ** 16 - 1, 2 ** 32 - 1, 2 ** 64 - 1
+SETTINGS = {"tree": U16, "m": U16, "wait": U32, "clients": U16}
+SETTINGS_EXAMPLE = "tree 2 m 1 wait 5 clients 2"
+SETTINGS_WANTED = f"the first line wants the settings, as in `{SETTINGS_EXAMPLE}`"
+
+
+class Kind(NamedTuple):
+    """A kind of call: what it wants in words, an example, and the names and greatest values of its numbers."""
+
+    wants: str
+    example: str
+    numbers: dict
+
+
+KINDS = {
+    "request": Kind("a client, a left edge and a right edge", "request 0 10 20",
+                    {"client": U16, "left edge": U64, "right edge": U64}),
+    "step": Kind("a client and a clock", "step 0 12", {"client": U16, "clock": U64}),
+    "release": Kind("a client", "release 0", {"client": U16}),
+    "cancel": Kind("a client", "cancel 0", {"client": U16}),
+}
+
+
+class Source(NamedTuple):
+    """A schedule with what each call was written as. A text has the number of each call's line, and that of its settings; a file has none."""
+
+    schedule: Schedule
+    written: tuple
+    lines: tuple = ()
+    settings_line: int = 0
+
+
+def decoded(data):
+    """The text that these bytes are. A byte 0 stands in every packed file and in no text."""
+    if len(data) > LONGEST_TEXT:
+        raise Wrong(f"byte {LONGEST_TEXT}: a text has at most {LONGEST_TEXT} bytes; this one goes on")
+    if 0 in data:
+        raise Wrong(f"byte {data.index(0)}: a text has no byte 0; is this a packed file? `unpack` turns it into a text")
+    return data.decode("utf-8-sig", "replace")
+
+
+def written_lines(text):
+    """The lines that say something: the number of each, from 1, and its words."""
+    for place, line in enumerate(text.split("\n"), 1):
+        if words := line.split("#")[0].split():
+            yield place, words
+
+
+def number_of(place, name, word, greatest):
+    """The number that a word says, if it is one from 0 to the greatest that its field takes. Leading zeros change nothing."""
+    digits = word.lstrip("0") or word[-1:]
+    if not re.fullmatch("[0-9]{1,20}", digits) or int(digits) > greatest:
+        raise Wrong(f"line {place}: {name} must be a number from 0 to {greatest}; got {shown(word)}")
+    return int(digits)
+
+
+def numbers_of(place, named, words):
+    """The numbers that these words say, by the names and greatest values of their fields; every wrong one is named."""
+    numbers, wrong = [], []
+    for (name, greatest), word in zip(named.items(), words):
+        try:
+            numbers.append(number_of(place, name, word, greatest))
+        except Wrong as problem:
+            wrong += problem.messages
+    if wrong:
+        raise Wrong(*wrong)
+    return numbers
+
+
+def settings_of(place, words):
+    """The four numbers of the first line."""
+    if len(words) != 2 * len(SETTINGS) or words[::2] != list(SETTINGS):
+        raise Wrong(f"line {place}: {SETTINGS_WANTED}; got {shown(' '.join(words))}")
+    return numbers_of(place, SETTINGS, words[1::2])
+
+
+def call_of(place, words):
+    """The call that a line says."""
+    name, *said = words
+    if name not in KINDS:
+        raise Wrong(f"line {place}: a call is one of {', '.join(KINDS)}; got {shown(' '.join(words))}")
+    kind = KINDS[name]
+    if len(said) != len(kind.numbers):
+        raise Wrong(f"line {place}: {name} wants {kind.wants}, as in `{kind.example}`; got {shown(' '.join(words))}")
+    return Call(name, *numbers_of(place, kind.numbers, said))
+
+
+def line_of(call):
+    """The line that says a call."""
+    return " ".join(map(str, [call.kind, *call[1:1 + len(KINDS[call.kind].numbers)]]))
+
+
+def settings_line(schedule):
+    return " ".join(f"{name} {number}" for name, number in zip(SETTINGS, (*schedule.settings, schedule.clients)))
+
+
+def parsed(line, parse, wrong):
+    """What a line says by `parse`, or None if it is wrong, with its messages added to the others."""
+    try:
+        return parse(*line)
+    except Wrong as problem:
+        wrong += problem.messages
+        return None
+
+
+def read_text(data):
+    """The schedule that a text says. All wrong lines are named; the text is followed no further than the most calls go."""
+    lines, wrong = list(written_lines(decoded(data))), []
+    if not lines:
+        raise Wrong(f"line 1: {SETTINGS_WANTED}; got nothing")
+    settings = parsed(lines[0], settings_of, wrong)
+    asked = lines[1:1 + MOST_CALLS]
+    calls = [parsed(line, call_of, wrong) for line in asked]
+    if len(lines) > 1 + MOST_CALLS:
+        place = lines[1 + MOST_CALLS][0]
+        wrong.append(f"line {place}: a schedule has at most {MOST_CALLS} calls, since its file has at most {LONGEST} bytes")
+    if wrong:
+        raise Wrong(*wrong)
+    *of_the_lock, clients = settings
+    schedule = Schedule(Settings(*of_the_lock), clients, tuple(calls))
+    return Source(schedule, tuple(map(line_of, calls)), tuple(place for place, _ in asked), lines[0][0])
