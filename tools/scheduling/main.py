@@ -8,10 +8,12 @@ from typing import NamedTuple
 from model.schedule import LONGEST
 from scheduling import packed, report, running
 from scheduling.events import happened
+from scheduling.planning import left_out, plan, plan_lines
 from scheduling.problems import Failed, Wrong
 from scheduling.refusals import foreseen
 from scheduling.streams import Streams, write_file
 from scheduling.text import LONGEST_TEXT, read_text
+from scheduling.wishes import read_wishes
 
 # The parser of the command line ends with 2 itself.
 DONE, INPUT_WRONG, FAILED, INTERRUPTED = 0, 1, 3, 130
@@ -77,6 +79,12 @@ def do_run(streams, options):
     return Made(lines(report.report(source, happened(source.schedule, log))))
 
 
+def do_plan(streams, options):
+    schedule, wishes = read_wishes(streams.read(options.file, LONGEST_TEXT))
+    planned, left = plan(schedule, wishes)
+    return Made(lines(plan_lines(schedule, wishes, planned, left)), tuple(left_out(left)), INPUT_WRONG if left else DONE)
+
+
 def parser(streams):
     class Parser(argparse.ArgumentParser):
         def print_help(self, file=None):
@@ -95,6 +103,7 @@ def parser(streams):
     for name, do, says in (("pack", do_pack, "turn a text into rangelog's file"),
                            ("unpack", do_unpack, "turn rangelog's file into a text")):
         command(name, do, says).add_argument("-o", dest="output", metavar="FILE", help="write this file, whole or not at all")
+    command("plan", do_plan, "make a schedule from wishes, as `run 7 wants 100 220 from 30 for 40` (client, edges, clock, ticks to hold)")
     runs = command("run", do_run, "run a text or a file, and say what happened beside each line of the log")
     runs.add_argument("--log", action="store_true", help="print the log alone")
     return parser

@@ -38,9 +38,9 @@ def words_for(number, schedule, call, before, last):
     return wrong_phase(call.kind, before.phase)
 
 
-def of_settings(source):
-    """What will refuse the whole schedule."""
-    (levels, distance, wait), clients = source.schedule.settings, source.schedule.clients
+def of_settings(schedule):
+    """What will refuse a schedule as a whole: the number and the words."""
+    (levels, distance, wait), clients = schedule.settings, schedule.clients
     if levels > MOST_LEVELS:
         yield 11, f"rangelog runs trees of at most {MOST_LEVELS} levels, not {levels}"
     if clients > MOST_CLIENTS:
@@ -79,7 +79,7 @@ def of_calls(source):
 
 def foreseen(source):
     """A warning for each line of a text that will be refused; of calls only if the whole schedule is not."""
-    whole = list(of_settings(source))
+    whole = list(of_settings(source.schedule))
     for number, words in whole:
         yield f"line {source.settings_line}: warning: {words}; refused by {number}"
     for line, number, words in () if whole else of_calls(source):

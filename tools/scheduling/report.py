@@ -63,7 +63,7 @@ def why_waiting(happened, client):
     """For whom a client waits: others, the clock, or only its own next step."""
     settings, record = happened.schedule.settings, happened.records[client]
     if wait := wait_of(settings, happened.words, happened.records, client):
-        return f"for {named(wait.clients)}: {wait.reason}, node {wait.node}"
+        return f"for {named(wait.clients())}: {wait.reason}, node {wait.node}"
     if record.phase == 7 and record.t0 + settings.wait > happened.clock:
         return f"for nobody: until clock {record.t0 + settings.wait}"
     return "for nobody: it needs steps"

@@ -1,0 +1,220 @@
+"""A schedule that gives every run its window: made by the model, a step for each run in turn, with cancel and back-off where runs block
+each other."""
+
+from typing import NamedTuple
+
+from model.history import Call
+from scheduling.events import fresh
+from scheduling.names import HELD, window
+from scheduling.text import MOST_CALLS, line_of, settings_line
+from scheduling.waiting import wait_of
+from scheduling.wishes import longest_claim
+
+CANCELLED_IN = range(1, 9)
+MOST_DOUBLINGS = 10
+
+
+class Full(Exception):
+    """More calls would be needed than a schedule has room for."""
+
+
+class Planned(NamedTuple):
+    """A call of the plan, and what is told of it beside its line."""
+
+    call: Call
+    told: str = ""
+
+
+class Run:
+    """A client and its wishes, in the order in which they are served; the first of them is the one it is at."""
+
+    def __init__(self, client, wishes):
+        self.client, self.wishes = client, wishes
+        self.begin()
+
+    def begin(self):
+        """Before the next wish is asked for: nothing was given up yet."""
+        self.cancels, self.ask_at, self.release_at = 0, self.wishes[0].start if self.wishes else None, None
+        self.gives_way_to = []
+
+    def gives_way(self):
+        """Whether some wish that it gave way to is not yet through."""
+        return any(wish in other.wishes for other, wish in self.gives_way_to)
+
+    def rank(self):
+        """Who comes first is served first, and gives way last, however often it has to ask anew."""
+        return self.wishes[0].start, self.wishes[0].line
+
+
+class Planner:
+    """Makes the calls on the model's table, one after another, and keeps them."""
+
+    def __init__(self, schedule, wishes):
+        self.settings, self.lock, self.planned, self.clock = schedule.settings, fresh(schedule), [], 0
+        by_client = {wish.run: [] for wish in wishes}
+        for wish in wishes:
+            by_client[wish.run].append(wish)
+        self.runs = [Run(client, of_client) for client, of_client in by_client.items()]
+        # A claim that takes as many ticks as the wait is late: with a shorter wait all steps that can be made are made at one clock.
+        levels, distance, wait = schedule.settings
+        self.ticks_a_round = 1 if longest_claim(levels, distance) < wait else 0
+
+    def record(self, run):
+        return self.lock.records[run.client]
+
+    def make(self, kind, run, *numbers, told=""):
+        if len(self.planned) == MOST_CALLS:
+            raise Full
+        call = Call(kind, run.client, *numbers)
+        made = self.lock.make(call)
+        if made.number != 0:
+            raise AssertionError(f"the plan's {call} is refused by {made.number}")
+        self.planned.append(Planned(call, told))
+
+    def wait(self, run):
+        """Whom a run waits for before it makes its next step. A climb waits before it begins, so that its noted time is fresh when it
+        goes on; one that has begun goes on to where it fails."""
+        record = self.record(run)
+        if record.phase in (2, 4, 8, 10) or (record.phase == 3 and record.place == 0):
+            return wait_of(self.settings, self.lock.words, self.lock.records, run.client)
+        return None
+
+    def next_moment(self, run):
+        """The clock from which on a run can do something by itself; None if others have to act first."""
+        record = self.record(run)
+        if record.phase == 0:
+            return None if run.gives_way() else max(run.ask_at, self.clock)
+        if record.phase == HELD:
+            return run.release_at
+        if self.wait(run):
+            return None
+        return record.t0 + self.settings.wait if record.phase == 7 else self.clock
+
+    def ask(self, run):
+        wish = run.wishes[0]
+        again = ", again" if run.cancels else ""
+        self.make("request", run, wish.left, wish.right, told=f"clock {self.clock}: run {run.client} asks{again}")
+
+    def step(self, run):
+        self.make("step", run, self.clock)
+        phase = self.record(run).phase
+        if phase == HELD:
+            wish = run.wishes[0]
+            run.release_at = self.clock + wish.ticks
+            self.tell(f"run {run.client} holds {window(wish.left, wish.right)} until clock {run.release_at}")
+        elif phase == 0:
+            self.ended(run)
+
+    def ended(self, run):
+        """A run is idle: it has had its window, or gave way and asks again after a pause."""
+        if run.release_at is not None:
+            run.wishes.pop(0)
+            run.begin()
+
+    def release(self, run):
+        """A release has no clock of its own: a step before it, which changes nothing, says until when the window was held."""
+        if self.lock.clock < self.clock:
+            self.make("step", run, self.clock)
+        self.make("release", run, told=f"clock {self.clock}: run {run.client} gives {window(*self.record(run)[2:4])} back")
+
+    def give_way(self, run, others):
+        """Cancel and back off: it asks again after a pause that doubles each time, and after those of the others that came before it."""
+        pause = self.settings.wait << min(run.cancels, MOST_DOUBLINGS)
+        run.cancels, run.ask_at = run.cancels + 1, self.clock + pause
+        run.gives_way_to = [(other, other.wishes[0]) for other in others if other.rank() < run.rank()]
+        names = " and ".join(f"run {other.client}" for other in others)
+        self.make("cancel", run, told=f"clock {self.clock}: run {run.client} and {names} block each other, and run {run.client} gives way")
+
+    def tell(self, words):
+        self.planned[-1] = self.planned[-1]._replace(told=words)
+
+    def serve(self, run):
+        """One call of a run, if it can make one now; whether it could."""
+        moment = self.next_moment(run)
+        if moment is None or moment > self.clock:
+            return False
+        phase = self.record(run).phase
+        {0: self.ask, HELD: self.release}.get(phase, self.step)(run)
+        return True
+
+    def unblock(self):
+        """If runs wait for each other in a ring, the one that came last and whose cancel gives something back at once gives way."""
+        waits = {run.client: wait.clients() for run in self.runs if (wait := self.wait(run))}
+        ring = ring_of(waits)
+        able = [run for run in self.runs if run.client in ring and self.record(run).phase in CANCELLED_IN]
+        if able:
+            run = chosen(able, self.record)
+            self.give_way(run, [other for other in self.runs if other.client in ring and other is not run])
+        return bool(able)
+
+    def round(self):
+        """A call for each run that can make one, first come first served; whether any could."""
+        served = [self.serve(run) for run in sorted(self.runs, key=Run.rank)]
+        self.runs = [run for run in self.runs if run.wishes]
+        return any(served)
+
+    def plan(self):
+        """Rounds until all wishes are given. When nobody can do anything, a ring is broken, or the clock goes on to where somebody can."""
+        while self.runs:
+            if self.round():
+                self.clock += self.ticks_a_round
+            elif not self.unblock():
+                self.clock = min(moment for run in self.runs if (moment := self.next_moment(run)) is not None)
+        return self.planned
+
+
+def ring_of(waits):
+    """The clients that wait for each other in a ring: those are left out, again and again, who wait for nobody that is left, and for
+    whom nobody that is left waits."""
+    left = set(waits)
+    while True:
+        waited_for = {other for client in left for other in waits[client]}
+        kept = {client for client in left & waited_for if left & set(waits[client])}
+        if kept == left:
+            return left
+        left = kept
+
+
+def chosen(able, record_of):
+    """Who gives way: who came last, of those whose cancel gives something back at once. A ticket alone is given back when its turn comes."""
+    at_once = [run for run in able if record_of(run).current > 0 or record_of(run).grip != 1]
+    return max(at_once or able, key=Run.rank)
+
+
+def planned_within(schedule, wishes):
+    """The plan of these wishes, or None if it has too many calls."""
+    try:
+        return Planner(schedule, wishes).plan()
+    except Full:
+        return None
+
+
+def plan(schedule, wishes):
+    """The plan of as many wishes, first come first served, as there is room for; and the wishes that are left out."""
+    fits, least, most = planned_within(schedule, wishes), 0, len(wishes)
+    if fits is not None:
+        return fits, []
+    while most - least > 1:
+        middle = (least + most) // 2
+        if (found := planned_within(schedule, wishes[:middle])) is not None:
+            fits, least = found, middle
+        else:
+            most = middle
+    return fits or [], wishes[least:]
+
+
+def left_out(wishes):
+    """What is said of the wishes for which there was no room."""
+    if wishes:
+        yield f"a schedule has at most {MOST_CALLS} calls, which do not suffice for {len(wishes)} of the wishes:"
+    for wish in wishes:
+        yield f"line {wish.line}: run {wish.run} wants {window(wish.left, wish.right)} from {wish.start} for {wish.ticks}: left out"
+
+
+def plan_lines(schedule, wishes, planned, left):
+    """The text of a plan, with a word on who asks, holds and gives back."""
+    yield f"# A plan for {len(wishes) - len(left)} of {len(wishes)} wishes: {len(planned)} of at most {MOST_CALLS} calls."
+    yield from (f"# {line}" for line in left_out(left))
+    yield settings_line(schedule)
+    for call, told in planned:
+        yield f"{line_of(call):<24} # {told}" if told else line_of(call)
