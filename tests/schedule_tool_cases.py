@@ -1,10 +1,7 @@
-"""Cases for `tools/schedule`: text and file say the same calls, and each error names its line or its byte."""
+"""Cases for `tools/schedule`, its texts and files: both say the same calls, and each error names its line or its byte."""
 
 import re
-import subprocess
 from concurrent.futures import ThreadPoolExecutor
-from importlib.machinery import SourceFileLoader
-from importlib.util import module_from_spec, spec_from_loader
 from random import Random
 
 from compare import NAMES, case
@@ -13,11 +10,16 @@ from model import schedule
 from model.record import Settings
 from random_schedules import drawn
 from schedule_files import WHOLE_CASE, at_call, by_group, changed, with_header
+from schedule_tool import started
+from scheduling.packed import pack, unpack
+from scheduling.problems import Wrong
+from scheduling.refusals import foreseen
+from scheduling.text import read_text
 
-TOOL = ROOT / "tools" / "schedule"
 GUIDE = ROOT / "docs" / "SCHEDULES.md"
 NAMES["text of a schedule"] = ("seed",), ("packed as the model does", "unpacked and packed again", "lines")
 NAMES["line of the guide"] = ("line",), ("as in the whole case",)
+NAMES["foreseen refusals"] = ("seed",), ("those of the log", "of the whole, if it is refused")
 NAMES["unpacking"] = ("place in the list of files", "bytes"), ("refused",)
 
 HEAD = "tree 2 m 1 wait 5 clients 2\n"
@@ -50,14 +52,41 @@ TEXT_ERRORS = {
     "client 65536": (HEAD + "release 65536", "line 2: client must be a number from 0 to 65535; got `65536`"),
     "clock 2^64": (HEAD + f"step 0 {2 ** 64}", "line 2: clock" + U64 + f"`{2 ** 64}`"),
     "a left edge of 1,000": (HEAD + "request 0 1,000 2", "line 2: left edge" + U64 + "`1,000`"),
-    "a right edge of 5000 digits": (HEAD + "request 0 1 " + "9" * 5000, "line 2: right edge" + U64 + "`" + "9" * 5000 + "`"),
+    "a right edge of 5000 digits": (HEAD + "request 0 1 " + "9" * 5000, "line 2: right edge" + U64 + "`" + "9" * 80 + "` .."),
+    "a line of 100000 words": (HEAD + "step " + "0 " * 100000, "line 2: " + STEP + "`step " + "0 " * 37 + "0` .."),
     "digits of another script": (HEAD + "step 0 \u0663", "line 2: clock" + U64 + "`\u0663`"),
+    "a terminal's escape": (HEAD + "\x1b[31mstep 0 1", "line 2: " + CALL + "`\\x1b[31mstep 0 1`"),
+    "bytes that are no text": (HEAD + "step \udcff 1", "line 2: client must be a number from 0 to 65535; got `\ufffd`"),
+    "a byte 0": (HEAD + "step 0 \0", f"byte {len(HEAD) + 7}: a text has no byte 0; is this a packed file? `unpack` turns it into a text"),
+    "a text that goes on": (HEAD + "#" * 2 ** 20, "byte 1048576: a text has at most 1048576 bytes; this one goes on"),
+    "three wrong lines": (HEAD + "stop 0\nstep 0 1\n\nstep a b\n",
+                          "line 2: " + CALL + "`stop 0`\nline 5: client must be a number from 0 to 65535; got `a`\nline 5: clock" + U64 + "`b`"),
+    "settings and a call wrong": ("tree 2 m x wait 5 clients 2\nstop",
+                                  "line 1: m must be a number from 0 to 65535; got `x`\nline 2: " + CALL + "`stop`"),
     "2731 calls": (HEAD + "# many\n" + "cancel 0\n" * 2731,
                    "line 2733: a schedule has at most 2730 calls, since its file has at most 65536 bytes"),
 }
 
+# A text that is packed all the same, and what is said of what the lock will refuse.
+TEXT_WARNINGS = {
+    "a client past the table": (HEAD + "step 2 1", "line 2: warning: there is no client 2: with 2 clients they are 0 to 1; the lock will refuse this call by 4"),
+    "a window past the tree": (HEAD + "\nrequest 0 10 257",
+                               "line 3: warning: the right edge 257 is past the 256 units of 2 levels; the lock will refuse this call by 7"),
+    "an empty window": (HEAD + "request 1 10 10", "line 2: warning: the left edge 10 is not below the right edge 10; the lock will refuse this call by 7"),
+    "a clock that goes back": (HEAD + "step 0 5\nstep 9 9\nstep 1 4 # now\nstep 1 5",
+                               "line 3: warning: there is no client 9: with 2 clients they are 0 to 1; the lock will refuse this call by 4\n"
+                               "line 4: warning: clock 4 is below the last clock 5; the lock will refuse this call by 5"),
+    "seven levels": ("# high\ntree 7 m 1 wait 5 clients 2\nstep 9 9", "line 2: warning: rangelog runs trees of at most 6 levels, not 7; refused by 11"),
+    "no wait and no clients": ("tree 2 m 1 wait 0 clients 0", "line 1: warning: the wait is at least 1, not 0; refused by 1\n"
+                                                              "line 1: warning: there is at least 1 client, not 0; refused by 3"),
+}
+
 # A file, and what is said of it.
 FILE_ERRORS = {
+    "a text": ((HEAD + "step 0 1").encode(), "byte 0: this is a text and no packed file, in which some byte is 0; `pack` turns it into one"),
+    "two wrong calls": (changed(changed(WHOLE_CASE, at_call(3), 4), at_call(5, 1), 9),
+                        "byte 88: call 3 has the unknown kind 4; known are 0 request, 1 step, 2 release, 3 cancel\n"
+                        "byte 137: call 5, a step, has 9 in a field that must be 0"),
     "an empty file": (b"", "byte 0: the file ends within its header of 16 bytes"),
     "15 bytes": (WHOLE_CASE[:15], "byte 15: the file ends within its header of 16 bytes"),
     "65537 bytes": (bytes(65537), "byte 65536: a file has at most 65536 bytes; this one goes on"),
@@ -76,14 +105,6 @@ FILE_ERRORS = {
 }
 
 
-def load_tool():
-    """The tool as a module, so that it need not be started anew for each text."""
-    loader = SourceFileLoader("schedule_tool", str(TOOL))
-    loaded = module_from_spec(spec_from_loader(loader.name, loader))
-    loader.exec_module(loaded)
-    return loaded
-
-
 def text_of(read):
     """The text of a schedule, with its lines written without looking at the tool."""
     h, m, wait = read.settings
@@ -100,51 +121,72 @@ def strewn(rng, lines):
         yield rng.choice(["", " ", "\t"]) + line.replace(" ", rng.choice([" ", "   "])) + rng.choice(["", " # why", "\r", "#"])
 
 
+def packed_text(text):
+    return pack(read_text(text.encode()).schedule)
+
+
 def texts_and_files():
     """Pack gives the model's file of the same calls; unpack gives the plain text, also with bytes that are ignored."""
-    tool = load_tool()
     for seed in range(300):
         rng, data = Random(f"text {seed}"), drawn("refused" if seed % 2 else "well-formed", seed)
         header = schedule.header_of(data)
         calls = schedule.decode(schedule.HEADER.pack(2, 1, 5, 2, header.count, header.offset) + data[16:]).calls
         read = schedule.Schedule(Settings(*header[:3]), header.clients, calls)
         plain, file = "\n".join(text_of(read)) + "\n", schedule.encode(read)
-        packed, text = tool.pack("\n".join(strewn(rng, text_of(read)))), tool.unpack(data)
+        packed, text = packed_text("\n".join(strewn(rng, text_of(read)))), unpack(data)
         again = "".join(line for line in text.splitlines(keepends=True) if not line.startswith("#")) == plain
-        answer = int(packed == file), int(again and tool.pack(text) == file), tool.unpack(file).count("\n")
+        answer = int(packed == file), int(again and packed_text(text) == file), unpack(file).count("\n")
         yield case("text of a schedule", [seed], (1, 1, len(calls) + 1)), answer
 
 
 def unpacked_files():
     """A file is unpacked unless `rangelog` refuses it by 10."""
-    tool = load_tool()
     files = [file.data for group in by_group().values() for file in group.values()]
     for place, data in enumerate(files + [drawn("damaged", seed) for seed in range(100)]):
         try:
-            refused = not tool.unpack(data)
-        except tool.Wrong:
+            refused = not unpack(data)
+        except Wrong:
             refused = True
         yield case("unpacking", [place, len(data)], int(schedule.refused_by_10(data))), int(refused)
-
-
-def started(direction, data):
-    """Runs the tool: its exit status, what it wrote and what it said."""
-    ran = subprocess.run([TOOL, direction], input=data, capture_output=True)
-    return ran.returncode, ran.stdout, ran.stderr.decode()
 
 
 def told(name, direction, data, expected):
     """A case that holds exit status, what was written and what was said to the expected ones."""
     NAMES[f"tools/schedule, {name}"] = (), ("exit status", "written as expected", "said as expected")
-    status, written, said = started(direction, data)
-    answer = status, int(written == expected[1]), int(said == expected[2])
+    ran = started(direction, data=data)
+    answer = ran.status, int(ran.written == expected[1]), int(ran.said == expected[2])
     return case(f"tools/schedule, {name}", [], (expected[0], 1, 1)), answer
 
 
 def errors():
     """Each error is said with its line or byte; the exit status is 1 and nothing is written."""
-    asked = [(name, "pack", text.encode(), (1, b"", f"{said}\n")) for name, (text, said) in TEXT_ERRORS.items()]
+    asked = [(name, "pack", text.encode("utf-8", "surrogateescape"), (1, b"", f"{said}\n")) for name, (text, said) in TEXT_ERRORS.items()]
     asked += [(f"file, {name}", "unpack", data, (1, b"", f"{said}\n")) for name, (data, said) in FILE_ERRORS.items()]
+    yield from all_told(asked)
+
+
+def warnings():
+    """What the lock will refuse is said with its line; the file is written all the same, and rangelog refuses what was foreseen."""
+    asked = [(f"warning, {name}", "pack", text.encode(), (0, packed_text(text), f"{said}\n")) for name, (text, said) in TEXT_WARNINGS.items()]
+    yield from all_told(asked)
+    for seed in range(200):
+        data = drawn("refused" if seed % 2 else "well-formed", seed)
+        source = read_text(unpack(data).encode())
+        yield case("foreseen refusals", [seed], (1, 1)), foreseen_and_logged(source)
+
+
+def foreseen_and_logged(source):
+    """Whether the warnings name exactly the calls that are refused by 4, 5 or 7, and whether they say that the whole is refused exactly
+    if it is."""
+    log = schedule.log(pack(source.schedule)).splitlines()
+    numbers = [line.rsplit(" ", 1)[1] for line in foreseen(source)]
+    if log[0].startswith("refused"):
+        return int(log[0].split()[1] in numbers), int(not any("call by" in line for line in foreseen(source)))
+    logged = [line.split()[3] for line in log[1:]]
+    return int(numbers == [number for number in logged if number in ("4", "5", "7")]), 1
+
+
+def all_told(asked):
     with ThreadPoolExecutor() as pool:
         yield from pool.map(lambda arguments: told(*arguments), asked)
 
@@ -177,6 +219,7 @@ SUITES = {
     "tools/schedule, text and file say the same calls": texts_and_files,
     "tools/schedule, unpacks what rangelog does not refuse by 10": unpacked_files,
     "tools/schedule, each error names its line or byte": errors,
+    "tools/schedule, warnings of what the lock will refuse": warnings,
     "tools/schedule, the examples": examples,
     "docs/SCHEDULES.md, the whole case": guide,
 }

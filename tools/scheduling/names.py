@@ -15,3 +15,9 @@ FILE_REFUSED = {
 
 def window(left, right):
     return f"[{left}, {right})"
+
+
+def listed(words):
+    """`a`, `a and b`, `a, b and c`."""
+    *others, last = words
+    return f"{', '.join(others)} and {last}" if others else last

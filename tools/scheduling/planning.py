@@ -5,7 +5,7 @@ from typing import NamedTuple
 
 from model.history import Call
 from scheduling.events import fresh
-from scheduling.names import HELD, window
+from scheduling.names import HELD, listed, window
 from scheduling.text import MOST_CALLS, line_of, settings_line
 from scheduling.waiting import wait_of
 from scheduling.wishes import longest_claim
@@ -122,8 +122,8 @@ class Planner:
         pause = self.settings.wait << min(run.cancels, MOST_DOUBLINGS)
         run.cancels, run.ask_at = run.cancels + 1, self.clock + pause
         run.gives_way_to = [(other, other.wishes[0]) for other in others if other.rank() < run.rank()]
-        names = " and ".join(f"run {other.client}" for other in others)
-        self.make("cancel", run, told=f"clock {self.clock}: run {run.client} and {names} block each other, and run {run.client} gives way")
+        names = listed([f"run {blocked.client}" for blocked in (run, *others)])
+        self.make("cancel", run, told=f"clock {self.clock}: {names} block each other, and run {run.client} gives way")
 
     def tell(self, words):
         self.planned[-1] = self.planned[-1]._replace(told=words)

@@ -3,7 +3,7 @@
 from collections import Counter
 
 from scheduling.events import became, holdings
-from scheduling.names import HELD, OUTCOMES, PHASES, RETURNING, window
+from scheduling.names import HELD, OUTCOMES, PHASES, RETURNING, listed, window
 from scheduling.refusals import words_for
 from scheduling.waiting import wait_of
 
@@ -53,17 +53,12 @@ def held_lines(events):
         yield f"client {holding.client} held {window(holding.left, holding.right)} from {at(holding.start)} {end}"
 
 
-def named(clients):
-    """Clients in words: `client 3`, `clients 3 and 5`, `clients 1, 3 and 5`."""
-    *others, last = map(str, clients)
-    return f"clients {', '.join(others)} and {last}" if others else f"client {last}"
-
-
 def why_waiting(happened, client):
     """For whom a client waits: others, the clock, or only its own next step."""
     settings, record = happened.schedule.settings, happened.records[client]
     if wait := wait_of(settings, happened.words, happened.records, client):
-        return f"for {named(wait.clients())}: {wait.reason}, node {wait.node}"
+        others = listed([f"client {other}" for other in wait.clients()])
+        return f"for {others}: {wait.reason}, node {wait.node}"
     if record.phase == 7 and record.t0 + settings.wait > happened.clock:
         return f"for nobody: until clock {record.t0 + settings.wait}"
     return "for nobody: it needs steps"

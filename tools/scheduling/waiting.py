@@ -74,11 +74,14 @@ def for_notices(state, node):
 
 
 def in_climb(state, record):
-    """A leaf with units taken cannot be claimed, wherever the climb is; otherwise the next ancestor may be occupied."""
+    """A leaf with units taken cannot be claimed, wherever the climb is; otherwise an ancestor that is still to be read may be occupied. A
+    blocked climb starts over at the parent."""
     settings = state[0]
     if records.at_leaf(settings, record) and (wait := for_units(state, records.current_node(record))):
         return wait
-    return for_ancestor(state, records.walked(settings, record)[record.place])
+    ancestors = records.walked(settings, record)
+    ahead = ancestors[record.place:] if record.phase == 3 else [ancestors[record.place], *ancestors]
+    return next((wait for node in ahead if (wait := for_ancestor(state, node))), None)
 
 
 def wait_of(settings, words, all_records, client):

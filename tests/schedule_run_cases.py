@@ -1,0 +1,190 @@
+"""Cases for `tools/schedule run`: the log beside its lines, in words, held to what the model makes of the same calls, and a summary of who
+held, who waits for whom, and how each request ended."""
+
+from collections import Counter
+from itertools import zip_longest
+
+from compare import NAMES, case
+from library import ROOT
+from model import schedule
+from model.history import Opened, holds
+from model.record import IDLE, Settings
+from random_schedules import drawn
+from schedule_files import WHOLE_CASE
+from schedule_tool import started
+from scheduling.events import happened
+from scheduling.packed import read_file
+from scheduling.report import report
+from scheduling.waiting import wait_of
+
+NAMES["report of a schedule"] = ("seed",), ("rows", "unlike the log and the model", "held lines unlike", "counts unlike")
+NAMES["waiting client"] = ("seed", "client"), ("waits", "named clients that are idle or itself")
+NAMES["line of a report"] = ("place in the list of reports", "line"), ("as expected",)
+NAMES["run"] = ("place in the list of files",), ("exit status", "log as rangelog's")
+
+PHASES = ["idle", "ticket", "turn", "climb", "blocked", "claim", "notify", "wait", "check", "held", "returning"]
+OUTCOMES = ["", "released", "late", "cancelled"]
+
+
+def lines_of(data):
+    """The tool's report on a file, from the model's log, in the part with a row for each call and the summary."""
+    source, log = read_file(data), schedule.log(data).splitlines()
+    return list(report(source, happened(source.schedule, log)))
+
+
+def expected_words(made, before, after):
+    """The last words of a row: a refused call's number; else the phase, where it gives back or has become idle with the outcome."""
+    if made.number:
+        return f"refused {made.number}: "
+    ended = after.phase == 10 or (after.phase == 0 and before.phase != 0)
+    return PHASES[after.phase] + (f", {OUTCOMES[after.outcome]}" if ended else "")
+
+
+def run_by_model(read):
+    """Each call of a schedule, as the model makes it: what was made, the client's record before and after, and the clock after."""
+    opened = Opened(read.settings, [0] * schedule.tree.node_count(read.settings.levels), [IDLE] * read.clients)
+    for call in read.calls:
+        there = call.client < read.clients
+        before = opened.records[call.client] if there else IDLE
+        made = opened.make(call)
+        yield opened, made, before, opened.records[call.client] if there else IDLE
+
+
+def held_by_model(read):
+    """The lines on who held what, from the history alone: a window is held from the first moment at which `holds` says so."""
+    held, found = {}, []
+    for place, (opened, made, _, _) in enumerate(run_by_model(read)):
+        client, now = made.call.client, holds(opened.history, made.call.client)
+        if now and client not in held:
+            held[client] = len(found)
+            found.append([client, now, f"from clock {opened.clock} (call {place})", "and still holds it"])
+        elif client in held and not now:
+            found[held.pop(client)][3] = f"to clock {opened.clock} (call {place})"
+    return [f"  client {client} held [{left}, {right}) {start} {end}" for client, (left, right), start, end in found]
+
+
+def counted_by_model(read):
+    ended, refused = Counter(), 0
+    for _, made, before, after in run_by_model(read):
+        refused += made.number != 0
+        if made.number == 0 and before.outcome == 0 and after.outcome:
+            ended[after.outcome] += 1
+    counted = ", ".join(f"{ended[number]} {OUTCOMES[number]}" for number in (1, 2, 3))
+    return [f"  {counted}", f"  {len(read.calls)} calls, {refused} refused"]
+
+
+def unlike_rows(rows, read, log):
+    """How many rows do not have the call, its line of the log, the clock and the words of the model."""
+    unlike = 0
+    for row, logged, (opened, made, before, after) in zip_longest(rows, log[1:], run_by_model(read)):
+        told = f"  {logged}", f"  {opened.clock}  {expected_words(made, before, after)}"
+        unlike += not all(part in row for part in told) or row.split()[1:3] != [made.call.kind, str(made.call.client)]
+    return unlike
+
+
+def reports():
+    """Random schedules: every row, the lines on who held what, and the counts."""
+    for seed in range(120):
+        data = drawn("contended" if seed % 3 else "well-formed", seed)
+        read, log = schedule.decode(data), schedule.log(data).splitlines()
+        if isinstance(read, int) or log[0].startswith("refused"):
+            continue
+        lines = lines_of(data)
+        rows, rest = lines[1:1 + len(read.calls)], lines[1 + len(read.calls):]
+        held = rest[rest.index("Held") + 1:rest.index("Not idle and not holding at the end") - 1]
+        counts = rest[rest.index("In all") + 1:]
+        wanted = counted_by_model(read)
+        answer = (len(rows), unlike_rows(rows, read, log), int(held != (held_by_model(read) or ["  nobody"])),
+                  int(not all(line.startswith(start) for line, start in zip_longest(counts, wanted, fillvalue="?"))))
+        yield case("report of a schedule", [seed], (len(read.calls), 0, 0, 0)), answer
+
+
+def waiting_clients():
+    """A client waits for others exactly if its next step, at a clock at which no wait by clock is left, would not bring it on."""
+    for seed in range(80):
+        read = schedule.decode(drawn("contended", seed))
+        if isinstance(read, int):
+            continue
+        *_, (opened, _, _, _) = run_by_model(read)
+        for client, record in enumerate(opened.records):
+            if record.phase in (0, 9):
+                continue
+            wait = wait_of(read.settings, opened.words, opened.records, client)
+            wrong = sum(other == client or opened.records[other].phase == 0 for other in wait.clients()) if wait else 0
+            waits = int(bool(wait and wait.clients()))
+            yield case("waiting client", [seed, client], (int(not gets_on(read.settings, opened, client)), 0)), (waits, wrong)
+
+
+def gets_on(settings, opened, client):
+    """Whether a client that alone makes steps comes to another phase than those that lead back to where it is, for instance from claim to
+    climb and back: it is then held, idle, or at a piece or place that it has not been at."""
+    words, records, clock = list(opened.words), list(opened.records), opened.clock + settings.wait
+    alone = Opened(settings, list(words), list(records))
+    alone.words[:], alone.records[:], alone.clock = words, records, clock
+    first = records[client]
+    if first.phase in (3, 4, 5):
+        for _ in range(40):
+            made = alone.make(schedule.Call("step", client, clock))
+            if made.phase not in (3, 4, 5):
+                return True
+        return False
+    alone.make(schedule.Call("step", client, clock))
+    return alone.records[client] != first
+
+
+# The end of a schedule's report, for each thing that a client can wait for.
+WAITS = {
+    "its turn": ("tree 2 m 1 wait 5 clients 3\nrequest 0 0 256\nrequest 1 0 200\nrequest 2 0 256\nstep 0 1\nstep 1 1\nstep 2 1\nstep 0 1", 2,
+                 "client 2 [0, 256), phase 2 turn, waits for client 0 and client 1: its turn, node 1"),
+    "a turn to give back": ("tree 2 m 1 wait 5 clients 2\nrequest 0 0 256\nrequest 1 0 200\nstep 0 1\nstep 1 1\ncancel 1", 1,
+                            "client 1 [0, 200), phase 10 returning, cancelled, waits for client 0: its turn, node 1"),
+    "an ancestor": ("tree 2 m 1 wait 5 clients 2\nrequest 0 0 256\nrequest 1 0 9\nstep 0 1\nstep 0 1\nstep 0 1\nstep 1 1", 1,
+                    "client 1 [0, 9), phase 4 blocked, waits for client 0: an occupied node above, node 1"),
+    "units": ("tree 2 m 1 wait 5 clients 2\nrequest 0 5 6\nrequest 1 0 9\nstep 0 1\nstep 1 1\nstep 0 1", 1,
+              "client 1 [0, 9), phase 5 claim, waits for client 0: units of its leaf that are taken, node 2"),
+    "notices": ("tree 2 m 1 wait 5 clients 2\nrequest 0 5 6\nstep 0 1\nstep 0 1\nstep 0 1\nrequest 1 0 256\nstep 1 1\nstep 1 1\nstep 1 1\nstep 1 6", 1,
+                "client 1 [0, 256), phase 8 check, waits for client 0: notices below its node, node 1"),
+    "the clock": ("tree 2 m 1 wait 5 clients 2\nrequest 1 0 256\nstep 1 1\nstep 1 1\nstep 1 3", 1,
+                  "client 1 [0, 256), phase 7 wait, waits for nobody: until clock 8"),
+    "steps": ("tree 2 m 1 wait 5 clients 2\nrequest 1 0 256", 1, "client 1 [0, 256), phase 1 ticket, waits for nobody: it needs steps"),
+}
+
+
+def waits_in_words():
+    """For each thing that a client can wait for, the line that says so."""
+    for place, (text, client, line) in enumerate(WAITS.values()):
+        said = started("run", data=text.encode()).written.decode().splitlines()
+        found = [one for one in said if one.startswith(f"  client {client} [")]
+        if found != [f"  {line}"]:
+            print(f"    {found} in place of {line!r}")
+        yield case("line of a report", [place, client], 1), int(found == [f"  {line}"])
+
+
+def whole_case_report():
+    """The report on the whole case is the one in docs/SCHEDULES.md."""
+    guide = (ROOT / "docs" / "SCHEDULES.md").read_text()
+    shown = [line.removeprefix("    ") for line in guide.split("<!-- schedule run -->")[1].strip("\n").split("\n")]
+    printed = started("run", ROOT / "schedules" / "whole-case.txt").written.decode().splitlines()
+    for place, (line, other) in enumerate(zip_longest(shown, printed)):
+        yield case("line of a report", [len(WAITS), place], 1), int(line == other)
+
+
+def runs():
+    """`run --log` prints the log of a text and of a file, and the exit status says whether the schedule was run."""
+    texts = sorted((ROOT / "schedules").glob("*.txt"))
+    files = [(path.read_bytes(), path.with_suffix(".bin").read_bytes()) for path in texts]
+    files += [(data, data) for data in (WHOLE_CASE, *(drawn("contended", seed) for seed in range(8)), *(drawn("refused", seed) for seed in range(8)))]
+    for place, (given, file) in enumerate(files):
+        ran, log = started("run", "--log", data=given), schedule.log(file)
+        expected = (1, int(log == "refused 10\n")) if log.startswith("refused") else (0, 0)
+        unlike = int(ran.written.decode() != log) if expected[1] == 0 else int(ran.written == b"")
+        yield case("run", [place], expected), (ran.status, unlike)
+
+
+SUITES = {
+    "tools/schedule run, the log and what it means": reports,
+    "tools/schedule run, who waits": waiting_clients,
+    "tools/schedule run, for whom, in words": waits_in_words,
+    "tools/schedule run, the whole case in docs/SCHEDULES.md": whole_case_report,
+    "tools/schedule run, the log alone and the exit status": runs,
+}

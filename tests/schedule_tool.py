@@ -1,0 +1,26 @@
+"""The program `tools/schedule`, started as its users start it; its package can be imported by the tests too."""
+
+import os
+import subprocess
+import sys
+from typing import NamedTuple
+
+from library import ROOT, SECONDS
+
+sys.path.insert(0, str(ROOT / "tools"))
+TOOL = ROOT / "tools" / "schedule"
+
+
+class Ran(NamedTuple):
+    """How a run of the program ended: its exit status, what it wrote and what it said."""
+
+    status: int
+    written: bytes
+    said: str
+
+
+def started(*arguments, data=b"", rangelog=None, stdout=subprocess.PIPE):
+    """Runs the program with these bytes on standard input; `rangelog` is the command that it runs in place of the compiled program."""
+    environment = {**os.environ, **({"RANGELOG": rangelog} if rangelog else {})}
+    ran = subprocess.run([TOOL, *arguments], input=data, stdout=stdout, stderr=subprocess.PIPE, env=environment, timeout=4 * SECONDS)
+    return Ran(ran.returncode, ran.stdout or b"", ran.stderr.decode())
