@@ -41,11 +41,11 @@ WRONG = {
                                f"line 1: a plan's clocks end at {2 ** 62}; this wish goes on to {2 ** 64 + 3}"),
 }
 
-# Wishes with settings, and how many cancels their plan has: only in the first the runs block each other.
+# Wishes with settings, and how many cancels their plan has: one where a run that came later is in the way of one that came before.
 RINGS = {
     "a claim below a notice": ("tree 3 m 1 wait 5 clients 2\nrun 0 wants 60 70 from 0 for 10\nrun 1 wants 0 256 from 0 for 10\n", 1),
     "nobody in the way": ("tree 3 m 1 wait 5 clients 2\nrun 0 wants 60 70 from 0 for 10\nrun 1 wants 70 80 from 0 for 10\n", 0),
-    "a wait of one tick": ("tree 6 m 4 wait 1 clients 3\nrun 0 wants 60 70 from 0 for 10\nrun 1 wants 0 65536 from 0 for 10\nrun 2 wants 0 1 from 0 for 0", 0),
+    "a wait of one tick": ("tree 6 m 4 wait 1 clients 3\nrun 0 wants 60 70 from 0 for 10\nrun 1 wants 0 65536 from 0 for 10\nrun 2 wants 0 1 from 0 for 0", 1),
 }
 
 

@@ -163,7 +163,7 @@ def waits_in_words():
 def whole_case_report():
     """The report on the whole case is the one in docs/SCHEDULES.md."""
     guide = (ROOT / "docs" / "SCHEDULES.md").read_text()
-    shown = [line.removeprefix("    ") for line in guide.split("<!-- schedule run -->")[1].strip("\n").split("\n")]
+    shown = guide.split("## What `run` prints")[1].split("```")[1].splitlines()[1:]
     printed = started("run", ROOT / "schedules" / "whole-case.txt").written.decode().splitlines()
     for place, (line, other) in enumerate(zip_longest(shown, printed)):
         yield case("line of a report", [len(WAITS), place], 1), int(line == other)

@@ -118,12 +118,12 @@ class Planner:
         self.make("release", run, told=f"clock {self.clock}: run {run.client} gives {window(*self.record(run)[2:4])} back")
 
     def give_way(self, run, others):
-        """Cancel and back off: it asks again after a pause that doubles each time, and after those of the others that came before it."""
+        """Cancel and back off: it asks again after a pause that doubles each time, and not before the others are through."""
         pause = self.settings.wait << min(run.cancels, MOST_DOUBLINGS)
         run.cancels, run.ask_at = run.cancels + 1, self.clock + pause
-        run.gives_way_to = [(other, other.wishes[0]) for other in others if other.rank() < run.rank()]
-        names = listed([f"run {blocked.client}" for blocked in (run, *others)])
-        self.make("cancel", run, told=f"clock {self.clock}: {names} block each other, and run {run.client} gives way")
+        run.gives_way_to = [(other, other.wishes[0]) for other in others]
+        names = listed([f"run {other.client}" for other in others])
+        self.make("cancel", run, told=f"clock {self.clock}: run {run.client} gives way to {names}")
 
     def tell(self, words):
         self.planned[-1] = self.planned[-1]._replace(told=words)
@@ -138,14 +138,20 @@ class Planner:
         return True
 
     def unblock(self):
-        """If runs wait for each other in a ring, the one that came last and whose cancel gives something back at once gives way."""
+        """Where runs wait for one that came after them and does not hold, it gives way; so of runs that wait for each other all but the
+        first do. Of several that which came last, first those whose cancel gives something back at once: a ticket alone is given back
+        when its turn comes. Whether there was one."""
         waits = {run.client: wait.clients() for run in self.runs if (wait := self.wait(run))}
-        ring = ring_of(waits)
-        able = [run for run in self.runs if run.client in ring and self.record(run).phase in CANCELLED_IN]
-        if able:
-            run = chosen(able, self.record)
-            self.give_way(run, [other for other in self.runs if other.client in ring and other is not run])
-        return bool(able)
+        waiting = [(run, reached(waits, run.client)) for run in self.runs if run.client in waits]
+        in_the_way = {}
+        for other in self.runs:
+            before = [run for run, awaited in waiting if other.client in awaited and run.rank() < other.rank()]
+            if before and self.record(other).phase in CANCELLED_IN:
+                in_the_way[other] = before
+        if in_the_way:
+            last = max(in_the_way, key=lambda run: (self.record(run).current > 0 or self.record(run).grip != 1, run.rank()))
+            self.give_way(last, in_the_way[last])
+        return bool(in_the_way)
 
     def round(self):
         """A call for each run that can make one, first come first served; whether any could."""
@@ -154,7 +160,7 @@ class Planner:
         return any(served)
 
     def plan(self):
-        """Rounds until all wishes are given. When nobody can do anything, a ring is broken, or the clock goes on to where somebody can."""
+        """Rounds until all wishes are given. When nobody can do anything, somebody gives way, or the clock goes on to where somebody can."""
         while self.runs:
             if self.round():
                 self.clock += self.ticks_a_round
@@ -163,22 +169,14 @@ class Planner:
         return self.planned
 
 
-def ring_of(waits):
-    """The clients that wait for each other in a ring: those are left out, again and again, who wait for nobody that is left, and for
-    whom nobody that is left waits."""
-    left = set(waits)
-    while True:
-        waited_for = {other for client in left for other in waits[client]}
-        kept = {client for client in left & waited_for if left & set(waits[client])}
-        if kept == left:
-            return left
-        left = kept
-
-
-def chosen(able, record_of):
-    """Who gives way: who came last, of those whose cancel gives something back at once. A ticket alone is given back when its turn comes."""
-    at_once = [run for run in able if record_of(run).current > 0 or record_of(run).grip != 1]
-    return max(at_once or able, key=Run.rank)
+def reached(waits, client):
+    """The clients that one waits for, directly or through others that wait."""
+    found, to_ask = set(), [client]
+    while to_ask:
+        new = set(waits.get(to_ask.pop(), ())) - found
+        found |= new
+        to_ask += new
+    return found
 
 
 def planned_within(schedule, wishes):
