@@ -6,7 +6,7 @@ import sys
 from typing import NamedTuple
 
 from model.schedule import LONGEST
-from scheduling import packed, report, running
+from scheduling import packed, picture, report, running
 from scheduling.events import happened
 from scheduling.problems import Failed, Wrong
 from scheduling.refusals import foreseen
@@ -77,6 +77,13 @@ def do_run(streams, options):
     return Made(lines(report.report(source, happened(source.schedule, log))))
 
 
+def do_picture(streams, options):
+    source, log = run(streams, options)
+    if refused := running.refusal(log):
+        raise Wrong(*refused)
+    return Made(picture.page(happened(source.schedule, log), options.by, options.file).encode())
+
+
 def parser(streams):
     class Parser(argparse.ArgumentParser):
         def print_help(self, file=None):
@@ -97,6 +104,9 @@ def parser(streams):
         command(name, do, says).add_argument("-o", dest="output", metavar="FILE", help="write this file, whole or not at all")
     runs = command("run", do_run, "run a text or a file, and say what happened beside each line of the log")
     runs.add_argument("--log", action="store_true", help="print the log alone")
+    pictures = command("picture", do_picture, "run a text or a file, and draw who held which units when, as a page for a browser")
+    pictures.add_argument("-o", dest="output", metavar="FILE", help="write this file, whole or not at all")
+    pictures.add_argument("--by", choices=("call", "clock"), default="call", help="what the time axis counts (default: call)")
     return parser
 
 
