@@ -109,7 +109,8 @@ def fit_to_be_broken(model):
 def no_schedules():
     """Texts and files that are no schedules, or are refused as a whole: exit status 1, nothing written, and said what `run` says."""
     inputs = [b"", b"tree 2 m 1 wait 5\n", b"tree 2 m 1 wait 5 clients 2\nstop 0\nstep 0\n", WHOLE_CASE[:-1], WHOLE_CASE + bytes(65536),
-              changed(WHOLE_CASE, at_call(3), 4), b"tree 7 m 1 wait 5 clients 2\n", with_header(clients=65), with_header(distance=0), with_header(clients=0)]
+              changed(WHOLE_CASE, at_call(3), 4), b"tree 7 m 1 wait 5 clients 2\n", with_header(clients=65), with_header(distance=0),
+              with_header(clients=0)]
     inputs += [data for data in (drawn("damaged", seed) for seed in range(60)) if isinstance(decode(data), int)]
     for place, data in enumerate(inputs):
         status, written, said = started("picture", data=data)
@@ -145,9 +146,9 @@ def failures():
 def example():
     """The picture in docs/ is what the tool draws today."""
     page, image = EXAMPLE.with_suffix(".html"), EXAMPLE.with_suffix(".png")
-    drawn_now = started("picture", ROOT / "schedules" / "whole-case.txt")[1]
-    bytes_of_image = image.read_bytes()
-    yield case("example in docs", [], (1, 1, 1)), (int(page.read_bytes() == drawn_now), int(bytes_of_image[:4] == b"\x89PNG"), int(len(bytes_of_image) < MOST_OF_IMAGE))
+    today, seen = started("picture", ROOT / "schedules" / "whole-case.txt")[1], image.read_bytes()
+    answer = int(page.read_bytes() == today), int(seen[:4] == b"\x89PNG"), int(len(seen) < MOST_OF_IMAGE)
+    yield case("example in docs", [], (1, 1, 1)), answer
 
 
 SUITES = {

@@ -7,6 +7,7 @@ from itertools import combinations, pairwise
 
 from histories import Shape, opened
 from model import schedule as schedules
+from model import tree
 from model.history import holds
 from picture_pages import HELD, Mark, Told
 
@@ -173,7 +174,8 @@ def described(page, expected, by):
     """Every svg says what it shows, every bar, instant and mark what it is, every head of the table what it heads; there is a language
     and one main heading."""
     elements = list(page.root.iter())
-    wrong = [each for each in elements if each.tag == "svg" and not (first_child(each, "title") and first_child(each, "desc") and each.get("role") == "img")]
+    wrong = [each for each in elements if each.tag == "svg" and not (first_child(each, "title") and first_child(each, "desc"))]
+    wrong += [each for each in elements if each.tag == "svg" and each.get("role") != "img"]
     wrong += [each for each in elements if (each.get("data-client") or each.get("data-call")) and not first_child(each, "title")]
     wrong += [each for each in elements if each.tag == "th" and each.get("scope") not in ("row", "col")]
     counts = Counter(each.tag for each in elements)
@@ -211,7 +213,7 @@ def looked_at(expected, by):
     bars = sum(told.phase == HELD or not is_instant(told, by) for told in stretches)
     waiting = sum(told.end is None and told.phase != HELD for told in stretches)
     nobody = any(line[3] == "4" for line in expected.lines)
-    all_edges = {0, 64 * 4 ** (expected.schedule.settings.levels - 1)} | {edge for told in expected.holdings for edge in (told.left, told.right)}
+    all_edges = {0, tree.units(expected.schedule.settings.levels)}.union(*((told.left, told.right) for told in expected.holdings))
     return {
         held_in("clients"): held, held_in("units"): held, phases: bars, rows: expected.schedule.clients + nobody, apart: held, times: 1,
         edges: len(all_edges) if held else 0, marks: len(expected.marks), in_table: held, described: 1, by_itself: 1, summed_up: waiting,

@@ -77,14 +77,23 @@ def holds_and_releases(client, left, right, clock):
     return [Call("request", client, left, right), *steps, Call("release", client), *steps[:2]]
 
 
+def one_by_one(client, left, time):
+    """The same calls, each step at a clock of its own."""
+    calls = holds_and_releases(client, left, left + 1 + time % 40, 0)
+    return [call._replace(a=len(calls) * time + place) if call.kind == "step" else call for place, call in enumerate(calls)]
+
+
 def at_the_edges():
-    """No calls, one call, refused calls alone, the greatest clocks, all units held one by one, and one unit held by turns within a clock."""
+    """No calls, one call, refused calls alone, the greatest clocks, 64 units held at once, one unit held by turns within a clock, and as many
+    refused calls and as many holdings as a schedule has room for."""
     small = Settings(2, 1, 5)
     yield Schedule(small, 2, ())
     yield Schedule(small, 64, (Call("request", 63, 0, 256),))
     yield Schedule(small, 1, (Call("step", 0, 999),))
     yield Schedule(small, 3, (Call("release", 7), Call("cancel", 1), Call("request", 65535, 3, 3)))
-    yield Schedule(small, 2, tuple(holds_and_releases(0, 63, 64, 1)[:-1] + holds_and_releases(1, 64, 65, TOP - 1)[:-1] + [Call("step", 0, TOP)]))
+    early, last = holds_and_releases(0, 63, 64, 1)[:-1], holds_and_releases(1, 64, 65, TOP - 1)[:-1]
+    yield Schedule(small, 2, (*early, *last, Call("step", 0, TOP)))
     yield Schedule(small, 64, tuple(call for client in range(64) for call in holds_and_releases(client, client, client + 1, client // 9)[:4]))
     yield Schedule(small, 5, tuple(call for time in range(40) for call in holds_and_releases(time % 5, 7, 8, time // 20)))
     yield Schedule(small, 1, tuple(Call("cancel", 0) for _ in range(2730)))
+    yield Schedule(small, 64, tuple(call for time in range(390) for call in one_by_one(time % 64, time % 4 * 64 + time % 24, time)))

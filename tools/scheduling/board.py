@@ -11,7 +11,8 @@ from scheduling.time_axis import LETTERS
 
 NAMES_WIDTH = 112
 LINE = 16
-OVERVIEW, OVERVIEW_HIGH = 1100, 320
+OVERVIEW, OVERVIEW_HIGH = 960, 320
+IN_TABLE = "the table below the charts has each."
 
 
 class Part(NamedTuple):
@@ -48,22 +49,24 @@ def times_part(axis):
 def clients_part(axis, schedule, stretches, marks):
     rows = client_chart.rows_of(schedule, marks)
     times = sum(stretch.phase == HELD for stretch in stretches)
-    says = f"A row for each of {schedule.clients} clients, with a bar for each stretch in one phase; windows were held {times} times. The table has all of them."
+    says = f"A row for each client, 0 to {schedule.clients - 1}, with a bar for each stretch in one phase. Held {times} times: {IN_TABLE}"
     return Part("clients", "Clients", says, client_chart.ROW * len(rows), joined(client_chart.names_drawn(rows, NAMES_WIDTH)),
                 client_chart.drawn(axis, stretches, marks, rows))
 
 
 def units_part(axis, schedule, held):
     units = unit_chart.UnitAxis(schedule, held)
-    says = f"The units 0 to {tree.units(schedule.settings.levels) - 1} from top to bottom, with a bar for each of {len(held)} holdings. The table has all of them."
-    return Part("units", "Units", says, units.height, joined(unit_chart.edges_drawn(units, NAMES_WIDTH)), unit_chart.drawn(axis, units, held))
+    last = tree.units(schedule.settings.levels) - 1
+    says = f"The units 0 to {last} from top to bottom, with a bar for each window while it was held. Held {len(held)} times: {IN_TABLE}"
+    return Part("units", "Units", says, units.height, joined(unit_chart.edges_drawn(units, NAMES_WIDTH)),
+                unit_chart.drawn(axis, units, held))
 
 
 def with_bands(axis, part):
     """What scrolls, before the bands of the clocks or the lines of the calls."""
-    bands = (element("rect", class_="band", x=left, y=0, width=right - left, height=part.height) for left, right in axis.bands())
-    lines = element("path", class_="line", d="".join(f"M{place} 0v{part.height}" for place in axis.lines()))
-    return element("g", *bands, lines, part.drawn, id=part.name)
+    bands = (f"M{left} 0h{right - left}v{part.height}h{left - right}z" for left, right in axis.bands())
+    lines = (f"M{place} 0v{part.height}" for place in axis.lines())
+    return element("g", element("path", class_="band", d="".join(bands)), element("path", class_="line", d="".join(lines)), part.drawn, id=part.name)
 
 
 def drawings(axis, part):
@@ -79,7 +82,8 @@ def overview(axis, part):
     height = min(part.height, OVERVIEW_HIGH)
     squeezed = element("use", href=f"#{part.name}", transform=f"scale({OVERVIEW / axis.width:.5f} {height / part.height:.5f})")
     says = f"The chart of the {part.name} from its first to its last {axis.name}."
-    return element("figure", element("figcaption", part.title), drawing(OVERVIEW, height, f"{part.title}, at a glance", says, squeezed, class_="overview"))
+    shown = drawing(OVERVIEW, height, f"{part.title}, at a glance", says, squeezed, class_="overview")
+    return element("figure", element("figcaption", part.title), shown)
 
 
 def overviews(axis, parts):

@@ -4,16 +4,14 @@ from collections import defaultdict
 
 from scheduling.markup import element, joined, that_fits
 from scheduling.names import HELD, PHASES, window
-from scheduling.report import at
 from scheduling.stretches import in_words
-from scheduling.time_axis import LETTERS
 
 ROW = 30
 BARS, HELD_HEIGHT, OTHER_HEIGHT = 2, 18, 14
 MARKS = 25
 SMALL = 10
 COLOURS = 8
-APART = 300
+APART = 400
 
 
 def colour(client):
@@ -48,7 +46,7 @@ def words_on(stretch, room):
 
 
 def again_and_again(start, end):
-    """Where the words of a bar stand from one end to the other: in its middle, and on a very long one so often that some are always in sight."""
+    """Where the words of a bar stand from one end to the other: in its middle, and on a long one so often that some are always in sight."""
     times = max(1, (end - start) // APART)
     return [start + (end - start) * (2 * time + 1) // (2 * times) for time in range(times)]
 

@@ -6,25 +6,25 @@ from pathlib import PurePath
 from model import tree
 from scheduling import board, paper
 from scheduling.legend import legend
-from scheduling.markup import Markup, drawing, element, joined
+from scheduling.markup import drawing, element, joined
 from scheduling.names import window
 from scheduling.picture_style import shapes, style
 from scheduling.problems import escaped
 from scheduling.report import counted_lines, waiting_lines
 from scheduling.stretches import held_stretches, marks, stretches
-from scheduling.text import settings_line
 from scheduling.time_axis import axis_by
 
 COLUMNS = "client", "window", "from clock", "from call", "to clock", "to call"
 
 HOW_TO_READ = {
     "call": "Each call has a column, which shows what is so after it and before the next.",
-    "clock": "Each clock has a grey band. What begins and ends within one clock has no length, and is a mark in the band. The clocks are not to "
-             "scale: the room between two of them grows only slowly with the gap.",
+    "clock": "Each clock has a grey band. What begins and ends within one clock has no length: it is a mark in the band, or a line "
+             "among the units. The clocks are not to scale: a greater gap has only a little more room.",
 }
 OF_CLIENTS = "Clients have a row each, with a bar for each stretch that they spend in one phase; where there is none, the client is idle."
-OF_UNITS = ("Among the units, a bar is a window while its client holds it, from its left edge down to its right edge. Two clients that held the same unit at "
-            "the same time would be two bars, one over the other. The units are not to scale: all stretches between two neighbouring edges are equally high.")
+OF_UNITS = ("Among the units, a bar is a window while its client holds it, from its left edge down to its right edge. Two clients that held "
+            "the same unit at the same time would be two bars, one over the other. The units are not to scale: all stretches between two "
+            "neighbouring edges are equally high.")
 
 
 def title_of(name):
@@ -34,7 +34,8 @@ def title_of(name):
 
 def settings_in_words(schedule):
     levels, distance, wait = schedule.settings
-    return f"{levels} levels, {tree.units(levels)} units, notices at distance {distance}, wait {wait}, {schedule.clients} clients"
+    clients = "1 client" if schedule.clients == 1 else f"{schedule.clients} clients"
+    return f"{levels} levels, {tree.units(levels)} units, notices at distance {distance}, wait {wait}, {clients}"
 
 
 def listed(lines):
@@ -87,7 +88,7 @@ def body(happened, by, name):
 
 def page(happened, by, name):
     """The whole page."""
-    head = element("head", element("meta", charset="utf-8"), element("meta", name="viewport", content="width=device-width, initial-scale=1"),
-                   element("title", title_of(name)), style())
+    fits = element("meta", name="viewport", content="width=device-width, initial-scale=1")
+    head = element("head", element("meta", charset="utf-8"), fits, element("title", title_of(name)), style())
     parts = (joined(["\n", part]) for part in body(happened, by, name))
     return f"<!DOCTYPE html>\n{element('html', head, element('body', element('main', *parts)), lang='en')}\n"

@@ -31,7 +31,8 @@ MARK_SHAPES = {
 
 PAGE = """
 :root { color-scheme: light; }
-body { margin: 0 auto; padding: 1rem; background: #fff; color: #111; font: 15px/1.5 system-ui, "Segoe UI", "Liberation Sans", Arial, sans-serif; }
+body { margin: 0 auto; padding: 1rem; background: #fff; color: #111; }
+body { font: 15px/1.5 system-ui, "Segoe UI", "Liberation Sans", Arial, sans-serif; }
 h1 { font-size: 1.5rem; margin: 0 0 .3rem; overflow-wrap: anywhere; }
 h2 { font-size: 1.15rem; margin: 1.4rem 0 .4rem; }
 p, ul { max-width: 60rem; margin: .3rem 0; }
@@ -66,7 +67,7 @@ text { font-family: system-ui, "Segoe UI", "Liberation Sans", Arial, sans-serif;
 .mark { fill: #fff; stroke: #111; stroke-width: 1.3px; }
 .mark.refused { stroke: #a80000; stroke-width: 2px; }
 .mark.late { fill: #a80000; stroke: #a80000; }
-.overview { --words: none; --outline: non-scaling-stroke; display: block; width: 100%; max-width: 1100px; height: auto; border: 1px solid #777; }
+.overview { display: block; width: 100%; max-width: 960px; height: auto; border: 1px solid #777; --words: none; --outline: non-scaling-stroke; }
 figure { margin: .3rem 0 .6rem; }
 .defs { position: absolute; }
 .panel { display: none; }
@@ -87,16 +88,21 @@ svg * { print-color-adjust: exact; -webkit-print-color-adjust: exact; }
 """
 
 
+def filling(phase, colour, strokes):
+    """The colour of a phase stands behind its hatching, for a reader that draws no hatchings."""
+    return f"url(#hatch{phase}) {colour}" if strokes else colour
+
+
 def style():
-    """The colour of a phase stands beside its hatching, for a reader that draws no hatchings."""
-    phases = "".join(f".p{phase} {{ fill: {f'url(#hatch{phase}) ' if strokes else ''}{colour}; }}\n" for phase, (colour, strokes) in PHASE_LOOKS.items())
+    phases = "".join(f".p{phase} {{ fill: {filling(phase, *looks)}; }}\n" for phase, looks in PHASE_LOOKS.items())
     clients = "".join(f".k{place} {{ fill: {colour}; }}\n" for place, colour in enumerate(CLIENT_COLOURS))
     return element("style", Markup(PAGE + phases + clients + PAPER))
 
 
 def hatching(phase, colour, strokes):
     """The tile of a phase."""
-    ground, over = element("rect", width=6, height=6, fill=colour), element("path", d=strokes, stroke="#555", stroke_width=.7, stroke_opacity=.75)
+    ground = element("rect", width=6, height=6, fill=colour)
+    over = element("path", d=strokes, stroke="#555", stroke_width=.7, stroke_opacity=.75)
     return element("pattern", ground, over, id=f"hatch{phase}", width=6, height=6, patternUnits="userSpaceOnUse")
 
 

@@ -9,7 +9,8 @@ from typing import NamedTuple
 from scheduling.markup import width_of
 
 LETTERS = 11
-WIDE = 1100
+# What fits beside the names into a window of 1,024; a chart that needs less is drawn as wide as this.
+WIDE = 860
 LEAST_WIDE = 240
 
 # By call: the room of one call. Phase digits and clients' numbers fit into the narrowest.
@@ -17,7 +18,7 @@ NARROWEST, WIDEST = 14, 56
 
 # By clock: the room in which it is shown what a client goes through within one clock, that of each mark there, and that of the step to
 # the next clock, if it is 1.
-WITHIN, MARKED, STEP = 8, 18, 20
+WITHIN, MARKED, STEP = 8, 18, 14
 BEFORE = 12
 MOST_STRETCHED = 4
 
@@ -82,7 +83,6 @@ class ByClock:
 
     def __init__(self, events, held, marks):
         clocks = sorted({event.clock for event in events})
-        self.upright = any(clock > 999 for clock in clocks)
         self.places, wanted = places_within(held, marks)
         widths = {clock: WITHIN + MARKED * wanted[clock] for clock in clocks}
         steps = stretched([step_of(after - before) for before, after in pairwise(clocks)] + [3 * STEP], sum(widths.values()))
@@ -91,6 +91,8 @@ class ByClock:
             self.band[clock] = left, left + widths[clock]
             left += widths[clock] + step
         self.width = max(left, LEAST_WIDE)
+        neighbours = pairwise(self.labels()["clock"])
+        self.upright = any(width_of(label.text, LETTERS) + 6 > after.place - label.place for label, after in neighbours)
 
     def begins(self, event):
         return self.band[event.clock][1]
@@ -136,8 +138,8 @@ def places_within(held, marks):
 
 
 def step_of(gap):
-    """The room between a clock and the next: that of a great gap is wider, but by no more than its logarithm."""
-    return round(STEP + 6 * log2(gap))
+    """The room between a clock and the next. That of a great gap is wider, so that it is seen, but no more than three times."""
+    return min(round(STEP + 2 * log2(gap)), 3 * STEP)
 
 
 def stretched(steps, beside):
