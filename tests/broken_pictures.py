@@ -98,6 +98,8 @@ EDITS = {
     "two edges exchanged": (checks.edges, lambda page: labels_exchanged(page, "units-names")),
     "a mark left out": (checks.marks, lambda page: left_out(page, next(page.named("clients").iter("use")))),
     "a mark of another kind": (checks.marks, lambda page: next(page.named("clients").iter("use")).set("href", "#late")),
+    "a mark in another row": (checks.marks_in_place, lambda page: changed("y", 30)(next(page.named("clients").iter("use")))),
+    "a mark at another time": (checks.marks_in_place, lambda page: changed("x", 900)(next(page.named("clients").iter("use")))),
     "a row of the table left out": (checks.in_table, lambda page: left_out(page, last_of(page, "tr"))),
     "another clock in the table": (checks.in_table, lambda page: setattr(last_of(page, "tr")[2], "text", "77")),
     "a bar without a title": (checks.described, held("units", lambda element: element.remove(element[0]))),

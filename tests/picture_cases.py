@@ -129,7 +129,7 @@ def in_files():
             read, wrote = Path(folder, name), Path(folder, "page.html")
             read.write_bytes(WHOLE_CASE)
             status, _, _ = started("picture", read, "-o", wrote)
-            title = Page(wrote.read_text()).root.find("head/title").text
+            title = Page(wrote.read_text()).title()
             same = wrote.read_bytes() == started("picture", read)[1]
             shown_name = {2: "a\\x01b\\n.txt", 3: "\\udcff.txt"}.get(place, name)
             yield case("picture in a file", [place], (0, 1, 1)), (status, int(same), int(title == f"Who held which units: {shown_name}"))

@@ -154,8 +154,29 @@ def edges(page, expected, by):
 
 def marks(page, expected, by):
     """The marks are those of the log."""
-    found = page.marks()
+    found = [mark for mark, _, _ in page.marks()]
     return len(found), unlike(expected.marks, found)
+
+
+def row_of(client, clients):
+    return f"client {client}" if client < clients else "no such client"
+
+
+def marks_in_place(page, expected, by):
+    """A mark stands below the bars of its client's row, and in time before just those bars that begin after its call: by clock those that
+    begin at its clock or later, since they begin at the end of its band."""
+    names, wrong = {text: y for text, _, y in page.labels("clients-names")}, 0
+    bars = [bar for bar in page.bars("clients") if not bar.instant]
+    for (_, call), x, y in page.marks():
+        row = names.get(row_of(expected.schedule.calls[call].client, expected.schedule.clients), 0)
+        after = (bar.told.start_clock >= expected.clocks[call] if by == "clock" else bar.told.start > call for bar in bars)
+        wrong += not 5 < y - row < 15 or any(later != (bar.x > x) for later, bar in zip(after, bars))
+    return len(page.marks()), wrong
+
+
+def parsed(page, expected, by):
+    """The page is well-formed XML."""
+    return 1, int(not page.well_formed)
 
 
 def in_table(page, expected, by):
@@ -215,6 +236,7 @@ def looked_at(expected, by):
     nobody = any(line[3] == "4" for line in expected.lines)
     all_edges = {0, tree.units(expected.schedule.settings.levels)}.union(*((told.left, told.right) for told in expected.holdings))
     return {
-        held_in("clients"): held, held_in("units"): held, phases: bars, rows: expected.schedule.clients + nobody, apart: held, times: 1,
-        edges: len(all_edges) if held else 0, marks: len(expected.marks), in_table: held, described: 1, by_itself: 1, summed_up: waiting,
+        parsed: 1, held_in("clients"): held, held_in("units"): held, phases: bars, rows: expected.schedule.clients + nobody, apart: held,
+        times: 1, edges: len(all_edges) if held else 0, marks: len(expected.marks), marks_in_place: len(expected.marks), in_table: held,
+        described: 1, by_itself: 1, summed_up: waiting,
     }

@@ -43,11 +43,14 @@ class Mark(NamedTuple):
 
 
 class Page:
-    """A page as a tree of elements."""
+    """A page as a tree of elements; an empty one if the page is not well-formed."""
 
     def __init__(self, text):
         self.text = text
-        self.root = ElementTree.fromstring(text)
+        try:
+            self.root, self.well_formed = ElementTree.fromstring(text), True
+        except ElementTree.ParseError:
+            self.root, self.well_formed = ElementTree.Element("html"), False
 
     def named(self, identity):
         """The element with this identity; an empty one if there is none."""
@@ -58,8 +61,12 @@ class Page:
         return [bar_of(each) for each in self.named(chart).iter() if each.get("data-client") is not None]
 
     def marks(self):
+        """Each mark, with its place."""
         drawn = (each for each in self.named("clients").iter("use") if each.get("data-call") is not None)
-        return [Mark(each.get("href").removeprefix("#"), int(each.get("data-call"))) for each in drawn]
+        return [(Mark(each.get("href").removeprefix("#"), int(each.get("data-call"))), int(each.get("x")), int(each.get("y"))) for each in drawn]
+
+    def title(self):
+        return self.root.findtext("head/title")
 
     def labels(self, identity):
         """The texts in an element, with their places."""
