@@ -90,6 +90,7 @@ def overviews(axis, parts):
     """For charts that are much wider than a page."""
     if axis.width > 2 * OVERVIEW:
         yield element("h2", f"All {axis.name}s at a glance")
+        yield element("p", "Squeezed into the width of a page. Whether two bars only touch is to be seen in the charts below.")
         yield from (overview(axis, part) for part in parts)
         yield element("h2", f"All {axis.name}s")
 
