@@ -105,19 +105,30 @@ def changed_logs():
 
 
 def output_files():
-    """-o writes a file whole, or leaves the one that is there and nothing beside it."""
+    """-o writes a file whole, or leaves the one that is there and nothing beside it; a link and a device stay what they are."""
     with TemporaryDirectory() as folder:
-        path = Path(folder) / "case.bin"
+        path, link = Path(folder) / "case.bin", Path(folder) / "link"
         path.write_bytes(b"before")
+        path.chmod(0o640)
+        link.symlink_to("case.bin")
         wrong = started("pack", "-o", path, data=b"stop")
         kept = path.read_bytes() == b"before"
-        right = started("pack", "-o", path, data=WHOLE_TEXT)
-        written = path.read_bytes() == WHOLE_CASE and os.listdir(folder) == ["case.bin"]
+        right = started("pack", "-o", link, data=WHOLE_TEXT)
+        written = path.read_bytes() == WHOLE_CASE and link.is_symlink() and sorted(os.listdir(folder)) == ["case.bin", "link"]
         mode = path.stat().st_mode & 0o777
+        fresh = started("pack", "-o", Path(folder) / "fresh", data=WHOLE_TEXT)
+        fresh_mode = (Path(folder) / "fresh").stat().st_mode & 0o777
+    null = started("pack", "-o", "/dev/null", data=WHOLE_TEXT)
+    there = Path("/dev/null").is_char_device()
     umask = os.umask(0)
     os.umask(umask)
     yield told("-o, a wrong text leaves the file", (1, "kept", 0), (wrong.status, "kept" if kept else "lost", len(wrong.written)))
-    yield told("-o, a right text", (0, "written", 0o666 & ~umask), (right.status, "written" if written else "not whole", mode))
+    yield told("-o, a right text, by a link", (0, "written", 0o640), (right.status, "written" if written else "not whole", mode))
+    yield told("-o, a new file", (0, "", 0o666 & ~umask), (fresh.status, fresh.said, fresh_mode))
+    yield told("-o, a device", (0, "there", 0), (null.status, "there" if there else "gone", len(null.written)))
+    full = started("pack", "-o", "/dev/full", data=WHOLE_TEXT)
+    expected = 3, "schedule: /dev/full could not be written: No space left on device\n", 0
+    yield told("-o, a full device", expected, (full.status, full.said, len(full.written)))
 
 
 def interrupted():

@@ -6,7 +6,7 @@ import sys
 from typing import NamedTuple
 
 from model.schedule import LONGEST
-from scheduling import packed, report, running
+from scheduling import packed, picture, report, running
 from scheduling.events import happened
 from scheduling.planning import left_out, plan, plan_lines
 from scheduling.problems import Failed, Wrong
@@ -85,6 +85,22 @@ def do_plan(streams, options):
     return Made(lines(plan_lines(schedule, wishes, planned, left)), tuple(left_out(left)), INPUT_WRONG if left else DONE)
 
 
+def do_picture(streams, options):
+    source, log = run(streams, options)
+    if refused := running.refusal(log):
+        raise Wrong(*refused)
+    return Made(picture.page(happened(source.schedule, log), options.by, options.file).encode())
+
+
+COMMANDS = {
+    "run": (do_run, "run a text or a file, and say what happened beside each line of the log"),
+    "picture": (do_picture, "run a text or a file, and draw who held which units when, as a page for a browser"),
+    "plan": (do_plan, "make a text from wishes, as `run 7 wants 100 220 from 30 for 40` (client, edges, clock, ticks to hold)"),
+    "pack": (do_pack, "turn a text into rangelog's file"),
+    "unpack": (do_unpack, "turn rangelog's file into a text"),
+}
+
+
 def parser(streams):
     class Parser(argparse.ArgumentParser):
         def print_help(self, file=None):
@@ -92,20 +108,14 @@ def parser(streams):
             streams.write(self.format_help().encode())
 
     parser = Parser(prog="schedule", description=DESCRIPTION, epilog=STATUS, formatter_class=argparse.RawDescriptionHelpFormatter)
-    commands = parser.add_subparsers(dest="command", metavar="COMMAND", required=True)
-
-    def command(name, do, says):
-        added = commands.add_parser(name, help=says, description=says[0].upper() + says[1:] + ".", epilog=STATUS)
-        added.add_argument("file", nargs="?", default="-", metavar="FILE", help="what to read; - or nothing for standard input")
-        added.set_defaults(do=do, output=None)
-        return added
-
-    for name, do, says in (("pack", do_pack, "turn a text into rangelog's file"),
-                           ("unpack", do_unpack, "turn rangelog's file into a text")):
-        command(name, do, says).add_argument("-o", dest="output", metavar="FILE", help="write this file, whole or not at all")
-    command("plan", do_plan, "make a schedule from wishes, as `run 7 wants 100 220 from 30 for 40` (client, edges, clock, ticks to hold)")
-    runs = command("run", do_run, "run a text or a file, and say what happened beside each line of the log")
-    runs.add_argument("--log", action="store_true", help="print the log alone")
+    commands, added = parser.add_subparsers(dest="command", metavar="COMMAND", required=True), {}
+    for name, (does, says) in COMMANDS.items():
+        added[name] = commands.add_parser(name, help=says, description=says[0].upper() + says[1:] + ".", epilog=STATUS)
+        added[name].add_argument("file", nargs="?", default="-", metavar="FILE", help="what to read; - or nothing for standard input")
+        added[name].add_argument("-o", dest="output", metavar="FILE", help="write this file, whole or not at all")
+        added[name].set_defaults(do=does)
+    added["run"].add_argument("--log", action="store_true", help="print the log alone")
+    added["picture"].add_argument("--by", choices=("call", "clock"), default="call", help="what the time axis counts (default: call)")
     return parser
 
 

@@ -70,21 +70,28 @@ def write_all(descriptor, data):
 
 
 def write_file(path, data):
-    """The file of that name has these bytes, or is as it was: they are written beside it first, and then take its name."""
-    place = Path(path)
+    """The file of that name has these bytes, or is as it was. What is there and no regular file, as a device or a pipe, keeps its place
+    and is written to."""
     try:
-        descriptor, beside = tempfile.mkstemp(dir=place.parent, prefix=f".{place.name}.")
+        if os.path.exists(path) and not os.path.isfile(path):
+            with open(path, "wb", buffering=0) as file:
+                write_all(file.fileno(), data)
+        else:
+            replace(Path(path).resolve(), data)
     except OSError as error:
         raise Failed(f"{path} could not be written: {reason(error)}") from None
+
+
+def replace(path, data):
+    """The bytes are written beside the file, and then take its name. A link stays a link: what it leads to is replaced."""
+    descriptor, beside = tempfile.mkstemp(dir=path.parent, prefix=f".{path.name}.")
     try:
         with os.fdopen(descriptor, "wb") as file:
             file.write(data)
-            os.fchmod(file.fileno(), 0o666 & ~umask())
+            os.fchmod(file.fileno(), path.stat().st_mode & 0o7777 if path.exists() else 0o666 & ~umask())
         os.replace(beside, path)
-    except BaseException as error:
+    except BaseException:
         os.unlink(beside)
-        if isinstance(error, OSError):
-            raise Failed(f"{path} could not be written: {reason(error)}") from None
         raise
 
 
