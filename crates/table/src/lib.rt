@@ -8,6 +8,7 @@ use lock::Call;
 use lock::Record;
 use lock::Settings;
 
+mod by_levels;
 mod causes;
 mod zeroes;
 
