@@ -78,7 +78,7 @@ pub struct Answer {
 }
 
 #[repr(C)]
-#[derive(Clone, Copy, Debug, PartialEq)]
+#[derive(Clone, Copy, Debug, Default, PartialEq)]
 pub struct CoverAnswer {
     pub number: u64,
     pub first: u64,
