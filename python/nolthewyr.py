@@ -1,11 +1,11 @@
 """Locks on windows of one long table of units, for Python: `Table` and its calls, over the shared library.
 
     table = Table(Settings(levels=3, distance=2, wait=30), clients=2)
-    table.request(0, 10, 20)
-    while table.step(0, clock()) != Phase.HELD:
-        ...
+    table.request(0, 10, 20)            # client, left edge, right edge
+    table.step(0, clock)                # again and again, until it gives Phase.HELD
+    table.release(0)                    # and steps until it is Phase.IDLE
 
-A refused call raises `Refused`. The shared library is the file that NOLTHEWYR_LIBRARY in the environment names; else it is looked for
+A refused call raises `Refused`. examples/take.py has the whole of it, with what to do if the window cannot be had. The shared library is the file that NOLTHEWYR_LIBRARY in the environment names; else it is looked for
 beside this file, where `make install` puts it, and where the system looks for libraries. It is loaded by the first call.
 """
 
@@ -39,6 +39,9 @@ class Numbers(Structure):
 
     def __init__(self, *numbers, **named):
         super().__init__(*map(fitting, numbers), **{name: fitting(number) for name, number in named.items()})
+
+    def __iter__(self):
+        return (getattr(self, name) for name, _ in self._fields_)
 
     def __repr__(self):
         return f"{type(self).__name__}({', '.join(f'{name}={getattr(self, name)}' for name, _ in self._fields_)})"
