@@ -42,6 +42,8 @@ all: $(RANGELOG) $(LIBRARY) $(SHARED) $(SCHEDULE)
 .DELETE_ON_ERROR:
 .PHONY: all install uninstall check clean
 
+$(BUILT)/texts.o $(SCHEDULE): Makefile
+
 # Rattle proves again only what has changed. Where nothing has, it leaves the program as it is, and its time is set here.
 target/bin/%: $(CRATES)
 	rt check $*

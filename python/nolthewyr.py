@@ -5,8 +5,10 @@
     table.step(0, clock)                # again and again, until it gives Phase.HELD
     table.release(0)                    # and steps until it is Phase.IDLE
 
-A refused call raises `Refused`. examples/take.py has the whole of it, with what to do if the window cannot be had. The shared library is the file that NOLTHEWYR_LIBRARY in the environment names; else it is looked for
-beside this file, where `make install` puts it, and where the system looks for libraries. It is loaded by the first call.
+A refused call raises `Refused`. examples/take.py has the whole of it, with what to do if the window cannot be had.
+
+The shared library is the file that NOLTHEWYR_LIBRARY in the environment names; else it is looked for beside this file, where `make install`
+puts it, and where the system looks for libraries. It is loaded by the first call.
 """
 
 import os

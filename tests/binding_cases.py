@@ -130,11 +130,10 @@ def calls_of_histories():
             yield from compared(place, seed, history, rust_answers(history, edition))
 
 
-def python_cover(levels, left, right):
-    try:
-        return tuple(nolthewyr.cover(levels, left, right))
-    except nolthewyr.Refused as error:
-        return error.number, 0, 0, 0
+def python_cover(*asked):
+    """The number that a cover raises, 0 if none, and the pieces and the over-cover if there are any."""
+    number = refused(nolthewyr.cover, *asked)
+    return number, *((0, 0, 0) if number else tuple(nolthewyr.cover(*asked))[1:])
 
 
 def asked_of_levels():

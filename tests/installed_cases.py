@@ -116,7 +116,8 @@ def another_series():
 
 
 def programs():
-    """schedule runs, says how it is used, and finds the rangelog beside it, which writes the log of the whole case."""
+    """schedule says how it is used and by its exit status that it failed, and finds the rangelog beside it, which writes the log of the
+    whole case."""
     log = CASE.with_suffix(".log").read_text()
     schedule, rangelog = prefix() / "bin" / "schedule", prefix() / "bin" / "rangelog"
     with open(CASE.with_suffix(".bin"), "rb") as case_file:
@@ -125,7 +126,7 @@ def programs():
         run(schedule, "--help").startswith("usage: schedule"),
         logged.stdout == log,
         run(schedule, "run", "--log", CASE.with_suffix(".txt"), PATH="/usr/bin:/bin") == log,
-        subprocess.run([schedule, "no-such-command"], env=environment(), capture_output=True).returncode == 2,
+        subprocess.run([schedule, "run", "no-such-file"], env=environment(), capture_output=True).returncode == 3,
     ]
     for number, holds in enumerate(claims):
         yield case("program", [number], 1), int(holds)

@@ -36,8 +36,8 @@ def environment(**named):
 
 def run(*words, **named):
     """Runs a program outside the repository, and gives what it wrote. Its exit status must be 0."""
-    ran = subprocess.run(words, cwd=folder().name, env=environment(**named), check=True, capture_output=True, text=True, timeout=SECONDS)
-    return ran.stdout
+    taken = {"check": True, "capture_output": True, "text": True, "timeout": SECONDS}
+    return subprocess.run(words, cwd=folder().name, env=environment(**named), **taken).stdout
 
 
 def asked(*words):
