@@ -8,7 +8,7 @@
 #include <stdio.h>
 #include <stdlib.h>
 
-/* A wait is longer than a claim takes: from its first climb to its last notice at most 23 steps. No window takes MOST_STEPS if nobody is
+/* The wait is longer than a claim takes: from its first climb to its last notice at most 23 steps. No window takes MOST_STEPS if nobody is
  * in its way. */
 enum { CLIENTS = 2, WAIT = 30, MOST_STEPS = 300, FIRST_PAUSE = 100, WORK = 800 };
 

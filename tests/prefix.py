@@ -31,7 +31,9 @@ def prefix():
 
 
 def environment(**named):
-    return {name: value for name, value in os.environ.items() if name not in ASTRAY} | named
+    """That of the tests without what leads astray; Python leaves no compiled files beside the installed ones."""
+    kept = {name: value for name, value in os.environ.items() if name not in ASTRAY}
+    return {**kept, "PYTHONDONTWRITEBYTECODE": "1", **named}
 
 
 def run(*words, **named):
