@@ -128,7 +128,7 @@ nolthewyr_answer nolthewyr_release(nolthewyr_record *records, size_t clients, ui
 nolthewyr_answer nolthewyr_cancel(nolthewyr_record *records, size_t clients, uint64_t *words, size_t count,
                                   nolthewyr_settings settings, nolthewyr_call call);
 
-/* The nodes that a request for [left, right) would take. */
+/* The nodes that a request for [left, right) would take. Tests the levels, then the window. */
 nolthewyr_cover_answer nolthewyr_cover(uint64_t levels, uint64_t left, uint64_t right);
 
 /* A number in plain words. Each has a text, an unknown one too. Causes 10 and 11 are those of the program rangelog. */

@@ -112,23 +112,27 @@ impl Table {
         Ok(table)
     }
 
+    /// Asks for [left, right) for an idle client.
     pub fn request(&mut self, client: usize, left: u64, right: u64) -> Result<Phase, Cause> {
         self.make(request, client, left, right)
     }
 
-    /// One step at a clock, which is never below the last one.
+    /// Does the one thing that the client's phase says, at a clock that is never below the last one.
     pub fn step(&mut self, client: usize, clock: u64) -> Result<Phase, Cause> {
         self.make(step, client, clock, 0)
     }
 
+    /// Ends the holding of a client, which then gives its words back by steps until it is idle.
     pub fn release(&mut self, client: usize) -> Result<Phase, Cause> {
         self.make(release, client, 0, 0)
     }
 
+    /// Gives up a window that is not yet held. What the client has of it, it gives back by steps until it is idle.
     pub fn cancel(&mut self, client: usize) -> Result<Phase, Cause> {
         self.make(cancel, client, 0, 0)
     }
 
+    /// The client's record, if there is such a client.
     pub fn record(&self, client: usize) -> Option<&Record> {
         self.records.get(client)
     }

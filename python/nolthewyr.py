@@ -147,16 +147,19 @@ class Table:
         accepted(Answer(library().nolthewyr_open(*self._lent), 0))
 
     def request(self, client, left, right):
+        """Asks for [left, right) for an idle client."""
         return self._make(library().nolthewyr_request, client, left, right)
 
     def step(self, client, clock):
-        """One step at a clock, which is never below the last one."""
+        """Does the one thing that the client's phase says, at a clock that is never below the last one."""
         return self._make(library().nolthewyr_step, client, clock)
 
     def release(self, client):
+        """Ends the holding of a client, which then gives its words back by steps until it is idle."""
         return self._make(library().nolthewyr_release, client)
 
     def cancel(self, client):
+        """Gives up a window that is not yet held. What the client has of it, it gives back by steps until it is idle."""
         return self._make(library().nolthewyr_cancel, client)
 
     def record(self, client):
