@@ -19,7 +19,7 @@ NAMES["needs the shared library"] = ("place in the list of languages",), ("needs
 NAMES["installed files"] = ("folder",), ("files", "files unlike")
 NAMES["found by Python"] = ("way",), ("found",)
 NAMES["program"] = ("claim",), ("holds",)
-NAMES["page"] = ("page",), ("warnings", "words that are missing")
+NAMES["page"] = ("page",), ("warnings", "words unlike the program's")
 
 LEVELS = 3, 12
 DOCUMENT = ROOT / "docs" / "LINKING.md"
@@ -138,25 +138,31 @@ def words_of_rangelog():
 
 
 def words_of_schedule():
-    """Its commands, and their options."""
+    """How it is used, by its own help: each command with its options."""
     schedule = prefix() / "bin" / "schedule"
-    commands = re.findall(r"^    (\w+)  +\w", run(schedule, "--help"), re.MULTILINE)
-    options = re.findall(r"^  (-\w|--\w+)\b", "".join(run(schedule, name, "--help") for name in commands), re.MULTILINE)
-    if not {"pack", "run"} <= set(commands) or not {"-o", "--log"} <= set(options):
-        raise ValueError("the help of schedule is written in another way than this test reads it")
-    return [f"schedule {name}" for name in commands] + sorted(set(options) - {"-h"})
+    for name in re.findall(r"^    (\w+)  +\w", run(schedule, "--help"), re.MULTILINE):
+        options = re.findall(r"^  (-\w|--\w+)\b", run(schedule, name, "--help"), re.MULTILINE)
+        yield name, *sorted(set(options) - {"-h"})
+
+
+def synopsis(read):
+    """How schedule is used, by its page."""
+    [listed] = re.findall("SYNOPSIS(.*)DESCRIPTION", read)
+    for use in listed.split(" schedule ")[1:]:
+        yield use.split()[0], *sorted(re.findall(r"(?<=\[)(-\w|--\w+)\b", use))
 
 
 def pages():
-    """The pages are set without a warning, and have the words of the programs."""
-    for number, (page, words) in enumerate({"rangelog.1": words_of_rangelog(), "schedule.1": words_of_schedule()}.items()):
+    """The pages are set without a warning. That of rangelog has the words of a log; that of schedule its commands and options, and no
+    others."""
+    for number, page in enumerate(("rangelog.1", "schedule.1")):
         source = prefix() / "share" / "man" / "man1" / page
         warned = subprocess.run(["groff", "-mandoc", "-ww", "-z", source], capture_output=True, text=True, check=True).stderr
         read = " ".join(run("man", "--local-file", source, MANWIDTH="1000").split())
-        missing = [word for word in words if word not in read]
-        if missing:
-            print(f"    {page} has no {', '.join(missing)}")
-        yield case("page", [number], (0, 0)), (len(warned.splitlines()), len(missing))
+        unlike = [word for word in words_of_rangelog() if word not in read] if number == 0 else set(words_of_schedule()) ^ set(synopsis(read))
+        if unlike:
+            print(f"    {page} and the program differ in {', '.join(map(str, unlike))}")
+        yield case("page", [number], (0, 0)), (len(warned.splitlines()), len(unlike))
 
 
 SUITES = {
@@ -167,5 +173,5 @@ SUITES = {
     "installed, Python finds the library": found_by_python,
     "installed, Python does not use a library of another series": another_series,
     "installed, the programs run": programs,
-    "installed, the pages have no warning and name what there is": pages,
+    "installed, the pages have no warning and say what the programs do": pages,
 }
