@@ -49,7 +49,8 @@ def asked(*words):
 
 def c_program(*static):
     program = place(f"take-c{''.join(static)}")
-    command(*CHECKED_C, *static, ROOT / "examples" / "take.c", *asked("--cflags", "--libs", *(f"-{word}" for word in static)), "-o", program)
+    linked = asked("--cflags", "--libs", *(f"-{word}" for word in static))
+    command(*CHECKED_C, *static, ROOT / "examples" / "take.c", *linked, "-o", program)
     return program
 
 
