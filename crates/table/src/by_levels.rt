@@ -3,7 +3,7 @@ ghost use mathlib.Core.Path.{_≡_};
 ghost use Rattle.cover.specs.rules.Answer.{answer};
 ghost use Rattle.table.specs.rules.Wanted.{wordsWanted};
 
-// The pieces of [left, right). Tests 1 for the levels, then 7.
+// The pieces of [left, right) and their total over-cover. Tests 1 for the levels, then 7.
 #[no_mangle]
 pub extern "C" fn nolthewyr_cover(levels: u64, left: u64, right: u64) -> cover::Answer
     ensures { λ a. ⌜ a ≡ answer levels left right ⌝ }
