@@ -2,22 +2,21 @@
 
 use crate::lent::Window;
 use crate::met::{met, Met};
-use crate::nolthewyr::{Record, Settings};
+use crate::nolthewyr::{CoverAnswer, Phase, Record, Settings};
 use crate::random::Random;
 use crate::row;
-use crate::rust::linked::{self, Covered};
-use crate::rust::phase;
+use crate::rust::linked;
 use crate::settings::{SETTINGS, WINDOWS};
 use crate::tables::print_table;
 use crate::timing::{best, time};
 use std::hint::black_box;
 
 extern "C" {
-    fn probe_cover(levels: u64, l: u64, r: u64) -> Covered;
+    fn probe_cover(levels: u64, l: u64, r: u64) -> CoverAnswer;
     fn probe_unreadable(record: Record, settings: Settings, last: u64) -> bool;
 }
 
-type Cover = unsafe extern "C" fn(u64, u64, u64) -> Covered;
+type Cover = unsafe extern "C" fn(u64, u64, u64) -> CoverAnswer;
 type Unreadable = unsafe extern "C" fn(Record, Settings, u64) -> bool;
 
 const COVER: [Cover; 2] = [probe_cover, linked::cover];
@@ -49,9 +48,9 @@ fn compare_tests(random: &mut Random, mix: &[Met]) {
 /// The records of a window, and one that waits for an ancestor, since alone in the tree no client does.
 fn records(window: Window) -> Vec<Met> {
     let mut records = met(SETTINGS, window);
-    let climbing = records.iter().find(|(record, _)| record.phase == phase::CLIMB);
+    let climbing = records.iter().find(|(record, _)| record.phase == Phase::CLIMB);
     let (record, last) = *climbing.expect("a record that climbs");
-    records.push((Record { phase: phase::BLOCKED, ..record }, last));
+    records.push((Record { phase: Phase::BLOCKED, ..record }, last));
     records
 }
 

@@ -94,7 +94,7 @@ fn compare_call(tables: &mut Tables, planned: Planned, met: &mut Met) -> u64 {
     assert!(agree(tables), "{planned:?}: words or records differ");
     met.numbers[rattle.number as usize] += 1;
     if rattle.number == 0 {
-        met.phases[tables[0].records[planned.client as usize].phase as usize] += 1;
+        met.phases[tables[0].records[planned.client as usize].phase.0 as usize] += 1;
     }
     rattle.number
 }

@@ -9,7 +9,7 @@ from collections import defaultdict
 
 PHASES = {1: "ticket", 2: "turn", 3: "climb", 4: "blocked", 5: "claim", 6: "notify", 7: "wait", 8: "check", 10: "returning"}
 CALLER = re.compile(r"in_phase::<(\d+)>$")
-CALLED = re.compile(r"(table_|linked::)(request|step|release|cancel)$")
+CALLED = re.compile(r"(nolthewyr_|linked::)(request|step|release|cancel)$")
 
 
 def costs(lines):
@@ -27,7 +27,7 @@ def costs(lines):
             calls = int(value.split()[0])
         elif calls:
             if caller and called:
-                side = "Rattle" if called[1] == "table_" else "Rust"
+                side = "Rattle" if called[1] == "nolthewyr_" else "Rust"
                 cost = found[side, called[2], int(caller[1])]
                 cost[0] += calls
                 cost[1] += int(line.split()[-1])

@@ -1,7 +1,7 @@
 //! A lent table with the calls of one side over it, and what is measured: a window from its request to idle.
 
-use crate::nolthewyr::{Answer, Call, Record, Settings};
-use crate::rust::{self, phase};
+use crate::nolthewyr::{Answer, Call, Phase, Record, Settings};
+use crate::rust;
 use crate::sides::{Kind, Linked, Side};
 
 /// Left and right edge.
@@ -20,7 +20,7 @@ impl<S: Side> Lent<S> {
     pub fn filled(side: S, settings: Settings, count: usize, clients: usize) -> Lent<S> {
         // The pointers are hidden from the compiler, which could otherwise use what it knows of the Rust side's bodies.
         let side = std::hint::black_box(side);
-        let filled = Record { phase: phase::HELD, ..Record::default() };
+        let filled = Record { phase: Phase::HELD, ..Record::default() };
         Lent { side, settings, words: vec![u64::MAX; count], records: vec![filled; clients], clock: 0 }
     }
 
@@ -48,7 +48,7 @@ impl<S: Side> Lent<S> {
         assert_eq!(answer.number, 0, "{:?}", self.records[client as usize]);
     }
 
-    pub fn phase(&self, client: u64) -> u64 {
+    pub fn phase(&self, client: u64) -> Phase {
         self.records[client as usize].phase
     }
 
@@ -63,11 +63,11 @@ impl<S: Side> Lent<S> {
     /// One step. Only in the wait does the clock move on, since with T 1 a piece is late if it moves between the climb and the last
     /// notice.
     pub fn step(&mut self, client: u64) {
-        let clock = self.clock + (self.phase(client) == phase::WAIT) as u64;
+        let clock = self.clock + (self.phase(client) == Phase::WAIT) as u64;
         self.accepted(Kind::Step, client, clock, 0);
     }
 
-    pub fn step_until(&mut self, client: u64, phase: u64) {
+    pub fn step_until(&mut self, client: u64, phase: Phase) {
         while self.phase(client) != phase {
             self.step(client);
         }
@@ -76,13 +76,13 @@ impl<S: Side> Lent<S> {
     /// Requests the window and steps until it is held.
     pub fn take(&mut self, client: u64, window: Window) {
         self.request(client, window);
-        self.step_until(client, phase::HELD);
+        self.step_until(client, Phase::HELD);
     }
 
     /// Releases the window and steps until the client is idle.
     pub fn give_back(&mut self, client: u64) {
         self.accepted(Kind::Release, client, 0, 0);
-        self.step_until(client, phase::IDLE);
+        self.step_until(client, Phase::IDLE);
     }
 
     pub fn take_and_give_back(&mut self, client: u64, window: Window) {

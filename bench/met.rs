@@ -1,8 +1,7 @@
 //! The records that a client has before each of its calls, alone in the tree, from a window's request until it is idle.
 
 use crate::lent::{Lent, Window};
-use crate::nolthewyr::{Answer, Call, Record, Settings};
-use crate::rust::phase;
+use crate::nolthewyr::{Answer, Call, Phase, Record, Settings};
 use crate::sides::{Kind, Linked, Side, RUST};
 
 /// A record and the last clock beside it.
@@ -33,5 +32,5 @@ pub fn met(settings: Settings, window: Window) -> Vec<Met> {
 
 /// How many of the calls touch a word: all steps but that of the wait. A request finds the record idle, a release finds it held.
 pub fn operations(met: &[Met]) -> usize {
-    met.iter().filter(|(record, _)| !matches!(record.phase, phase::IDLE | phase::WAIT | phase::HELD)).count()
+    met.iter().filter(|(record, _)| !matches!(record.phase, Phase::IDLE | Phase::WAIT | Phase::HELD)).count()
 }

@@ -2,8 +2,7 @@
 //! callgrind's output, which has the cost of every called function by its caller, tells the phases apart.
 
 use crate::lent::{Lent, Window};
-use crate::nolthewyr::{Answer, Call, Record, Settings};
-use crate::rust::phase;
+use crate::nolthewyr::{Answer, Call, Phase, Record, Settings};
 use crate::settings::{SETTINGS, WINDOWS};
 use crate::sides::{Kind, Linked, OnTable, Side, SIDES};
 use std::hint::black_box;
@@ -54,7 +53,7 @@ impl Side for Counted {
         if !self.counting {
             return self.linked.make(kind, records, words, settings, call);
         }
-        let phase = records[call.client as usize].phase;
+        let Phase(phase) = records[call.client as usize].phase;
         IN_PHASE[phase as usize](self.linked.calls[kind as usize], records, words, settings, call)
     }
 }
@@ -71,11 +70,11 @@ impl Lent<Counted> {
         for steps in 0.. {
             self.request(client, window);
             (0..steps).for_each(|_| self.step(client));
-            if self.phase(client) == phase::HELD {
+            if self.phase(client) == Phase::HELD {
                 return self.give_back(client);
             }
             self.counted(|lent| lent.cancel(client));
-            self.step_until(client, phase::IDLE);
+            self.step_until(client, Phase::IDLE);
         }
     }
 
@@ -83,11 +82,11 @@ impl Lent<Counted> {
     fn block(&mut self, client: u64, window: Window, other: u64, ancestor: Window) {
         self.take(other, ancestor);
         self.request(client, window);
-        self.step_until(client, phase::BLOCKED);
+        self.step_until(client, Phase::BLOCKED);
         self.counted(|lent| lent.step(client));
         self.give_back(other);
         self.counted(|lent| lent.step(client));
-        self.step_until(client, phase::HELD);
+        self.step_until(client, Phase::HELD);
         self.give_back(client);
     }
 }

@@ -1,7 +1,7 @@
 //! Random numbers, windows and records, the same in every run.
 
 use crate::lent::Window;
-use crate::nolthewyr::Record;
+use crate::nolthewyr::{Outcome, Phase, Record};
 
 /// The generator of Steele, Lea and Flood (splitmix64), so that every run makes the same calls.
 pub struct Random(pub u64);
@@ -46,8 +46,22 @@ impl Random {
     /// The record with one field altered: to a small number, as most fields are, to one beside what it was, or to one at or past
     /// an end of a range.
     pub fn damaged(&mut self, mut record: Record) -> Record {
-        let Record { phase, outcome, left, right, first, second, current, giving, grip, ticket, place, notices, t1, t0 } =
-            &mut record;
+        let Record {
+            phase: Phase(phase),
+            outcome: Outcome(outcome),
+            left,
+            right,
+            first,
+            second,
+            current,
+            giving,
+            grip,
+            ticket,
+            place,
+            notices,
+            t1,
+            t0,
+        } = &mut record;
         let fields = [phase, outcome, left, right, first, second, current, giving, grip, ticket, place, notices, t1, t0];
         let (field, small) = (self.below(fields.len() as u64) as usize, self.below(12));
         let number = *fields[field];

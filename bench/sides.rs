@@ -1,6 +1,6 @@
 //! The two sides, the library's calls and those in plain Rust, and the ways in which a side is called.
 
-use crate::nolthewyr::{table_cancel, table_open, table_release, table_request, table_step};
+use crate::nolthewyr::{nolthewyr_cancel, nolthewyr_open, nolthewyr_release, nolthewyr_request, nolthewyr_step};
 use crate::nolthewyr::{Answer, Call, Record, Settings};
 use crate::rust::{self, linked};
 use std::mem::transmute;
@@ -32,7 +32,8 @@ pub struct Linked {
     pub calls: [OnTable; KINDS.len()],
 }
 
-pub const RATTLE: Linked = Linked { open: table_open, calls: [table_request, table_step, table_release, table_cancel] };
+pub const RATTLE: Linked =
+    Linked { open: nolthewyr_open, calls: [nolthewyr_request, nolthewyr_step, nolthewyr_release, nolthewyr_cancel] };
 pub const RUST: Linked = Linked { open: linked::open, calls: [linked::request, linked::step, linked::release, linked::cancel] };
 
 /// Plain Rust whose steps do not ask whether the record is unreadable, which document 01 does not allow: what the test costs.

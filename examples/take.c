@@ -1,76 +1,100 @@
-/* Client 0 takes [10, 20) and holds it. Client 1 wants [15, 30), gives up, and takes it when client 0 has returned. */
+/* Client 0 takes [10, 20) and works. Client 1 wants [15, 30): it gives up, pauses, asks anew, and has it once client 0 has released.
+ * take [LEVELS]: the tree has 3 levels, or as many as are said. */
 
 #include "nolthewyr.h"
 
 #include <inttypes.h>
+#include <stdbool.h>
 #include <stdio.h>
 #include <stdlib.h>
 
-enum { CLIENTS = 2, WORDS = 21, MOST_STEPS = 8, IDLE = 0, HELD = 9 };
+/* The wait is longer than a claim takes: from its first climb to its last notice at most 23 steps. No window takes MOST_STEPS if nobody is
+ * in its way. */
+enum { CLIENTS = 2, WAIT = 30, MOST_STEPS = 300, FIRST_PAUSE = 100, WORK = 800 };
 
-static const Settings settings = {.levels = 3, .distance = 2, .wait = 5};
-static Record records[CLIENTS];
-static uint64_t words[WORDS];
+static nolthewyr_settings settings = {.levels = 3, .distance = 2, .wait = WAIT};
+static nolthewyr_record records[CLIENTS];
+static uint64_t *words;
+static size_t count;
 static uint64_t last;
+static uint64_t now; /* here a count of steps and pauses; clients that run by themselves read a clock that they share */
 
-typedef Answer OnTable(Record *, size_t, uint64_t *, size_t, Settings, Call);
-
-/* Makes a call on what the last one left and says what came of it. */
-static void make(const char *name, OnTable *on_table, uint64_t client, uint64_t a, uint64_t b)
+static void accepted(uint64_t number)
 {
-    Call call = {.client = client, .a = a, .b = b, .last = last};
-    Answer answer = on_table(records, CLIENTS, words, WORDS, settings, call);
-    last = answer.clock;
-    printf("client %" PRIu64 " %s: number %" PRIu64 ", phase %" PRIu64 ", clock %" PRIu64 "\n",
-           client, name, answer.number, records[client].phase, answer.clock);
-    if (answer.number != 0)
-        exit(EXIT_FAILURE);
-}
-
-/* The clock here is a count of steps; a caller that waits for others takes it from a clock that they share. */
-static void step(uint64_t client)
-{
-    make("step", table_step, client, last + 1, 0);
-}
-
-static void steps_until_idle(uint64_t client)
-{
-    while (records[client].phase != IDLE)
-        step(client);
-    printf("client %" PRIu64 " is idle, outcome %" PRIu64 "\n", client, records[client].outcome);
-}
-
-/* Steps until the window is held. A client that is late is idle without it, and one that has to wait too long gives up. */
-static void take(uint64_t client, uint64_t l, uint64_t r)
-{
-    make("request", table_request, client, l, r);
-    for (int i = 0; i < MOST_STEPS && records[client].phase != HELD && records[client].phase != IDLE; i++)
-        step(client);
-    if (records[client].phase == HELD) {
-        printf("client %" PRIu64 " holds [%" PRIu64 ", %" PRIu64 ")\n", client, records[client].left, records[client].right);
+    if (number == NOLTHEWYR_CAUSE_ACCEPTED)
         return;
-    }
-    if (records[client].phase != IDLE)
-        make("cancel", table_cancel, client, 0, 0);
-    steps_until_idle(client);
+    fprintf(stderr, "refused by %" PRIu64 ": %s\n", number, nolthewyr_cause_text(number));
+    exit(EXIT_FAILURE);
 }
 
-static void give_back(uint64_t client)
+typedef nolthewyr_answer on_table(nolthewyr_record *, size_t, uint64_t *, size_t, nolthewyr_settings, nolthewyr_call);
+
+/* Makes a call on what the last one left, and gives the client's phase after it. */
+static uint64_t make(on_table *function, uint64_t client, uint64_t a, uint64_t b)
 {
-    make("release", table_release, client, 0, 0);
-    steps_until_idle(client);
+    nolthewyr_call call = {.client = client, .a = a, .b = b, .last = last};
+    nolthewyr_answer answer = function(records, CLIENTS, words, count, settings, call);
+    accepted(answer.number);
+    last = answer.clock;
+    return records[client].phase;
 }
 
-int main(void)
+static void step_until_idle(uint64_t client)
 {
-    uint64_t number = table_open(records, CLIENTS, words, WORDS, settings);
-    printf("open: number %" PRIu64 "\n", number);
-    if (number != 0)
+    while (records[client].phase != NOLTHEWYR_PHASE_IDLE)
+        make(nolthewyr_step, client, ++now, 0);
+    printf("client %" PRIu64 " is idle at %" PRIu64 ": %s\n", client, now, nolthewyr_outcome_text(records[client].outcome));
+}
+
+/* Whether the client holds the window after a limited number of steps. If not it is idle again: it was late, or it gave up. */
+static bool attempt(uint64_t client, uint64_t left, uint64_t right)
+{
+    uint64_t phase = make(nolthewyr_request, client, left, right);
+    for (int steps = 0; steps < MOST_STEPS && phase != NOLTHEWYR_PHASE_HELD && phase != NOLTHEWYR_PHASE_IDLE; steps++)
+        phase = make(nolthewyr_step, client, ++now, 0);
+    if (phase == NOLTHEWYR_PHASE_HELD)
+        return true;
+    if (phase != NOLTHEWYR_PHASE_IDLE && phase != NOLTHEWYR_PHASE_RETURNING)
+        make(nolthewyr_cancel, client, 0, 0);
+    step_until_idle(client);
+    return false;
+}
+
+static void release(uint64_t client)
+{
+    make(nolthewyr_release, client, 0, 0);
+    step_until_idle(client);
+}
+
+/* A client that runs by itself sleeps here. In this program client 0 ends its work meanwhile. */
+static void let_pass(uint64_t client, uint64_t pause)
+{
+    now += pause;
+    printf("client %" PRIu64 " has paused until %" PRIu64 "\n", client, now);
+    if (records[0].phase == NOLTHEWYR_PHASE_HELD && now >= WORK)
+        release(0);
+}
+
+/* Asks until the window is held, with a pause after each attempt that is twice as long as the one before. */
+static void take(uint64_t client, uint64_t left, uint64_t right)
+{
+    for (uint64_t pause = FIRST_PAUSE; !attempt(client, left, right); pause *= 2)
+        let_pass(client, pause);
+    printf("client %" PRIu64 " holds [%" PRIu64 ", %" PRIu64 ") at %" PRIu64 "\n", client, left, right, now);
+}
+
+int main(int argc, char **argv)
+{
+    if (argc > 1)
+        settings.levels = strtoull(argv[1], NULL, 10);
+    count = nolthewyr_word_count(settings.levels);
+    words = calloc(count + 1, sizeof *words); /* one more, so that there is something to lend if no tree has such levels */
+    if (words == NULL)
         return EXIT_FAILURE;
+    accepted(nolthewyr_open(records, CLIENTS, words, count, settings));
     take(0, 10, 20);
     take(1, 15, 30);
-    give_back(0);
-    take(1, 15, 30);
-    give_back(1);
+    release(1);
+    free(words);
     return EXIT_SUCCESS;
 }

@@ -1,95 +1,98 @@
-//! Client 0 takes [10, 20) and holds it. Client 1 wants [15, 30), gives up, and takes it when client 0 has returned.
+//! Client 0 takes [10, 20) and works. Client 1 wants [15, 30): it gives up, pauses, asks anew, and has it once client 0 has released.
+//! take [LEVELS]: the tree has 3 levels, or as many as are said.
 
-#[path = "../include/nolthewyr.rs"]
-mod nolthewyr;
-
-use nolthewyr::{cancel, open, release, request, step, Answer, Call, Record, Settings};
+use nolthewyr::{Cause, Phase, Record, Settings, Table};
 use std::process::exit;
 
-const SETTINGS: Settings = Settings { levels: 3, distance: 2, wait: 5 };
-const CLIENTS: usize = 2;
-const WORDS: usize = 21;
-const MOST_STEPS: usize = 8;
-const IDLE: u64 = 0;
-const HELD: u64 = 9;
+/// Longer than a claim takes: from its first climb to its last notice at most 23 steps.
+const WAIT: u64 = 30;
+/// No window takes so many if nobody is in its way.
+const MOST_STEPS: usize = 300;
+const FIRST_PAUSE: u64 = 100;
+const WORK: u64 = 800;
 
-type OnTable = fn(&mut [Record], &mut [u64], Settings, Call) -> Answer;
-
-struct Table {
-    records: Vec<Record>,
-    words: Vec<u64>,
-    last: u64,
+struct Clients {
+    table: Table,
+    /// Here a count of steps and pauses; clients that run by themselves read a clock that they share.
+    now: u64,
 }
 
-impl Table {
-    fn opened() -> Table {
-        let mut table = Table { records: vec![Record::default(); CLIENTS], words: vec![0; WORDS], last: 0 };
-        let number = open(&mut table.records, &mut table.words, SETTINGS);
-        println!("open: number {number}");
-        if number != 0 {
-            exit(1);
+impl Clients {
+    fn record(&self, client: usize) -> &Record {
+        self.table.record(client).expect("there are two clients")
+    }
+
+    fn step(&mut self, client: usize) -> Result<Phase, Cause> {
+        self.now += 1;
+        self.table.step(client, self.now)
+    }
+
+    fn step_until_idle(&mut self, client: usize) -> Result<(), Cause> {
+        while self.record(client).phase != Phase::IDLE {
+            self.step(client)?;
         }
-        table
+        println!("client {client} is idle at {}: {}", self.now, self.record(client).outcome);
+        Ok(())
     }
 
-    fn record(&self, client: u64) -> &Record {
-        &self.records[client as usize]
-    }
-
-    /// Makes a call on what the last one left and says what came of it.
-    fn make(&mut self, name: &str, on_table: OnTable, client: u64, a: u64, b: u64) {
-        let call = Call { client, a, b, last: self.last, ..Call::default() };
-        let Answer { number, clock } = on_table(&mut self.records, &mut self.words, SETTINGS, call);
-        self.last = clock;
-        println!("client {client} {name}: number {number}, phase {}, clock {clock}", self.record(client).phase);
-        if number != 0 {
-            exit(1);
-        }
-    }
-
-    /// The clock here is a count of steps; a caller that waits for others takes it from a clock that they share.
-    fn step(&mut self, client: u64) {
-        self.make("step", step, client, self.last + 1, 0);
-    }
-
-    fn steps_until_idle(&mut self, client: u64) {
-        while self.record(client).phase != IDLE {
-            self.step(client);
-        }
-        println!("client {client} is idle, outcome {}", self.record(client).outcome);
-    }
-
-    /// Steps until the window is held. A client that is late is idle without it, and one that has to wait too long gives up.
-    fn take(&mut self, client: u64, l: u64, r: u64) {
-        self.make("request", request, client, l, r);
+    /// Whether the client holds the window after a limited number of steps. If not it is idle again: it was late, or it gave up.
+    fn attempt(&mut self, client: usize, left: u64, right: u64) -> Result<bool, Cause> {
+        let mut phase = self.table.request(client, left, right)?;
         for _ in 0..MOST_STEPS {
-            if matches!(self.record(client).phase, IDLE | HELD) {
+            if matches!(phase, Phase::HELD | Phase::IDLE) {
                 break;
             }
-            self.step(client);
+            phase = self.step(client)?;
         }
-        if self.record(client).phase == HELD {
-            let Record { left, right, .. } = self.record(client);
-            println!("client {client} holds [{left}, {right})");
-            return;
+        if phase == Phase::HELD {
+            return Ok(true);
         }
-        if self.record(client).phase != IDLE {
-            self.make("cancel", cancel, client, 0, 0);
+        if !matches!(phase, Phase::IDLE | Phase::RETURNING) {
+            self.table.cancel(client)?;
         }
-        self.steps_until_idle(client);
+        self.step_until_idle(client)?;
+        Ok(false)
     }
 
-    fn give_back(&mut self, client: u64) {
-        self.make("release", release, client, 0, 0);
-        self.steps_until_idle(client);
+    fn release(&mut self, client: usize) -> Result<(), Cause> {
+        self.table.release(client)?;
+        self.step_until_idle(client)
     }
+
+    /// A client that runs by itself sleeps here. In this program client 0 ends its work meanwhile.
+    fn let_pass(&mut self, client: usize, pause: u64) -> Result<(), Cause> {
+        self.now += pause;
+        println!("client {client} has paused until {}", self.now);
+        if self.record(0).phase == Phase::HELD && self.now >= WORK {
+            self.release(0)?;
+        }
+        Ok(())
+    }
+
+    /// Asks until the window is held, with a pause after each attempt that is twice as long as the one before.
+    fn take(&mut self, client: usize, left: u64, right: u64) -> Result<(), Cause> {
+        let mut pause = FIRST_PAUSE;
+        while !self.attempt(client, left, right)? {
+            self.let_pass(client, pause)?;
+            pause *= 2;
+        }
+        println!("client {client} holds [{left}, {right}) at {}", self.now);
+        Ok(())
+    }
+}
+
+fn run(levels: u64) -> Result<(), Cause> {
+    let table = Table::open(Settings { levels, distance: 2, wait: WAIT }, 2)?;
+    let mut clients = Clients { table, now: 0 };
+    clients.take(0, 10, 20)?;
+    clients.take(1, 15, 30)?;
+    clients.release(1)
 }
 
 fn main() {
-    let mut table = Table::opened();
-    table.take(0, 10, 20);
-    table.take(1, 15, 30);
-    table.give_back(0);
-    table.take(1, 15, 30);
-    table.give_back(1);
+    let levels = std::env::args().nth(1).map_or(3, |levels| levels.parse().unwrap_or(0));
+    if let Err(cause) = run(levels) {
+        eprintln!("refused by {}: {cause}", cause.0);
+        exit(1);
+    }
 }

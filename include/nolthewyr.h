@@ -1,6 +1,7 @@
-/* The calls of the static library `table`, which `rt staticlib table` builds. docs/LINKING.md says how to use them.
+/* Locks on windows of one long table of units, for C and C++. docs/LINKING.md says how a window is taken and given back.
  *
- * The proof of these functions assumes what Rust's references give. From C it is the caller's duty:
+ * The library allocates nothing: the caller lends records and words. The proof of the calls assumes what Rust's references give, and
+ * from C it is the caller's duty:
  * - each length is true: `records` has `clients` elements and `words` has `count`, both at aligned addresses;
  * - the two arrays do not overlap;
  * - while a call runs nobody else reads or writes them, and between the calls of one table nobody else writes them.
@@ -16,16 +17,55 @@
 extern "C" {
 #endif
 
-/* H (2..12), m (1..4) and wait T (1..2^32 - 1). The words of a table are (4^H - 1) / 3. */
-typedef struct {
+/* The version of this header. Records grow between versions: a program goes with a library whose first two numbers are the same. */
+#define NOLTHEWYR_VERSION "0.1.0"
+
+/* Where a client is. It holds its window exactly while its phase is 9. */
+enum nolthewyr_phase {
+    NOLTHEWYR_PHASE_IDLE = 0,
+    NOLTHEWYR_PHASE_TICKET = 1,
+    NOLTHEWYR_PHASE_TURN = 2,
+    NOLTHEWYR_PHASE_CLIMB = 3,
+    NOLTHEWYR_PHASE_BLOCKED = 4,
+    NOLTHEWYR_PHASE_CLAIM = 5,
+    NOLTHEWYR_PHASE_NOTIFY = 6,
+    NOLTHEWYR_PHASE_WAIT = 7,
+    NOLTHEWYR_PHASE_CHECK = 8,
+    NOLTHEWYR_PHASE_HELD = 9,
+    NOLTHEWYR_PHASE_RETURNING = 10
+};
+
+/* How a client's last window ended, from phase 10 on until its next request. */
+enum nolthewyr_outcome {
+    NOLTHEWYR_OUTCOME_NONE = 0,
+    NOLTHEWYR_OUTCOME_RELEASED = 1,
+    NOLTHEWYR_OUTCOME_LATE = 2,
+    NOLTHEWYR_OUTCOME_CANCELLED = 3
+};
+
+/* The number that a call answers: accepted, or why it is refused. nolthewyr_cause_text says each in words. */
+enum nolthewyr_cause {
+    NOLTHEWYR_CAUSE_ACCEPTED = 0,
+    NOLTHEWYR_CAUSE_SETTINGS = 1,
+    NOLTHEWYR_CAUSE_WORD_COUNT = 2,
+    NOLTHEWYR_CAUSE_CLIENT_COUNT = 3,
+    NOLTHEWYR_CAUSE_CLIENT = 4,
+    NOLTHEWYR_CAUSE_CLOCK = 5,
+    NOLTHEWYR_CAUSE_UNREADABLE = 6,
+    NOLTHEWYR_CAUSE_WINDOW = 7,
+    NOLTHEWYR_CAUSE_PHASE = 8,
+    NOLTHEWYR_CAUSE_CLEAR_BIT = 9
+};
+
+/* The levels H of the tree (2..12), the distance m of notices (1..4) and the wait T (1..2^32 - 1). */
+typedef struct nolthewyr_settings {
     uint64_t levels;
     uint64_t distance;
     uint64_t wait;
-} Settings;
+} nolthewyr_settings;
 
-/* A client record. A caller reads the phase (0 idle, 9 held, 10 returning), the outcome (1 released, 2 late, 3 cancelled) and the
- * window, and writes nothing. */
-typedef struct {
+/* A client record. A caller reads the phase, the outcome and the window [left, right), and writes nothing. */
+typedef struct nolthewyr_record {
     uint64_t phase;
     uint64_t outcome;
     uint64_t left;
@@ -40,38 +80,64 @@ typedef struct {
     uint64_t notices;
     uint64_t t1;
     uint64_t t0;
-} Record;
+} nolthewyr_record;
 
 /* A request has its edges in a and b, a step its clock in a. `last` is the clock that the call before answered, 0 after an opening.
- * The functions below do not look at `kind`. */
-typedef struct {
+ * No function looks at `kind`. */
+typedef struct nolthewyr_call {
     uint64_t kind;
     uint64_t client;
     uint64_t a;
     uint64_t b;
     uint64_t last;
-} Call;
+} nolthewyr_call;
 
-/* The number (0 accepted, 1..9 the cause of a refusal) and the clock after the call. */
-typedef struct {
+/* The number, and the clock after the call. */
+typedef struct nolthewyr_answer {
     uint64_t number;
     uint64_t clock;
-} Answer;
+} nolthewyr_answer;
+
+/* The number, the nodes of a window (second 0 for none), and how many units they have beyond it; all 0 in a refused answer. */
+typedef struct nolthewyr_cover_answer {
+    uint64_t number;
+    uint64_t first;
+    uint64_t second;
+    uint64_t over;
+} nolthewyr_cover_answer;
+
+/* How many words a tree of so many levels has, (4^levels - 1) / 3; 0 for levels that no tree has. */
+uint64_t nolthewyr_word_count(uint64_t levels);
 
 /* Tests the settings, the count of words and the count of clients, then zeroes all words and records; the clock is then 0. */
-uint64_t table_open(Record *records, size_t clients, uint64_t *words, size_t count, Settings settings);
+uint64_t nolthewyr_open(nolthewyr_record *records, size_t clients, uint64_t *words, size_t count, nolthewyr_settings settings);
 
 /* Asks for [a, b) for an idle client: its record then has the window and its pieces, and no word is touched. */
-Answer table_request(Record *records, size_t clients, uint64_t *words, size_t count, Settings settings, Call call);
+nolthewyr_answer nolthewyr_request(nolthewyr_record *records, size_t clients, uint64_t *words, size_t count,
+                                   nolthewyr_settings settings, nolthewyr_call call);
 
 /* Does the one thing that the client's phase says, at clock a, touches at most one word, and answers a as the clock. */
-Answer table_step(Record *records, size_t clients, uint64_t *words, size_t count, Settings settings, Call call);
+nolthewyr_answer nolthewyr_step(nolthewyr_record *records, size_t clients, uint64_t *words, size_t count,
+                                nolthewyr_settings settings, nolthewyr_call call);
 
 /* Ends the holding of a client in phase 9, which then gives its words back by steps until it is idle with outcome 1. */
-Answer table_release(Record *records, size_t clients, uint64_t *words, size_t count, Settings settings, Call call);
+nolthewyr_answer nolthewyr_release(nolthewyr_record *records, size_t clients, uint64_t *words, size_t count,
+                                   nolthewyr_settings settings, nolthewyr_call call);
 
 /* Gives up a window that is not yet held: the client gives back by steps what it has, if anything, and is idle with outcome 3. */
-Answer table_cancel(Record *records, size_t clients, uint64_t *words, size_t count, Settings settings, Call call);
+nolthewyr_answer nolthewyr_cancel(nolthewyr_record *records, size_t clients, uint64_t *words, size_t count,
+                                  nolthewyr_settings settings, nolthewyr_call call);
+
+/* The nodes that a request for [left, right) would take. Tests the levels, then the window. */
+nolthewyr_cover_answer nolthewyr_cover(uint64_t levels, uint64_t left, uint64_t right);
+
+/* A number in plain words. Each has a text, an unknown one too. Causes 10 and 11 are those of the program rangelog. */
+const char *nolthewyr_phase_text(uint64_t number);
+const char *nolthewyr_outcome_text(uint64_t number);
+const char *nolthewyr_cause_text(uint64_t number);
+
+/* The version of the library, to be compared with that of the header. */
+const char *nolthewyr_version(void);
 
 #ifdef __cplusplus
 }

@@ -1,7 +1,37 @@
-//! The calls of the static library `table` for Rust. The slices of these functions give what the proof assumes: lengths that are
-//! true, records and words that do not overlap, and nobody else who reads or writes them meanwhile. include/nolthewyr.h says what
-//! each struct and function is.
+//! Locks on windows of one long table of units, for Rust 1.82 and later. `Table` is the way to use them: it owns all that the calls
+//! need. The functions over slices are the same calls on memory that the caller keeps, and below them are the functions as they are
+//! linked. include/nolthewyr.h says what each struct and function is.
 #![allow(dead_code)]
+
+use std::ffi::{c_char, CStr};
+use std::fmt;
+
+/// A number that has a name for each of its values. It is written by the library's text, which an unknown number has too.
+macro_rules! named_number {
+    ($name:ident by $text:ident: $($constant:ident = $number:literal),+) => {
+        #[repr(transparent)]
+        #[derive(Clone, Copy, Debug, Default, Eq, Hash, Ord, PartialEq, PartialOrd)]
+        pub struct $name(pub u64);
+
+        impl $name {
+            $(pub const $constant: $name = $name($number);)+
+        }
+
+        impl fmt::Display for $name {
+            fn fmt(&self, f: &mut fmt::Formatter) -> fmt::Result {
+                f.pad(library_text($text(self.0)))
+            }
+        }
+    };
+}
+
+named_number!(Phase by nolthewyr_phase_text: IDLE = 0, TICKET = 1, TURN = 2, CLIMB = 3, BLOCKED = 4, CLAIM = 5, NOTIFY = 6, WAIT = 7,
+    CHECK = 8, HELD = 9, RETURNING = 10);
+named_number!(Outcome by nolthewyr_outcome_text: NONE = 0, RELEASED = 1, LATE = 2, CANCELLED = 3);
+named_number!(Cause by nolthewyr_cause_text: ACCEPTED = 0, SETTINGS = 1, WORD_COUNT = 2, CLIENT_COUNT = 3, CLIENT = 4, CLOCK = 5,
+    UNREADABLE = 6, WINDOW = 7, PHASE = 8, CLEAR_BIT = 9);
+
+impl std::error::Error for Cause {}
 
 #[repr(C)]
 #[derive(Clone, Copy, Debug, PartialEq)]
@@ -14,8 +44,8 @@ pub struct Settings {
 #[repr(C)]
 #[derive(Clone, Copy, Debug, Default, PartialEq)]
 pub struct Record {
-    pub phase: u64,
-    pub outcome: u64,
+    pub phase: Phase,
+    pub outcome: Outcome,
     pub left: u64,
     pub right: u64,
     pub first: u64,
@@ -47,31 +77,143 @@ pub struct Answer {
     pub clock: u64,
 }
 
-// The functions as they are linked; the safe ones below call them.
-extern "C" {
-    pub fn table_open(records: *mut Record, clients: usize, words: *mut u64, count: usize, settings: Settings) -> u64;
-    pub fn table_request(records: *mut Record, clients: usize, words: *mut u64, count: usize, settings: Settings, call: Call) -> Answer;
-    pub fn table_step(records: *mut Record, clients: usize, words: *mut u64, count: usize, settings: Settings, call: Call) -> Answer;
-    pub fn table_release(records: *mut Record, clients: usize, words: *mut u64, count: usize, settings: Settings, call: Call) -> Answer;
-    pub fn table_cancel(records: *mut Record, clients: usize, words: *mut u64, count: usize, settings: Settings, call: Call) -> Answer;
+#[repr(C)]
+#[derive(Clone, Copy, Debug, Default, PartialEq)]
+pub struct CoverAnswer {
+    pub number: u64,
+    pub first: u64,
+    pub second: u64,
+    pub over: u64,
 }
 
+/// More clients than a table has.
+const TOO_MANY_CLIENTS: usize = 32_768;
+
+type OnTable = fn(&mut [Record], &mut [u64], Settings, Call) -> Answer;
+
+/// An opened table. It owns its words, records, settings and last clock, so that every call is made on what the call before left.
+/// Each call gives the client's phase after it.
+#[derive(Clone, Debug)]
+pub struct Table {
+    settings: Settings,
+    records: Vec<Record>,
+    words: Vec<u64>,
+    clock: u64,
+}
+
+impl Table {
+    /// Opens a table for clients 0 up to `clients` less 1. The library refuses what no table has, and it does so on little memory: it is
+    /// lent no words for levels outside 2..12, and not more records than the first count that is too high.
+    pub fn open(settings: Settings, clients: usize) -> Result<Table, Cause> {
+        let records = vec![Record::default(); clients.min(TOO_MANY_CLIENTS)];
+        let words = vec![0; word_count(settings.levels) as usize];
+        let mut table = Table { settings, records, words, clock: 0 };
+        accepted(open(&mut table.records, &mut table.words, settings))?;
+        Ok(table)
+    }
+
+    /// Asks for [left, right) for an idle client.
+    pub fn request(&mut self, client: usize, left: u64, right: u64) -> Result<Phase, Cause> {
+        self.make(request, client, left, right)
+    }
+
+    /// Does the one thing that the client's phase says, at a clock that is never below the last one.
+    pub fn step(&mut self, client: usize, clock: u64) -> Result<Phase, Cause> {
+        self.make(step, client, clock, 0)
+    }
+
+    /// Ends the holding of a client, which then gives its words back by steps until it is idle.
+    pub fn release(&mut self, client: usize) -> Result<Phase, Cause> {
+        self.make(release, client, 0, 0)
+    }
+
+    /// Gives up a window that is not yet held. What the client has of it, it gives back by steps until it is idle.
+    pub fn cancel(&mut self, client: usize) -> Result<Phase, Cause> {
+        self.make(cancel, client, 0, 0)
+    }
+
+    /// The client's record, if there is such a client.
+    pub fn record(&self, client: usize) -> Option<&Record> {
+        self.records.get(client)
+    }
+
+    /// The last clock: that of the last accepted step of any client, 0 before the first.
+    pub fn clock(&self) -> u64 {
+        self.clock
+    }
+
+    fn make(&mut self, on_table: OnTable, client: usize, a: u64, b: u64) -> Result<Phase, Cause> {
+        let call = Call { client: client as u64, a, b, last: self.clock, ..Call::default() };
+        let answer = on_table(&mut self.records, &mut self.words, self.settings, call);
+        accepted(answer.number)?;
+        self.clock = answer.clock;
+        Ok(self.records[client].phase)
+    }
+}
+
+fn accepted(number: u64) -> Result<(), Cause> {
+    match Cause(number) {
+        Cause::ACCEPTED => Ok(()),
+        cause => Err(cause),
+    }
+}
+
+/// The nodes that a request for [left, right) would take.
+pub fn cover(levels: u64, left: u64, right: u64) -> Result<CoverAnswer, Cause> {
+    let answer = nolthewyr_cover(levels, left, right);
+    accepted(answer.number).map(|()| answer)
+}
+
+/// How many words a tree of so many levels has; 0 for levels that no tree has.
+pub fn word_count(levels: u64) -> u64 {
+    nolthewyr_word_count(levels)
+}
+
+/// The version of the library.
+pub fn version() -> &'static str {
+    library_text(nolthewyr_version())
+}
+
+/// A text that the library owns: plain letters, ended by 0, and there as long as the program runs.
+fn library_text(text: *const c_char) -> &'static str {
+    unsafe { CStr::from_ptr(text) }.to_str().unwrap_or_default()
+}
+
+// The slices of these functions give what the proof assumes: lengths that are true, records and words that do not overlap, and nobody
+// else who reads or writes them meanwhile.
+
 pub fn open(records: &mut [Record], words: &mut [u64], settings: Settings) -> u64 {
-    unsafe { table_open(records.as_mut_ptr(), records.len(), words.as_mut_ptr(), words.len(), settings) }
+    unsafe { nolthewyr_open(records.as_mut_ptr(), records.len(), words.as_mut_ptr(), words.len(), settings) }
 }
 
 pub fn request(records: &mut [Record], words: &mut [u64], settings: Settings, call: Call) -> Answer {
-    unsafe { table_request(records.as_mut_ptr(), records.len(), words.as_mut_ptr(), words.len(), settings, call) }
+    unsafe { nolthewyr_request(records.as_mut_ptr(), records.len(), words.as_mut_ptr(), words.len(), settings, call) }
 }
 
 pub fn step(records: &mut [Record], words: &mut [u64], settings: Settings, call: Call) -> Answer {
-    unsafe { table_step(records.as_mut_ptr(), records.len(), words.as_mut_ptr(), words.len(), settings, call) }
+    unsafe { nolthewyr_step(records.as_mut_ptr(), records.len(), words.as_mut_ptr(), words.len(), settings, call) }
 }
 
 pub fn release(records: &mut [Record], words: &mut [u64], settings: Settings, call: Call) -> Answer {
-    unsafe { table_release(records.as_mut_ptr(), records.len(), words.as_mut_ptr(), words.len(), settings, call) }
+    unsafe { nolthewyr_release(records.as_mut_ptr(), records.len(), words.as_mut_ptr(), words.len(), settings, call) }
 }
 
 pub fn cancel(records: &mut [Record], words: &mut [u64], settings: Settings, call: Call) -> Answer {
-    unsafe { table_cancel(records.as_mut_ptr(), records.len(), words.as_mut_ptr(), words.len(), settings, call) }
+    unsafe { nolthewyr_cancel(records.as_mut_ptr(), records.len(), words.as_mut_ptr(), words.len(), settings, call) }
+}
+
+// Those that take no lent memory may be called with any numbers.
+#[rustfmt::skip]
+unsafe extern "C" {
+    pub fn nolthewyr_open(records: *mut Record, clients: usize, words: *mut u64, count: usize, settings: Settings) -> u64;
+    pub fn nolthewyr_request(records: *mut Record, clients: usize, words: *mut u64, count: usize, settings: Settings, call: Call) -> Answer;
+    pub fn nolthewyr_step(records: *mut Record, clients: usize, words: *mut u64, count: usize, settings: Settings, call: Call) -> Answer;
+    pub fn nolthewyr_release(records: *mut Record, clients: usize, words: *mut u64, count: usize, settings: Settings, call: Call) -> Answer;
+    pub fn nolthewyr_cancel(records: *mut Record, clients: usize, words: *mut u64, count: usize, settings: Settings, call: Call) -> Answer;
+    pub safe fn nolthewyr_cover(levels: u64, left: u64, right: u64) -> CoverAnswer;
+    pub safe fn nolthewyr_word_count(levels: u64) -> u64;
+    pub safe fn nolthewyr_phase_text(number: u64) -> *const c_char;
+    pub safe fn nolthewyr_outcome_text(number: u64) -> *const c_char;
+    pub safe fn nolthewyr_cause_text(number: u64) -> *const c_char;
+    pub safe fn nolthewyr_version() -> *const c_char;
 }

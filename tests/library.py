@@ -9,7 +9,6 @@ ROOT = Path(__file__).resolve().parent.parent
 HEADER = ROOT / "tests" / "probe.h"
 SOURCE = ROOT / "tests" / "probe.c"
 RECORDS = ROOT / "tests" / "records.c"
-LIBRARIES = ROOT / "target" / "staticlib"
 
 QUERY = 8
 ANSWER = 4
@@ -29,24 +28,16 @@ def signatures():
     return found
 
 
-def newest_source():
-    """When the last of the files that a Rattle library is built from was changed."""
-    files = [ROOT / "crates.txt", *(path for path in (ROOT / "crates").rglob("*") if path.is_file())]
-    return max(path.stat().st_mtime for path in files)
-
-
 def command(*words):
     """Runs a command of the build, which says itself what is wrong when it fails."""
     if subprocess.run(words, cwd=ROOT).returncode != 0:
         raise SystemExit(f"failed: {' '.join(map(str, words))}")
 
 
-def build_library(crate):
-    """Rattle proves the crate and what it rests on, unless the library is newer than all of their files."""
-    library = LIBRARIES / f"lib{crate}.a"
-    if not library.exists() or library.stat().st_mtime < newest_source():
-        command("rt", "staticlib", crate)
-    return library
+def made(path):
+    """The file of that path under target/. The Makefile has it proved and built, unless it is newer than all that it is built from."""
+    command("make", "--silent", f"target/{path}")
+    return ROOT / "target" / path
 
 
 def build_program(library, source):

@@ -1,154 +1,184 @@
-"""Cases for linking the library `table`: the examples in C and in Rust, built and run, print what the model says, and the
-declarations that they use have the structs and functions of the Rattle source."""
+"""Cases for the declarations in C, Rust and Python: a compiler believes them, so that they are held to the Rattle source, to what the
+libraries export, to document 01's names, and to each other."""
 
 import re
 import subprocess
-from functools import lru_cache
 from itertools import zip_longest
 
 from compare import NAMES, case
-from library import ROOT, SECONDS, build_library, command
-from model import tree
-from model.history import Call, Opened
-from model.record import IDLE, Settings
+from compiled_table import library, nolthewyr
+from library import ROOT, made
 
-NAMES["example line"] = ("language", "line"), ("as the model says",)
 NAMES["declared struct"] = ("language", "struct"), ("fields", "fields unlike")
-NAMES["declared functions"] = ("language",), ("functions", "unknown to the library")
+NAMES["declared functions"] = ("place",), ("functions", "functions unlike")
+NAMES["declared names"] = ("language", "enumeration"), ("names", "names unlike")
+NAMES["text"] = ("enumeration", "number"), ("as document 01 says",)
+NAMES["compiled without a warning"] = ("place in the list of compilers",), ("exit status",)
+NAMES["version"] = ("place",), ("that of the header",)
 
-BUILT = ROOT / "target" / "tests"
-EXAMPLES = ROOT / "examples"
-INCLUDE = ROOT / "include"
-DECLARATIONS = {"C": INCLUDE / "nolthewyr.h", "Rust": INCLUDE / "nolthewyr.rs"}
-STRUCTS = {"Settings": "lock", "Record": "lock", "Call": "lock", "Answer": "table"}
+HEADER = ROOT / "include" / "nolthewyr.h"
+RUST = ROOT / "include" / "nolthewyr.rs"
+TEXTS = ROOT / "library" / "texts.c"
 
-HELD = 9
-MOST_STEPS = 8
+# Each struct of the header, and the crate and the name that it has in the Rattle source.
+STRUCTS = {
+    "settings": ("lock", "Settings"), "record": ("lock", "Record"), "call": ("lock", "Call"), "answer": ("table", "Answer"),
+    "cover_answer": ("cover", "Answer"),
+}
 
+# What the documents call each number. The names of causes are short ones for the rows of document 01's table.
+ENUMERATIONS = {
+    "phase": "idle ticket turn climb blocked claim notify wait check held returning".split(),
+    "outcome": "none released late cancelled".split(),
+    "cause": "accepted settings word_count client_count client clock unreadable window phase clear_bit".split(),
+}
 
-def built_from_c(library):
-    program = BUILT / "take-c"
-    checked = "-std=c11", "-O2", "-Wall", "-Wextra", "-Werror"
-    command("gcc", *checked, "-I", INCLUDE, EXAMPLES / "take.c", library.resolve(), "-o", program)
-    return program
-
-
-def built_from_rust(library):
-    program = BUILT / "take-rust"
-    linked = "-L", f"native={library.resolve().parent}", "-l", "static=table"
-    command("rustc", "--edition", "2021", "-O", "-D", "warnings", *linked, EXAMPLES / "take.rs", "-o", program)
-    return program
-
-
-BUILDERS = {"C": built_from_c, "Rust": built_from_rust}
-
-
-@lru_cache(maxsize=None)
-def printed(language):
-    """The lines that the example prints. Its exit status must be 0."""
-    BUILT.mkdir(parents=True, exist_ok=True)
-    program = BUILDERS[language](build_library("table"))
-    return subprocess.run([program], check=True, capture_output=True, text=True, timeout=SECONDS).stdout.splitlines()
+# Words of document 01's table that the texts of the causes have.
+CAUSE_WORDS = [
+    "accepted", "levels not 2 to 12, distance not 1 to 4, or wait not 1 to 4294967295", "word count not the tree's",
+    "no clients, or over 32767", "client not below the table's count", "step clock below the last clock", "client's record unreadable",
+    "window", "request when not idle, release when not held, or cancel", "returning leaf finds a wanted bit clear", "schedule",
+    "over 6 levels or over 64 clients",
+]
+UNKNOWN = 2 ** 8, 2 ** 32, 2 ** 32 + 1, 2 ** 64 - 1
 
 
-class Told:
-    """The examples' calls made by the model, and the lines that tell of them."""
-
-    def __init__(self, settings, clients):
-        self.lock = Opened(settings, [0] * tree.node_count(settings.levels), [IDLE] * clients)
-        self.lines = ["open: number 0"]
-
-    def record(self, client):
-        return self.lock.records[client]
-
-    def make(self, kind, client, a=0, b=0):
-        made = self.lock.make(Call(kind, client, a, b))
-        self.lines.append(f"client {client} {kind}: number {made.number}, phase {made.phase}, clock {self.lock.clock}")
-
-    def step(self, client):
-        self.make("step", client, self.lock.clock + 1)
-
-    def steps_until_idle(self, client):
-        while self.record(client).phase != 0:
-            self.step(client)
-        self.lines.append(f"client {client} is idle, outcome {self.record(client).outcome}")
-
-    def take(self, client, l, r):
-        self.make("request", client, l, r)
-        steps = 0
-        while steps < MOST_STEPS and self.record(client).phase not in (0, HELD):
-            self.step(client)
-            steps += 1
-        if self.record(client).phase == HELD:
-            self.lines.append(f"client {client} holds [{l}, {r})")
-            return
-        if self.record(client).phase != 0:
-            self.make("cancel", client)
-        self.steps_until_idle(client)
-
-    def give_back(self, client):
-        self.make("release", client)
-        self.steps_until_idle(client)
+def title(name):
+    """The name of a struct in Rust and in Python."""
+    return name.title().replace("_", "")
 
 
-def told():
-    """What document 01 makes of the examples."""
-    example = Told(Settings(levels=3, distance=2, wait=5), clients=2)
-    example.take(0, 10, 20)
-    example.take(1, 15, 30)
-    example.give_back(0)
-    example.take(1, 15, 30)
-    example.give_back(1)
-    return example.lines
-
-
-def example_lines():
-    """Both examples print the model's lines, no more and no fewer. A line that differs is shown, since the comparer knows only
-    numbers."""
-    for place, language in enumerate(BUILDERS):
-        for number, (expected, line) in enumerate(zip_longest(told(), printed(language)), start=1):
-            if line != expected:
-                print(f"    the example in {language} prints {line!r} as line {number}, and not {expected!r}")
-            yield case("example line", [place, number], 1), int(line == expected)
-
-
-def source(crate):
-    return (ROOT / "crates" / crate / "src" / "lib.rt").read_text()
+def number_fields(fields, types):
+    """The fields' names in order; one that is no number of 64 bits has its type beside it."""
+    return [name if type_ in types else f"{name}: {type_}" for name, type_ in fields]
 
 
 def rattle_fields(name, text):
-    """The names of a struct's fields in order, in Rattle or Rust."""
+    """The names of a struct's fields in order, in Rattle or in Rust, where a phase and an outcome are numbers with names."""
     [body] = re.findall(rf"pub struct {name} \{{(.*?)\}}", text, re.DOTALL)
-    return re.findall(r"pub (\w+): u64,", body)
+    return number_fields(re.findall(r"pub (\w+): (\w+),", body), ("u64", "Phase", "Outcome"))
 
 
-def c_fields(name, text):
-    [body] = re.findall(rf"typedef struct \{{([^}}]*)\}} {name};", text)
-    return re.findall(r"uint64_t (\w+);", body)
+def source_fields(crate, name):
+    return rattle_fields(name, (ROOT / "crates" / crate / "src" / "lib.rt").read_text())
 
 
-FIELDS = {"C": c_fields, "Rust": rattle_fields}
+def c_fields(name):
+    [body] = re.findall(rf"typedef struct nolthewyr_{name} \{{([^}}]*)\}} nolthewyr_{name};", HEADER.read_text())
+    return number_fields(((field, type_) for type_, field in re.findall(r"(\w+) (\w+);", body)), ("uint64_t",))
+
+
+def rust_fields(name):
+    return rattle_fields(title(name), RUST.read_text())
+
+
+def python_fields(name):
+    return number_fields(getattr(nolthewyr, title(name))._fields_, (nolthewyr.c_uint64,))
 
 
 def declared_structs():
     """The structs have the fields of the Rattle source in the same order, each a number of 64 bits."""
-    for place, (language, path) in enumerate(DECLARATIONS.items()):
-        for number, (name, crate) in enumerate(STRUCTS.items()):
-            fields, declared = rattle_fields(name, source(crate)), FIELDS[language](name, path.read_text())
+    for place, fields_of in enumerate((c_fields, rust_fields, python_fields)):
+        for number, (name, in_source) in enumerate(STRUCTS.items()):
+            fields, declared = source_fields(*in_source), fields_of(name)
             unlike = sum(mine != other for mine, other in zip_longest(fields, declared))
             yield case("declared struct", [place, number], (len(fields), 0)), (len(declared), unlike)
 
 
+def exported_by_source():
+    sources = (ROOT / "crates" / "table" / "src").glob("*.rt")
+    proved = {name for path in sources for name in re.findall(r'pub extern "C" fn (\w+)\(', path.read_text())}
+    return proved | set(re.findall(r"^const char \*(\w+)\(", TEXTS.read_text(), re.MULTILINE))
+
+
+def exported(path, *options):
+    """The global names that a library defines."""
+    listed = subprocess.run(["nm", "--extern-only", "--defined-only", *options, path], check=True, capture_output=True, text=True)
+    return {name for name in re.findall(r"^[0-9a-f]+ \w (\S+)$", listed.stdout, re.MULTILINE)}
+
+
 def declared_functions():
-    """Every function that the library exports is declared, and no other."""
-    exported = set(re.findall(r'pub extern "C" fn (\w+)\(', source("table")))
-    for place, path in enumerate(DECLARATIONS.values()):
-        declared = set(re.findall(r"^(?:\w+ |    pub fn )(table_\w+)\(", path.read_text(), re.MULTILINE))
-        yield case("declared functions", [place], (len(exported), 0)), (len(declared), len(declared - exported))
+    """The declared functions and the exported ones are the same, in all languages and both libraries."""
+    expected = exported_by_source()
+    found = [
+        set(re.findall(r"^\w[\w ]*[ *](nolthewyr_\w+)\(", HEADER.read_text(), re.MULTILINE)),
+        set(re.findall(r"fn (nolthewyr_\w+)\(", RUST.read_text())),
+        {f"nolthewyr_{name}" for name in nolthewyr.FUNCTIONS},
+        exported(made("build/libnolthewyr.a")),
+        exported(made("build/libnolthewyr.so"), "--dynamic"),
+    ]
+    for place, names in enumerate(found):
+        yield case("declared functions", [place], (len(expected), 0)), (len(names), len(names ^ expected))
+
+
+def c_names(name):
+    return re.findall(rf"NOLTHEWYR_{name.upper()}_(\w+) = (\d+)", HEADER.read_text())
+
+
+def rust_names(name):
+    [listed] = re.findall(rf"named_number!\({title(name)} by nolthewyr_{name}_text: ([^)]*)\);", RUST.read_text())
+    return re.findall(r"(\w+) = (\d+)", listed)
+
+
+def python_names(name):
+    return [(named.name, named.value) for named in getattr(nolthewyr, title(name))]
+
+
+def declared_names():
+    """Every phase, outcome and cause has the same name and number in all languages."""
+    for place, names_of in enumerate((c_names, rust_names, python_names)):
+        for number, (name, names) in enumerate(ENUMERATIONS.items()):
+            found = [(named.lower(), int(at)) for named, at in names_of(name)]
+            unlike = sum(mine != other for mine, other in zip_longest(zip(names, range(len(names))), found))
+            yield case("declared names", [place, number], (len(names), 0)), (len(found), unlike)
+
+
+def texts():
+    """Phases and outcomes are said by their names, causes by document 01's words, and every other number is said to be unknown."""
+    library()
+    words = ENUMERATIONS | {"cause": CAUSE_WORDS}
+    for place, (name, said) in enumerate(words.items()):
+        text = getattr(nolthewyr, f"{name}_text")
+        for number in (*range(len(said) + 1), *UNKNOWN):
+            expected = said[number] if number < len(said) else f"unknown {name}"
+            as_said = expected in text(number) if name == "cause" else expected == text(number)
+            yield case("text", [place, number], 1), int(as_said)
+
+
+C_CHECKED = "-Wall", "-Wextra", "-Wpedantic", "-Werror", "-fsyntax-only", "-I", HEADER.parent
+COMPILERS = [
+    *(("gcc", f"-std={standard}", *C_CHECKED, TEXTS) for standard in ("c99", "c11")),
+    *(("g++", f"-std={standard}", *C_CHECKED, "-x", "c++", "-") for standard in ("c++98", "c++17")),
+    *(("rustc", "--edition", edition, "-D", "warnings", "--emit", "metadata", "-o", ROOT / "target" / "tests" / "declared", "-")
+      for edition in ("2021", "2024")),
+]
+INCLUDED = {"g++": "#include <nolthewyr.h>\n", "rustc": f'#[path = "{RUST}"]\nmod nolthewyr;\n\nfn main() {{}}\n'}
+
+
+def compiled():
+    """The header is C99, C11 and C++, and the Rust file stands in a program of either edition, without a warning."""
+    (ROOT / "target" / "tests").mkdir(parents=True, exist_ok=True)
+    for place, command in enumerate(COMPILERS):
+        ran = subprocess.run(command, input=INCLUDED.get(command[0]), text=True)
+        yield case("compiled without a warning", [place], 0), ran.returncode
+
+
+def versions():
+    """The library, its name for the loader and the Python file go with the version of the header."""
+    [version] = re.findall(r'^#define NOLTHEWYR_VERSION "(.*)"$', HEADER.read_text(), re.MULTILINE)
+    library()
+    read = subprocess.run(["objdump", "-p", made("build/libnolthewyr.so")], check=True, capture_output=True, text=True).stdout
+    series = version.rpartition(".")[0]
+    found = [nolthewyr.version() == version, nolthewyr.SERIES == series, f" libnolthewyr.so.{series}\n" in read]
+    for place, same in enumerate(found):
+        yield case("version", [place], 1), int(same)
 
 
 SUITES = {
-    "linking, the examples in C and in Rust print what the model says": example_lines,
     "linking, the declared structs are those of the source": declared_structs,
-    "linking, the declared functions are those of the source": declared_functions,
+    "linking, the declared functions are those that are exported": declared_functions,
+    "linking, phases, outcomes and causes have the documents' names in all languages": declared_names,
+    "linking, every number has a text": texts,
+    "linking, the declarations compile without a warning": compiled,
+    "linking, one version everywhere": versions,
 }

@@ -4,7 +4,7 @@ from random import Random
 
 import cover_cases
 import document_cases
-from compare import case, padded
+from compare import case
 from model import cover, tree, word
 
 
@@ -82,15 +82,6 @@ def fields_and_bits():
             low = word.shift(name)
             yield case("field", [w, low, width], word.field_at(w, low, width)), value
         yield case("add_fields", [w, 0], w), word.pack(word.unpack(w))
-
-
-def pairs(check):
-    """The cases of a check and the answers to them, apart."""
-    cases, answers = [], []
-    for asked, answer in check():
-        cases.append(asked)
-        answers.append(padded(answer if isinstance(answer, tuple) else (answer,)))
-    return cases, answers
 
 
 SUITES = {

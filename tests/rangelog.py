@@ -13,9 +13,8 @@ from shutil import rmtree
 from typing import NamedTuple
 
 from compare import NAMES, Case
-from library import ROOT, SECONDS, command, newest_source
+from library import ROOT, SECONDS, made
 
-COMPILED = ROOT / "target" / "bin" / "rangelog"
 UNLIKE = ROOT / "target" / "tests" / "unlike"
 MOST_KEPT = 60
 
@@ -31,14 +30,11 @@ class Ran(NamedTuple):
 
 @lru_cache(maxsize=None)
 def program():
-    """The command. Rattle proves and compiles the program, unless it is newer than all sources. What an earlier test of it
-    kept is removed."""
+    """The command. What an earlier test of the program kept is removed."""
     rmtree(UNLIKE, ignore_errors=True)
     if "RANGELOG" in os.environ:
         return shlex.split(os.environ["RANGELOG"])
-    if not COMPILED.exists() or COMPILED.stat().st_mtime < newest_source():
-        command("rt", "check", "rangelog")
-    return [COMPILED]
+    return [made("bin/rangelog")]
 
 
 def run(data=None, stdin=None):

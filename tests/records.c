@@ -21,10 +21,10 @@ enum { UNREADABLE = 4, ENTRIES = sizeof table / sizeof *table };
 
 struct query {
     uint64_t place, pairs;
-    Settings settings;
-    Record record;
+    nolthewyr_settings settings;
+    nolthewyr_record record;
     uint64_t count;
-    Call call;
+    nolthewyr_call call;
 };
 
 struct pair {

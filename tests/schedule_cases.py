@@ -8,7 +8,6 @@ from functools import lru_cache
 from time import sleep
 
 import rangelog
-import schedule_tool_cases
 from broken_programs import NAMES_OF_BROKEN, broken
 from compare import NAMES, Case, case
 from history_cases import WHOLE_CASE as WHOLE_CASE_LINES
@@ -185,5 +184,4 @@ SUITES = {
     **{f"rangelog, random schedules, {kind}": lambda kind=kind: random_schedules(kind) for kind in DRAWN},
     "rangelog, every refusal, number and phase occurs in random schedules": what_occurs,
     "rangelog, the files find each broken program out": broken_programs,
-    **schedule_tool_cases.SUITES,
 }

@@ -7,7 +7,7 @@ from functools import lru_cache
 from random import Random
 
 from compare import NAMES, case
-from compiled_table import Library, Table
+from compiled_table import Table, library
 from histories import TOP, Driver, Shape, Watch
 from history_cases import CAUSES, MUST_OCCUR, SHAPE, lent_with_causes
 from model import table, tree
@@ -115,7 +115,7 @@ def counts_of(numbered_shape):
 @lru_cache(maxsize=None)
 def histories():
     """Each history's shape and seed, with what was counted in it, on all processors."""
-    Library.function("open")
+    library()
     numbered = list(enumerate(shapes()))
     with ProcessPoolExecutor() as pool:
         return list(zip(numbered, pool.map(counts_of, numbered, chunksize=4)))

@@ -1,18 +1,8 @@
-//! The calls by C's convention, with the signatures that the libraries `table` and `probe` have.
+//! The calls by C's convention, with the signatures that the libraries `nolthewyr` and `probe` have.
 
 use super::Cover;
-use crate::nolthewyr::{Answer, Call, Record, Settings};
+use crate::nolthewyr::{Answer, Call, CoverAnswer, Record, Settings};
 use std::slice::from_raw_parts_mut;
-
-/// What the cover as a call answers: 0, the pieces (the second 0 for none) and their over-cover; or the cause of a refusal.
-#[repr(C)]
-#[derive(Clone, Copy, Debug, Default, PartialEq)]
-pub struct Covered {
-    pub number: u64,
-    pub first: u64,
-    pub second: u64,
-    pub over: u64,
-}
 
 /// The lent records and words, as slices.
 ///
@@ -45,10 +35,10 @@ pub unsafe extern "C" fn open(records: *mut Record, clients: usize, words: *mut 
     super::open(records, words, &settings)
 }
 
-pub unsafe extern "C" fn cover(levels: u64, l: u64, r: u64) -> Covered {
+pub unsafe extern "C" fn cover(levels: u64, l: u64, r: u64) -> CoverAnswer {
     match super::cover(levels, l, r) {
-        Ok(Cover { first, second, over }) => Covered { number: 0, first, second, over },
-        Err(cause) => Covered { number: cause as u64, ..Covered::default() },
+        Ok(Cover { first, second, over }) => CoverAnswer { number: 0, first, second, over },
+        Err(cause) => CoverAnswer { number: cause as u64, ..CoverAnswer::default() },
     }
 }
 

@@ -10,7 +10,6 @@ mod word;
 
 use crate::nolthewyr::{Answer, Call, Record, Settings};
 
-pub use record::phase;
 pub use tree::{nodes, Cover};
 
 const MOST_CLIENTS: usize = 32767;

@@ -2,21 +2,7 @@
 
 use super::tree::{cover, level, Cover};
 use super::Cause;
-use crate::nolthewyr::{Call, Record, Settings};
-
-pub mod phase {
-    pub const IDLE: u64 = 0;
-    pub const TICKET: u64 = 1;
-    pub const TURN: u64 = 2;
-    pub const CLIMB: u64 = 3;
-    pub const BLOCKED: u64 = 4;
-    pub const CLAIM: u64 = 5;
-    pub const NOTIFY: u64 = 6;
-    pub const WAIT: u64 = 7;
-    pub const CHECK: u64 = 8;
-    pub const HELD: u64 = 9;
-    pub const RETURNING: u64 = 10;
-}
+use crate::nolthewyr::{Call, Outcome, Phase, Record, Settings};
 
 /// What of its current piece a client has.
 pub mod grip {
@@ -26,19 +12,13 @@ pub mod grip {
     pub const TAKEN: u64 = 3;
 }
 
-pub mod outcome {
-    pub const RELEASED: u64 = 1;
-    pub const LATE: u64 = 2;
-    pub const CANCELLED: u64 = 3;
-}
-
 impl Settings {
     /// In which phase a piece begins.
-    pub fn first_phase(&self, node: u64) -> u64 {
+    pub fn first_phase(&self, node: u64) -> Phase {
         if self.is_leaf(node) {
-            phase::CLIMB
+            Phase::CLIMB
         } else {
-            phase::TICKET
+            Phase::TICKET
         }
     }
 }
@@ -72,18 +52,18 @@ impl Record {
     }
 
     /// A change of phase sets the place to 0, except from 3 to 4.
-    pub fn go_to(&mut self, phase: u64) {
+    pub fn go_to(&mut self, phase: Phase) {
         self.phase = phase;
         self.place = 0;
     }
 
-    pub fn become_idle(&mut self, outcome: u64) {
+    pub fn become_idle(&mut self, outcome: Outcome) {
         *self = Record { outcome, ..Record::default() };
     }
 
-    pub fn return_all(&mut self, outcome: u64) {
+    pub fn return_all(&mut self, outcome: Outcome) {
         self.outcome = outcome;
-        self.go_to(phase::RETURNING);
+        self.go_to(Phase::RETURNING);
     }
 
     fn readable(&self, settings: &Settings, last: u64) -> Result<(), Cause> {
@@ -98,7 +78,7 @@ impl Record {
         self.readable(settings, call.last)?;
         let (left, right) = (call.a, call.b);
         let Cover { first, second, .. } = cover(settings.levels, left, right).ok_or(Cause::Window)?;
-        if self.phase != phase::IDLE {
+        if self.phase != Phase::IDLE {
             return Err(Cause::Phase);
         }
         *self = Record { phase: settings.first_phase(first), left, right, first, second, ..Record::default() };
@@ -118,19 +98,19 @@ impl Record {
 
     pub fn release(&mut self, settings: &Settings, call: &Call) -> Result<(), Cause> {
         self.readable(settings, call.last)?;
-        if self.phase != phase::HELD {
+        if self.phase != Phase::HELD {
             return Err(Cause::Phase);
         }
-        self.return_all(outcome::RELEASED);
+        self.return_all(Outcome::RELEASED);
         Ok(())
     }
 
     pub fn cancel(&mut self, settings: &Settings, call: &Call) -> Result<(), Cause> {
         self.readable(settings, call.last)?;
         match self.phase {
-            phase::IDLE | phase::HELD | phase::RETURNING => return Err(Cause::Phase),
-            _ if self.current == 0 && self.grip == grip::NOTHING => self.become_idle(outcome::CANCELLED),
-            _ => self.return_all(outcome::CANCELLED),
+            Phase::IDLE | Phase::HELD | Phase::RETURNING => return Err(Cause::Phase),
+            _ if self.current == 0 && self.grip == grip::NOTHING => self.become_idle(Outcome::CANCELLED),
+            _ => self.return_all(Outcome::CANCELLED),
         }
         Ok(())
     }

@@ -1,10 +1,10 @@
 //! The step of a readable record: a method for each row of the phase table, which changes what the row names.
 
-use super::record::{grip, outcome, phase};
+use super::record::grip;
 use super::tree::{check_node, climb, level, nodes};
 use super::word::{DCNT, DMAX, OCC, TCNT, TMAX};
 use super::Cause;
-use crate::nolthewyr::{Record, Settings};
+use crate::nolthewyr::{Outcome, Phase, Record, Settings};
 
 fn word_of(words: &mut [u64], node: u64) -> &mut u64 {
     &mut words[node as usize - 1]
@@ -13,15 +13,15 @@ fn word_of(words: &mut [u64], node: u64) -> &mut u64 {
 impl Record {
     pub fn advance(&mut self, words: &mut [u64], settings: &Settings, clock: u64) -> Result<(), Cause> {
         match self.phase {
-            phase::TICKET => self.take_ticket(words),
-            phase::TURN => self.await_turn(words),
-            phase::CLIMB => self.go_up(words, clock),
-            phase::BLOCKED => self.await_ancestor(words),
-            phase::CLAIM => self.claim(words, settings, clock),
-            phase::NOTIFY => self.notify(words, settings, clock),
-            phase::WAIT => self.wait(settings, clock),
-            phase::CHECK => self.check(words, settings),
-            phase::RETURNING => return self.give_back(words, settings),
+            Phase::TICKET => self.take_ticket(words),
+            Phase::TURN => self.await_turn(words),
+            Phase::CLIMB => self.go_up(words, clock),
+            Phase::BLOCKED => self.await_ancestor(words),
+            Phase::CLAIM => self.claim(words, settings, clock),
+            Phase::NOTIFY => self.notify(words, settings, clock),
+            Phase::WAIT => self.wait(settings, clock),
+            Phase::CHECK => self.check(words, settings),
+            Phase::RETURNING => return self.give_back(words, settings),
             _ => {}
         }
         Ok(())
@@ -32,28 +32,28 @@ impl Record {
         self.ticket = TMAX.of(*word);
         TMAX.add_one(word);
         self.grip = grip::TICKET;
-        self.go_to(phase::TURN);
+        self.go_to(Phase::TURN);
     }
 
     fn await_turn(&mut self, words: &mut [u64]) {
         let node = self.piece(self.current);
         if TCNT.of(*word_of(words, node)) == self.ticket {
             self.grip = grip::TURN;
-            self.go_to(if node == 1 { phase::CLAIM } else { phase::CLIMB });
+            self.go_to(if node == 1 { Phase::CLAIM } else { Phase::CLIMB });
         }
     }
 
     fn go_up(&mut self, words: &mut [u64], clock: u64) {
         let ancestor = climb(self.piece(self.current), self.place + 1);
         if *word_of(words, ancestor) & OCC != 0 {
-            self.phase = phase::BLOCKED;
+            self.phase = Phase::BLOCKED;
             return;
         }
         if self.place == 0 {
             self.t1 = clock;
         }
         if ancestor == 1 {
-            self.go_to(phase::CLAIM);
+            self.go_to(Phase::CLAIM);
         } else {
             self.place += 1;
         }
@@ -62,7 +62,7 @@ impl Record {
     fn await_ancestor(&mut self, words: &mut [u64]) {
         let ancestor = climb(self.piece(self.current), self.place + 1);
         if *word_of(words, ancestor) & OCC == 0 {
-            self.go_to(phase::CLIMB);
+            self.go_to(Phase::CLIMB);
         }
     }
 
@@ -81,16 +81,16 @@ impl Record {
             *word ^= OCC;
             self.t0 = clock;
             self.grip = grip::TAKEN;
-            self.go_to(if node == 1 { phase::WAIT } else { phase::NOTIFY });
+            self.go_to(if node == 1 { Phase::WAIT } else { Phase::NOTIFY });
             return;
         }
         let bits = self.wanted(settings, node);
         if *word & bits == 0 {
             *word |= bits;
             self.grip = grip::TAKEN;
-            self.go_to(phase::NOTIFY);
+            self.go_to(Phase::NOTIFY);
         } else {
-            self.go_to(phase::CLIMB);
+            self.go_to(Phase::CLIMB);
         }
     }
 
@@ -104,17 +104,17 @@ impl Record {
             return;
         }
         if clock - self.t1 >= settings.wait {
-            self.return_all(outcome::LATE);
+            self.return_all(Outcome::LATE);
         } else if d == settings.levels {
             self.end_piece(settings);
         } else {
-            self.go_to(phase::WAIT);
+            self.go_to(Phase::WAIT);
         }
     }
 
     fn wait(&mut self, settings: &Settings, clock: u64) {
         if clock - self.t0 >= settings.wait {
-            self.go_to(phase::CHECK);
+            self.go_to(Phase::CHECK);
         }
     }
 
@@ -133,7 +133,7 @@ impl Record {
     /// The piece is taken: the next one begins, or the window is held.
     fn end_piece(&mut self, settings: &Settings) {
         if self.current == 1 || self.second == 0 {
-            self.go_to(phase::HELD);
+            self.go_to(Phase::HELD);
             return;
         }
         (self.current, self.grip, self.ticket, self.notices, self.t1, self.t0) = (1, grip::NOTHING, 0, 0, 0, 0);

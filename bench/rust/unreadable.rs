@@ -1,8 +1,8 @@
 //! Whether a record is unreadable, which every call asks first: the clauses of document 01's paragraph "Unreadable".
 
-use super::record::{grip, outcome, phase};
+use super::record::grip;
 use super::tree::{cover, level};
-use crate::nolthewyr::{Record, Settings};
+use crate::nolthewyr::{Outcome, Phase, Record, Settings};
 
 const MOST_TICKET: u64 = 32767;
 
@@ -11,7 +11,7 @@ impl Record {
     fn wrong_in_returning(&self, settings: &Settings, leaf: bool) -> bool {
         let no_grip = if leaf { !matches!(self.grip, grip::NOTHING | grip::TAKEN) } else { self.grip > grip::TAKEN };
         self.place > self.notices_to_return(settings)
-            || self.outcome == 0
+            || self.outcome == Outcome::NONE
             || no_grip
             || self.giving > self.current
             || self.giving == self.current && self.grip == grip::NOTHING
@@ -24,14 +24,14 @@ impl Record {
         let leaf = d == settings.levels;
         let turn = if leaf { grip::NOTHING } else { grip::TURN };
         match self.phase {
-            phase::TICKET => self.place != 0 || leaf || self.grip != grip::NOTHING,
-            phase::TURN => self.place != 0 || leaf || self.grip != grip::TICKET,
-            phase::CLIMB | phase::BLOCKED => self.place >= d - 1 || self.grip != turn,
-            phase::CLAIM => self.place != 0 || self.grip != turn,
-            phase::NOTIFY => self.place >= notices || self.notices != self.place || self.grip != grip::TAKEN,
-            phase::WAIT => self.place != 0 || leaf || self.grip != grip::TAKEN,
-            phase::CHECK => leaf || self.place >= settings.check_count(d) || self.grip != grip::TAKEN,
-            phase::HELD => self.place != 0 || self.current == 0 && self.second != 0 || self.grip != grip::TAKEN,
+            Phase::TICKET => self.place != 0 || leaf || self.grip != grip::NOTHING,
+            Phase::TURN => self.place != 0 || leaf || self.grip != grip::TICKET,
+            Phase::CLIMB | Phase::BLOCKED => self.place >= d - 1 || self.grip != turn,
+            Phase::CLAIM => self.place != 0 || self.grip != turn,
+            Phase::NOTIFY => self.place >= notices || self.notices != self.place || self.grip != grip::TAKEN,
+            Phase::WAIT => self.place != 0 || leaf || self.grip != grip::TAKEN,
+            Phase::CHECK => leaf || self.place >= settings.check_count(d) || self.grip != grip::TAKEN,
+            Phase::HELD => self.place != 0 || self.current == 0 && self.second != 0 || self.grip != grip::TAKEN,
             _ => self.wrong_in_returning(settings, leaf),
         }
     }
@@ -39,10 +39,10 @@ impl Record {
     /// All clauses have one answer, so their order is free: those that go by the phase are last.
     #[inline(always)]
     pub fn unreadable(&self, settings: &Settings, last: u64) -> bool {
-        if self.phase > phase::RETURNING || self.outcome > outcome::CANCELLED {
+        if self.phase > Phase::RETURNING || self.outcome > Outcome::CANCELLED {
             return true;
         }
-        if self.phase == phase::IDLE {
+        if self.phase == Phase::IDLE {
             return *self != Record { outcome: self.outcome, ..Record::default() };
         }
         let cover = cover(settings.levels, self.left, self.right);
@@ -56,7 +56,7 @@ impl Record {
         let notices = settings.notify_count(d);
         self.notices > notices
             || self.notices != 0 && self.grip < grip::TAKEN
-            || self.phase != phase::RETURNING && (self.outcome != 0 || self.giving != 0)
+            || self.phase != Phase::RETURNING && (self.outcome != Outcome::NONE || self.giving != 0)
             || self.wrong_in_phase(settings, d, notices)
     }
 }

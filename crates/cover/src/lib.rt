@@ -25,6 +25,12 @@ pub struct Piece {
     pub over: u64,
 }
 
+// The numbers of a window's pieces, second 0 for none.
+pub struct Numbers {
+    pub first: u64,
+    pub second: u64,
+}
+
 // How many levels above the leaves the units l and u lie in one node: the pairs of bits up to the highest in which their leaves' places differ.
 fn rise(l: u64, u: u64) -> u64
     ensures { λ k. ⌜ k ≡ rise l u ⌝ }
@@ -129,7 +135,7 @@ fn refuse(cause: u64) -> Answer
 }
 
 // Whether [l, r) is no window of the tree.
-fn outside(h: u64, l: u64, r: u64) -> bool
+pub fn outside(h: u64, l: u64, r: u64) -> bool
     requires { ⌜ (2 ≤ h) × (h ≤ 12) ⌝ }
     ensures { λ b. ⌜ b ≡ windowOutside h l r ⌝ }
 {
@@ -172,4 +178,23 @@ pub fn not_cover(h: u64, l: u64, r: u64, first: u64, second: u64) -> bool
         return true;
     }
     other_pieces(h, l, r, first, second)
+}
+
+// The pieces by their numbers alone, as a request keeps them: no over-cover is worked out here either.
+pub fn piece_numbers(h: u64, l: u64, r: u64) -> Numbers
+    requires { ⌜ Window h l r ⌝ }
+    ensures first { λ p. ⌜ p .first ≡ getD (leastCover 2 h l r) 0 0 ⌝ }
+    ensures second { λ p. ⌜ p .second ≡ getD (leastCover 2 h l r) 1 0 ⌝ }
+{
+    let t = cut(h, l, r);
+    if t == 0 {
+        return Numbers {
+            first: lowest_node(h, l, r),
+            second: 0,
+        };
+    }
+    Numbers {
+        first: lowest_node(h, l, t),
+        second: lowest_node(h, t, r),
+    }
 }

@@ -131,11 +131,11 @@ impl Record {
         requires { ⌜ Settled settings ⌝ }
         ensures { λ s. ⌜ s ≡ answered (firstCause ((windowOutside (settings .levels) (call .a) (call .b), 7) ∷ (differ (self .phase) 0, 8) ∷ [])) self (call .last) (requested settings (call .a) (call .b)) (call .last) ⌝ }
     {
-        let cover = cover::cover(settings.levels, call.a, call.b);
-        if cover.number != 0 {
+        if cover::outside(settings.levels, call.a, call.b) {
             return self.refused(7, call.last);
         }
-        let next = Record::requested(settings, call.a, call.b, cover.first, cover.second);
+        let pieces = cover::piece_numbers(settings.levels, call.a, call.b);
+        let next = Record::requested(settings, call.a, call.b, pieces.first, pieces.second);
         self.unless(self.phase != 0, next, call.last)
     }
 

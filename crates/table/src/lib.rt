@@ -8,6 +8,7 @@ use lock::Call;
 use lock::Record;
 use lock::Settings;
 
+mod by_levels;
 mod causes;
 mod zeroes;
 
@@ -50,7 +51,7 @@ pub fn table_act(
 
 // Tests 1, 2, 3, 4, 6, 7, 8.
 #[no_mangle]
-pub extern "C" fn table_request(
+pub extern "C" fn nolthewyr_request(
     records: &mut [Record],
     words: &mut [u64],
     settings: Settings,
@@ -63,7 +64,7 @@ pub extern "C" fn table_request(
 
 // Tests 1, 2, 3, 4, 5, 6, 9.
 #[no_mangle]
-pub extern "C" fn table_step(
+pub extern "C" fn nolthewyr_step(
     records: &mut [Record],
     words: &mut [u64],
     settings: Settings,
@@ -76,7 +77,7 @@ pub extern "C" fn table_step(
 
 // Tests 1, 2, 3, 4, 6, 8.
 #[no_mangle]
-pub extern "C" fn table_release(
+pub extern "C" fn nolthewyr_release(
     records: &mut [Record],
     words: &mut [u64],
     settings: Settings,
@@ -89,7 +90,7 @@ pub extern "C" fn table_release(
 
 // Tests 1, 2, 3, 4, 6, 8.
 #[no_mangle]
-pub extern "C" fn table_cancel(
+pub extern "C" fn nolthewyr_cancel(
     records: &mut [Record],
     words: &mut [u64],
     settings: Settings,
@@ -102,7 +103,11 @@ pub extern "C" fn table_cancel(
 
 // "Opening tests 1 to 3, then zeroes words, records and clock." The clock travels beside the table: it is 0 from here on.
 #[no_mangle]
-pub extern "C" fn table_open(records: &mut [Record], words: &mut [u64], settings: Settings) -> u64
+pub extern "C" fn nolthewyr_open(
+    records: &mut [Record],
+    words: &mut [u64],
+    settings: Settings,
+) -> u64
     ensures { λ n. ⌜ result n (now (records .exit)) (now (words .exit)) 0 ≡ Table.opening settings (lent (now (records .entry)) (now (words .entry)) 0) ⌝ }
 {
     let cause = causes::opening_cause(settings, words.len(), records.len());

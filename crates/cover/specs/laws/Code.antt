@@ -142,10 +142,10 @@ module _ {h l r t : ℕ} (w : Window h l r) (et : t ≡ cutUnit h l r) where
   halved : (t ≡ 0 → ⊥) → (edgeChild h l r (r - 1) ≡ suc (edgeChild h l r l)) × (t ≡ cut h l r)
   halved z = by-eq (edgeChild h l r (r - 1)) (suc (edgeChild h l r l)) (λ e. (e, et ∙ cut-yes h l r e)) (λ d. absurd (z (et ∙ cut-no h l r d)))
 
-  one-least : t ≡ 0 → lowest h l r ∷ [] ≡ leastCover 2 h l r
+  pub one-least : t ≡ 0 → lowest h l r ∷ [] ≡ leastCover 2 h l r
   one-least z = sym (split-least h l r w ∙ split-one h l r w (whole z))
 
-  two-least : (t ≡ 0 → ⊥) → lowest h l t ∷ lowest h t r ∷ [] ≡ leastCover 2 h l r
+  pub two-least : (t ≡ 0 → ⊥) → lowest h l t ∷ lowest h t r ∷ [] ≡ leastCover 2 h l r
   two-least z = let c = halved z in ap (λ (u : ℕ). lowest h l u ∷ lowest h u r ∷ []) (c .1) ∙ sym (split-least h l r w ∙ split-two h l r w (c .0))
 
   pub one-code : t ≡ 0 → one h l r ≡ accepted h l r (leastCover 2 h l r)

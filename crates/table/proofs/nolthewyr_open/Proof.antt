@@ -1,4 +1,4 @@
--- `table::table_open` meets its contract: a walk of its MIR, by hand, with three calls and a loop. Where `opening_cause` refuses, both slices are given up as they
+-- `table::nolthewyr_open` meets its contract: a walk of its MIR, by hand, with three calls and a loop. Where `opening_cause` refuses, both slices are given up as they
 -- are. Else the words go to `zero_words` for good, and the borrow of the records is opened once, before the loop, and closed once, after it. The invariant has the
 -- row of records at `filled ys i`: i idle records, and the rest as they were. Assumes nothing.
 use mathlib.Core.Path.{_≡_, refl, sym, _∙_, ap, subst}
@@ -74,10 +74,10 @@ use Rattle.table.proofs.zeroes.zero_words as zero-words
 use Rattle.table.proofs.zeroes.zero_words.Symbol as zero-words-def
 use Rattle.table.proofs.zeroes.zero_words.Symbol.{name as #zero-words}
 use Rattle.table.proofs.zeroes.zero_words.Met as zero-words-thm
-use Rattle.table.proofs.table_open.Key.{name as #this}
-use Rattle.table.proofs.table_open as this
-use Rattle.table.proofs.table_open.Statement as stated
-use Rattle.table.proofs.table_open.Code as code
+use Rattle.table.proofs.nolthewyr_open.Key.{name as #this}
+use Rattle.table.proofs.nolthewyr_open as this
+use Rattle.table.proofs.nolthewyr_open.Statement as stated
+use Rattle.table.proofs.nolthewyr_open.Code as code
 
 abbrev slice : Ty
 slice = sliceTy (tyRef (named 0) mut (pointee (R .written)))
@@ -337,9 +337,9 @@ module _ {M : Type 1} (𝓤 : URA M) (H : Heap 𝓤) (A : Atoms 𝓤) (W : Given
       walk-meets 𝓤 H A this.ended stayed W (goes-gave-slice 𝓤 H A W 2 0 tt (plain (λ _. R)), (goes-gave-slice 𝓤 H A W 2 1 tt (plain (λ _. u64)), (goes-none 𝓤 H A W 2 (λ _. RG) yes (λ κs x f. refl), tt))) (this.clauses 𝓤 H A mem run)
       (WpFn 𝓤 H (𝓣 .C) (𝓣 .Λ) code.function) (WpFn-mono 𝓤 H (W .laws) 𝓣 code.function) open-walks
 
-pub table-open-spec : {M : Type 1} → stated.statement M
+pub nolthewyr-open-spec : {M : Type 1} → stated.statement M
 unfolding code.routine tablesOf
-table-open-spec 𝓤 H 𝓜 𝓖 𝓡 =
+nolthewyr-open-spec 𝓤 H 𝓜 𝓖 𝓡 =
     entered 𝓤 H (tripleOf 𝓤 H (𝓖 .A) this.signature (this.spec 𝓤 H (𝓖 .A) (𝓜 .mem) (𝓡 .run)))
     (tables 𝓤 H 𝓜 𝓡 code.env .C) (tables 𝓤 H 𝓜 𝓡 code.env .Λ) #this code.function (code.unfolded 𝓤 H 𝓜 𝓡)
     (open-meets 𝓤 H (𝓖 .A) (givenOf 𝓤 H 𝓜 𝓖) (𝓜 .mem) (𝓡 .run) (tablesOf 𝓤 H 𝓜 (tables 𝓤 H 𝓜 𝓡 code.env))

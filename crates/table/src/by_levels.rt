@@ -1,0 +1,23 @@
+// What can be asked of a tree by its number of levels alone: nothing is lent.
+ghost use mathlib.Core.Path.{_≡_};
+ghost use Rattle.cover.specs.rules.Answer.{answer};
+ghost use Rattle.table.specs.rules.Wanted.{wordsWanted};
+
+// The pieces of [left, right) and their total over-cover. Tests 1 for the levels, then 7.
+#[no_mangle]
+pub extern "C" fn nolthewyr_cover(levels: u64, left: u64, right: u64) -> cover::Answer
+    ensures { λ a. ⌜ a ≡ answer levels left right ⌝ }
+{
+    cover::cover(levels, left, right)
+}
+
+// How many words are to be lent; 0 for a number of levels that no tree has.
+#[no_mangle]
+pub extern "C" fn nolthewyr_word_count(levels: u64) -> u64
+    ensures { λ n. ⌜ n ≡ wordsWanted levels ⌝ }
+{
+    if (levels < 2) | (12 < levels) {
+        return 0;
+    }
+    tree::last_node(levels)
+}

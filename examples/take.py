@@ -1,0 +1,79 @@
+"""Client 0 takes [10, 20) and works. Client 1 wants [15, 30): it gives up, pauses, asks anew, and has it once client 0 has released.
+take.py [LEVELS]: the tree has 3 levels, or as many as are said."""
+
+import sys
+
+from nolthewyr import Phase, Refused, Settings, Table, outcome_text
+
+# Longer than a claim takes: from its first climb to its last notice at most 23 steps.
+WAIT = 30
+# No window takes so many if nobody is in its way.
+MOST_STEPS = 300
+FIRST_PAUSE = 100
+WORK = 800
+
+
+class Clients:
+    """The clients of one table. `now` is here a count of steps and pauses; clients that run by themselves read a clock that they share."""
+
+    def __init__(self, table):
+        self.table, self.now = table, 0
+
+    def step(self, client):
+        self.now += 1
+        return self.table.step(client, self.now)
+
+    def step_until_idle(self, client):
+        while self.table.record(client).phase != Phase.IDLE:
+            self.step(client)
+        print(f"client {client} is idle at {self.now}: {outcome_text(self.table.record(client).outcome)}")
+
+    def attempt(self, client, left, right):
+        """Whether the client holds the window after a limited number of steps. If not it is idle again: it was late, or it gave up."""
+        phase, steps = self.table.request(client, left, right), 0
+        while steps < MOST_STEPS and phase not in (Phase.HELD, Phase.IDLE):
+            phase, steps = self.step(client), steps + 1
+        if phase == Phase.HELD:
+            return True
+        if phase not in (Phase.IDLE, Phase.RETURNING):
+            self.table.cancel(client)
+        self.step_until_idle(client)
+        return False
+
+    def release(self, client):
+        self.table.release(client)
+        self.step_until_idle(client)
+
+    def let_pass(self, client, pause):
+        """A client that runs by itself sleeps here. In this program client 0 ends its work meanwhile."""
+        self.now += pause
+        print(f"client {client} has paused until {self.now}")
+        if self.table.record(0).phase == Phase.HELD and self.now >= WORK:
+            self.release(0)
+
+    def take(self, client, left, right):
+        """Asks until the window is held, with a pause after each attempt that is twice as long as the one before."""
+        pause = FIRST_PAUSE
+        while not self.attempt(client, left, right):
+            self.let_pass(client, pause)
+            pause *= 2
+        print(f"client {client} holds [{left}, {right}) at {self.now}")
+
+
+def run(table):
+    clients = Clients(table)
+    clients.take(0, 10, 20)
+    clients.take(1, 15, 30)
+    clients.release(1)
+
+
+def main():
+    levels = int(sys.argv[1]) if len(sys.argv) > 1 else 3
+    try:
+        run(Table(Settings(levels, distance=2, wait=WAIT), clients=2))
+    except Refused as refused:
+        sys.exit(str(refused))
+
+
+if __name__ == "__main__":
+    main()

@@ -1,0 +1,67 @@
+/* What the numbers mean in words, and the version: Rattle has no strings. Rust and Python take their texts from here. */
+
+#include "nolthewyr.h"
+
+#define COUNT(texts) (sizeof(texts) / sizeof *(texts))
+
+static const char *const phases[] = {
+    [NOLTHEWYR_PHASE_IDLE] = "idle",
+    [NOLTHEWYR_PHASE_TICKET] = "ticket",
+    [NOLTHEWYR_PHASE_TURN] = "turn",
+    [NOLTHEWYR_PHASE_CLIMB] = "climb",
+    [NOLTHEWYR_PHASE_BLOCKED] = "blocked",
+    [NOLTHEWYR_PHASE_CLAIM] = "claim",
+    [NOLTHEWYR_PHASE_NOTIFY] = "notify",
+    [NOLTHEWYR_PHASE_WAIT] = "wait",
+    [NOLTHEWYR_PHASE_CHECK] = "check",
+    [NOLTHEWYR_PHASE_HELD] = "held",
+    [NOLTHEWYR_PHASE_RETURNING] = "returning",
+};
+
+static const char *const outcomes[] = {
+    [NOLTHEWYR_OUTCOME_NONE] = "none",
+    [NOLTHEWYR_OUTCOME_RELEASED] = "released",
+    [NOLTHEWYR_OUTCOME_LATE] = "late",
+    [NOLTHEWYR_OUTCOME_CANCELLED] = "cancelled",
+};
+
+/* 10 and 11 have no name: only rangelog gives them. */
+static const char *const causes[] = {
+    [NOLTHEWYR_CAUSE_ACCEPTED] = "accepted",
+    [NOLTHEWYR_CAUSE_SETTINGS] = "levels not 2 to 12, distance not 1 to 4, or wait not 1 to 4294967295",
+    [NOLTHEWYR_CAUSE_WORD_COUNT] = "word count not the tree's, (4^levels - 1) / 3",
+    [NOLTHEWYR_CAUSE_CLIENT_COUNT] = "no clients, or over 32767",
+    [NOLTHEWYR_CAUSE_CLIENT] = "client not below the table's count",
+    [NOLTHEWYR_CAUSE_CLOCK] = "step clock below the last clock",
+    [NOLTHEWYR_CAUSE_UNREADABLE] = "client's record unreadable",
+    [NOLTHEWYR_CAUSE_WINDOW] = "window empty, or past the end of the tree",
+    [NOLTHEWYR_CAUSE_PHASE] = "request when not idle, release when not held, or cancel when idle, held or returning",
+    [NOLTHEWYR_CAUSE_CLEAR_BIT] = "returning leaf finds a wanted bit clear",
+    "not a schedule",
+    "over 6 levels or over 64 clients, the limits of rangelog",
+};
+
+static const char *text(const char *const *texts, size_t count, uint64_t number, const char *unknown)
+{
+    return number < count ? texts[number] : unknown;
+}
+
+const char *nolthewyr_phase_text(uint64_t number)
+{
+    return text(phases, COUNT(phases), number, "unknown phase");
+}
+
+const char *nolthewyr_outcome_text(uint64_t number)
+{
+    return text(outcomes, COUNT(outcomes), number, "unknown outcome");
+}
+
+const char *nolthewyr_cause_text(uint64_t number)
+{
+    return text(causes, COUNT(causes), number, "unknown cause");
+}
+
+const char *nolthewyr_version(void)
+{
+    return NOLTHEWYR_VERSION;
+}

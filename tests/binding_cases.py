@@ -1,0 +1,214 @@
+"""Cases for the tables that own their memory, in Python and in Rust: openings that must be refused whatever their numbers, random
+histories held to the model call by call, covers and word counts, and what the Python file does with numbers that do not fit."""
+
+import subprocess
+from functools import lru_cache
+from random import Random
+from threading import Thread
+
+from compare import NAMES, case
+from compiled_table import library, nolthewyr
+from histories import TOP, Driver
+from library import ROOT, SECONDS, command, made
+from linking_cases import ENUMERATIONS, RUST, UNKNOWN
+from model import cover, tree
+from model.history import Opened
+from model.record import IDLE, Settings
+
+NAMES["opening of a table"] = ("language", "levels", "distance", "wait", "clients"), ("number",)
+NAMES["call on a table"] = ("language", "history", "call"), ("number", "clock", "fields unlike")
+NAMES["asked of the levels"] = ("language", "levels", "left", "right"), ("number", "first", "second", "over-cover")
+NAMES["word count"] = ("language", "levels"), ("words",)
+NAMES["text in Rust"] = ("enumeration", "number"), ("that of the library",)
+NAMES["number that does not fit"] = ("place in the list of calls",), ("raises",)
+NAMES["table in Python"] = ("claim",), ("holds",)
+
+BUILT = ROOT / "target" / "tests"
+EDITIONS = "2021", "2024"
+
+# Levels, distance, wait and clients, and the number: the first cause in the order of testing.
+OPENINGS = {
+    (2, 1, 5, 1): 0, (3, 4, 2 ** 32 - 1, 2): 0, (12, 1, 1, 3): 0, (2, 1, 5, 32767): 0,
+    (0, 1, 5, 1): 1, (1, 1, 5, 1): 1, (13, 1, 5, 1): 1, (TOP, 1, 5, 1): 1, (2 ** 32 + 2, 1, 5, 1): 1,
+    (2, 0, 5, 1): 1, (2, 5, 5, 1): 1, (2, 1, 0, 1): 1, (2, 1, 2 ** 32, 1): 1, (12, TOP, TOP, TOP): 1, (TOP, TOP, TOP, 0): 1,
+    (2, 1, 5, 0): 3, (2, 1, 5, 32768): 3, (12, 4, 9, 2 ** 32 + 1): 3, (2, 1, 5, 2 ** 63): 3, (2, 1, 5, TOP): 3,
+}
+WINDOWS = (60, 70), (0, 129), (10, 300), (100, 700), (0, 1024), (0, 1025), (5, 5), (5, 4), (TOP, 0), (0, TOP), (10, 20)
+
+
+@lru_cache(maxsize=None)
+def rust_program(edition):
+    """The program tests/table.rs, with the declarations as a crate that has the library in it."""
+    built = BUILT / f"rust-{edition}"
+    built.mkdir(parents=True, exist_ok=True)
+    checked = "rustc", "--edition", edition, "-D", "warnings", "--out-dir", built
+    linked = "-L", f"native={made('build/libnolthewyr.a').parent}", "-l", "static=nolthewyr"
+    command(*checked, "--crate-type", "rlib", *linked, RUST)
+    command(*checked, "--extern", f"nolthewyr={built / 'libnolthewyr.rlib'}", ROOT / "tests" / "table.rs")
+    return built / "table"
+
+
+def asked_of_rust(questions, edition=EDITIONS[0]):
+    """The answers to lines of words, each a line."""
+    text = "".join(f"{' '.join(map(str, question))}\n" for question in questions)
+    ran = subprocess.run([rust_program(edition)], input=text, check=True, capture_output=True, text=True, timeout=SECONDS)
+    return ran.stdout.splitlines()
+
+
+def numbers_of_rust(questions, edition=EDITIONS[0]):
+    return [tuple(map(int, line.split())) for line in asked_of_rust(questions, edition)]
+
+
+def refused(call, *arguments, **named):
+    """The number by which a call of the Python binding is refused, 0 if it is accepted."""
+    try:
+        call(*arguments, **named)
+    except nolthewyr.Refused as error:
+        assert error.text == nolthewyr.cause_text(error.number) and error.text in str(error)
+        return error.number
+    return 0
+
+
+def python_opening(levels, distance, wait, clients):
+    return refused(nolthewyr.Table, nolthewyr.Settings(levels, distance, wait), clients)
+
+
+def openings():
+    """What no table has is refused by its number, on little memory however high it is."""
+    library()
+    by_rust = numbers_of_rust([("open", *asked) for asked in OPENINGS])
+    for (asked, expected), (by_rust,) in zip(OPENINGS.items(), by_rust, strict=True):
+        yield case("opening of a table", [0, *asked], expected), python_opening(*asked)
+        yield case("opening of a table", [1, *asked], expected), by_rust
+
+
+class History:
+    """A random history made by the model: its settings and clients, its calls, and the number, clock and record after each."""
+
+    def __init__(self, seed):
+        rng = Random(f"binding {seed}")
+        self.settings = Settings(rng.choice([2, 3, 4, 6]), rng.choice(tree.DISTANCES), rng.choice([1, 2, 5, 9]))
+        self.clients = rng.choice([1, 2, 3, 6])
+        lock = Opened(self.settings, [0] * tree.node_count(self.settings.levels), [IDLE] * self.clients)
+        driver = Driver(lock, seed)
+        self.calls, self.answers = [], []
+        for _ in range(1000):
+            call = driver.next_call()
+            numbers = call[1:4] if call.kind == "request" else call[1:3] if call.kind == "step" else call[1:2]
+            self.calls.append((call.kind, *numbers))
+            number = lock.make(call).number
+            record = lock.records[call.client] if call.client < self.clients else ()
+            self.answers.append((number, lock.clock, *record))
+
+
+def python_answers(history):
+    """What a table in Python gives for every call: the number, the clock, and the client's record if there is one."""
+    table = nolthewyr.Table(nolthewyr.Settings(*history.settings), history.clients)
+    for name, client, *others in history.calls:
+        number = refused(getattr(table, name), client, *others)
+        yield number, table.clock, *(table.record(client) or ())
+
+
+def rust_answers(history, edition):
+    asked = [("open", *history.settings, history.clients), *history.calls]
+    return numbers_of_rust(asked, edition)[1:]
+
+
+def compared(place, seed, history, answers):
+    for number, (expected, found) in enumerate(zip(history.answers, answers, strict=True)):
+        unlike = sum(mine != other for mine, other in zip(expected[2:], found[2:])) + abs(len(expected) - len(found))
+        yield case("call on a table", [place, seed, number], (*expected[:2], 0)), (*found[:2], unlike)
+
+
+def calls_of_histories():
+    """Ten random histories in Python and in both editions of Rust: each call gives what the model gives."""
+    library()
+    for seed in range(10):
+        history = History(seed)
+        yield from compared(0, seed, history, list(python_answers(history)))
+        for place, edition in enumerate(EDITIONS, 1):
+            yield from compared(place, seed, history, rust_answers(history, edition))
+
+
+def python_cover(*asked):
+    """The number that a cover raises, 0 if none, and the pieces and the over-cover if there are any."""
+    number = refused(nolthewyr.cover, *asked)
+    return number, *((0, 0, 0) if number else tuple(nolthewyr.cover(*asked))[1:])
+
+
+def asked_of_levels():
+    """The cover of a window and the count of words, of trees that there are and of others."""
+    library()
+    for levels in (0, 1, 2, 3, 6, 12, 13, TOP):
+        words = tree.node_count(levels) if levels in tree.LEVELS else 0
+        answers = iter(numbers_of_rust([("word_count", levels), *(("cover", levels, *window) for window in WINDOWS)]))
+        yield case("word count", [0, levels], words), nolthewyr.word_count(levels)
+        yield case("word count", [1, levels], words), next(answers)
+        for window in WINDOWS:
+            expected = tuple(cover.cover(levels, *window))
+            yield case("asked of the levels", [0, levels, *window], expected), python_cover(levels, *window)
+            yield case("asked of the levels", [1, levels, *window], expected), next(answers)
+
+
+def texts_in_rust():
+    """A phase, an outcome and a cause are written by the library's text."""
+    library()
+    numbers = *range(13), *UNKNOWN
+    for place, name in enumerate(ENUMERATIONS):
+        texts = asked_of_rust([(name, number) for number in numbers])
+        for number, text in zip(numbers, texts, strict=True):
+            yield case("text in Rust", [place, number], 1), int(text == getattr(nolthewyr, f"{name}_text")(number))
+
+
+def raises(call):
+    try:
+        call()
+    except ValueError:
+        return 1
+    return 0
+
+
+def numbers_that_do_not_fit():
+    """ctypes cuts a number to its width, so that client 2^64 would be client 0. The Python file raises, and nothing is called."""
+    library()
+    table = nolthewyr.Table(nolthewyr.Settings(2, 1, 5), 2)
+    for outside in (-1, TOP + 1):
+        calls = [
+            lambda: table.request(outside, 10, 20), lambda: table.request(0, outside, 20), lambda: table.request(0, 10, outside),
+            lambda: table.step(outside, 1), lambda: table.step(0, outside), lambda: table.release(outside), lambda: table.cancel(outside),
+            lambda: nolthewyr.cover(outside, 10, 20), lambda: nolthewyr.cover(2, outside, 20), lambda: nolthewyr.word_count(outside),
+            lambda: nolthewyr.Settings(2, outside, 5), lambda: nolthewyr.Settings(levels=outside), lambda: nolthewyr.cause_text(outside),
+            lambda: nolthewyr.Table(nolthewyr.Settings(2, 1, 5), outside),
+        ]
+        for place, call in enumerate(calls):
+            yield case("number that does not fit", [place], 1), raises(call)
+    yield case("table in Python", [0], 1), int(table.clock == 0 and all(tuple(table.record(client)) == IDLE for client in range(2)))
+
+
+def owned_memory():
+    """What a caller does to the settings it opened with, or to a record it was given, does not reach the table, and a call waits until
+    another thread's is made."""
+    library()
+    settings = nolthewyr.Settings(2, 1, 5)
+    table = nolthewyr.Table(settings, 1)
+    table.request(0, 10, 20)
+    settings.levels, table.record(0).phase = 3, 9
+    stepping = Thread(target=table.step, args=(0, 1))
+    with table._lock:
+        stepping.start()
+        stepping.join(0.1)
+        waits = stepping.is_alive()
+    stepping.join()
+    yield case("table in Python", [1], 1), int(waits)
+    yield case("table in Python", [2], 1), int(table.clock == 1 and table.record(0).phase == nolthewyr.Phase.CLAIM)
+    yield case("table in Python", [3], 1), int(table.record(1) is None and table.record(-1) is None)
+
+
+SUITES = {
+    "bindings, an opening is refused by its number on little memory": openings,
+    "bindings, calls of random histories in Python and in Rust": calls_of_histories,
+    "bindings, covers and word counts": asked_of_levels,
+    "bindings, texts in Rust are the library's": texts_in_rust,
+    "bindings, a number of over 64 bits is refused in Python": numbers_that_do_not_fit,
+    "bindings, a table in Python owns what it was opened with": owned_memory,
+}

@@ -1,0 +1,180 @@
+"""Cases for what `make install` installs: the examples built by pkg-config against it, the Python file, the programs, their pages, and
+that uninstalling leaves nothing."""
+
+import re
+import shutil
+import subprocess
+from itertools import zip_longest
+
+from compare import NAMES, case
+from compiled_table import library, nolthewyr
+from example_lines import lines
+from library import ROOT, command
+from linking_cases import ENUMERATIONS
+from prefix import BUILDERS, asked, built, c_shared, environment, folder, place, prefix, printed, python, run, rust_shared
+
+NAMES["example line"] = ("place in the list of languages", "levels", "line"), ("as the model says",)
+NAMES["documented line"] = ("line",), ("as the model says",)
+NAMES["needs the shared library"] = ("place in the list of languages",), ("needs it",)
+NAMES["installed files"] = ("folder",), ("files", "files unlike")
+NAMES["found by Python"] = ("way",), ("found",)
+NAMES["program"] = ("claim",), ("holds",)
+NAMES["page"] = ("page",), ("warnings", "words unlike the program's")
+
+LEVELS = 3, 12
+DOCUMENT = ROOT / "docs" / "LINKING.md"
+CASE = ROOT / "schedules" / "whole-case"
+
+
+def compared(name, before, expected, found):
+    """A case for each line. One that differs is shown, since the comparer knows only numbers."""
+    for number, (wanted, line) in enumerate(zip_longest(expected, found), start=1):
+        if line != wanted:
+            print(f"    line {number} is {line!r}, and not {wanted!r}")
+        yield case(name, [*before, number], 1), int(line == wanted)
+
+
+def example_lines():
+    """The examples print the model's lines in a low tree and in the highest, no more and no fewer."""
+    for levels in LEVELS:
+        for number, builder in enumerate(BUILDERS):
+            yield from compared("example line", [number, levels], lines(levels), printed(builder, levels))
+
+
+def documented_lines():
+    """docs/LINKING.md shows what the examples print."""
+    [shown] = re.findall(r"```text\n(client 0 holds.*?)```", DOCUMENT.read_text(), re.DOTALL)
+    return compared("documented line", [], lines(LEVELS[0]), shown.splitlines())
+
+
+def linked_shared():
+    """A program that is linked with the shared library needs it by its name for the loader, and one with the archive does not."""
+    for number, builder in enumerate(BUILDERS):
+        if builder is not python:
+            needed = f" libnolthewyr.so.{nolthewyr.SERIES}\n" in run("objdump", "-p", built(builder)[0])
+            yield case("needs the shared library", [number], builder in (c_shared, rust_shared)), int(needed)
+
+
+def files(root):
+    return {str(path.relative_to(root)) for path in root.rglob("*") if not path.is_dir()}
+
+
+def expected_files():
+    [version] = asked("--modversion")
+    shared = [f"lib/libnolthewyr.so{ending}" for ending in ("", f".{nolthewyr.SERIES}", f".{version}")]
+    return {
+        "bin/rangelog", "bin/schedule", "include/nolthewyr.h", "lib/libnolthewyr.a", *shared, "lib/pkgconfig/nolthewyr.pc",
+        "share/man/man1/rangelog.1", "share/man/man1/schedule.1", "share/nolthewyr/nolthewyr.py", "share/nolthewyr/nolthewyr.rs",
+    }
+
+
+def installed_files():
+    """The files are where they belong, below DESTDIR too, and are gone when they are uninstalled."""
+    staged, expected = place("staged"), expected_files()
+    command("make", "--silent", "install", f"DESTDIR={staged}", "PREFIX=/usr")
+    found = files(prefix()), {name.removeprefix("usr/") for name in files(staged)}
+    (staged / "usr/share/nolthewyr/__pycache__").mkdir()
+    command("make", "--silent", "uninstall", f"DESTDIR={staged}", "PREFIX=/usr")
+    for number, names in enumerate(found):
+        yield case("installed files", [number], (len(expected), 0)), (len(names), len(names ^ expected))
+    yield case("installed files", [2], 0), len(files(staged)) + (staged / "usr/share/nolthewyr").exists()
+
+
+ASK = "import nolthewyr; print(nolthewyr.library_file(), nolthewyr.version())"
+
+
+def found_by_python():
+    """NOLTHEWYR_LIBRARY names the file; else it is beside the Python file, where it is installed, or where the system looks."""
+    [share], [libraries], [version] = asked("--variable=pkgdatadir"), asked("--variable=libdir"), asked("--modversion")
+    name = f"libnolthewyr.so.{nolthewyr.SERIES}"
+    alone, beside = place("alone"), place("beside")
+    for copy in (alone, beside):
+        copy.mkdir(exist_ok=True)
+        shutil.copy(f"{share}/nolthewyr.py", copy)
+    shutil.copy(f"{libraries}/{name}", beside)
+    ways = [
+        (f"{libraries}/libnolthewyr.so", {"PYTHONPATH": str(beside), "NOLTHEWYR_LIBRARY": f"{libraries}/libnolthewyr.so"}),
+        (str(beside / name), {"PYTHONPATH": str(beside)}),
+        (f"{libraries}/{name}", {"PYTHONPATH": share}),
+        (name, {"PYTHONPATH": str(alone), "LD_LIBRARY_PATH": libraries}),
+    ]
+    for way, (expected, named) in enumerate(ways):
+        yield case("found by Python", [way], 1), int(run("python3", "-c", ASK, **named).split() == [expected, version])
+
+
+def another_series():
+    """A library of another series is not used: its records may have another size."""
+    source, made = place("another.c"), place("another.so")
+    functions = (f"const char *nolthewyr_{name}(void) {{ return \"0.2.0\"; }}\n" for name in nolthewyr.FUNCTIONS)
+    source.write_text("".join(functions))
+    command("gcc", "-shared", "-fPIC", source, "-o", made)
+    named = environment(PYTHONPATH=asked("--variable=pkgdatadir")[0], NOLTHEWYR_LIBRARY=str(made))
+    ran = subprocess.run(["python3", "-c", ASK], env=named, capture_output=True, text=True)
+    yield case("found by Python", [4], 1), int(f"{made} has version 0.2.0, and this file is for" in ran.stderr)
+
+
+def programs():
+    """schedule says how it is used and by its exit status that it failed, and finds the rangelog beside it, which writes the log of the
+    whole case."""
+    log = CASE.with_suffix(".log").read_text()
+    schedule, rangelog = prefix() / "bin" / "schedule", prefix() / "bin" / "rangelog"
+    with open(CASE.with_suffix(".bin"), "rb") as case_file:
+        logged = subprocess.run([rangelog], stdin=case_file, env=environment(), cwd=folder().name, capture_output=True, text=True)
+    claims = [
+        run(schedule, "--help").startswith("usage: schedule"),
+        logged.stdout == log,
+        run(schedule, "run", "--log", CASE.with_suffix(".txt"), PATH="/usr/bin:/bin") == log,
+        subprocess.run([schedule, "run", "no-such-file"], env=environment(), capture_output=True).returncode == 3,
+    ]
+    for number, holds in enumerate(claims):
+        yield case("program", [number], 1), int(holds)
+
+
+def words_of_rangelog():
+    """The names of the phases and the texts of the causes that a log has."""
+    library()
+    named = [f"{number} {name}" for number, name in enumerate(ENUMERATIONS["phase"])]
+    return named + [f"{number} {nolthewyr.cause_text(number)}" for number in (4, 5, 7, 8, 10, 11)]
+
+
+def words_of_schedule():
+    """How it is used, by its own help: each command with its options."""
+    schedule = prefix() / "bin" / "schedule"
+    for name in re.findall(r"^    (\w+)  +\w", run(schedule, "--help"), re.MULTILINE):
+        options = re.findall(r"^  (-\w|--\w+)\b", run(schedule, name, "--help"), re.MULTILINE)
+        yield name, *sorted(set(options) - {"-h"})
+
+
+def synopsis(read):
+    """How schedule is used, by its page."""
+    [listed] = re.findall("SYNOPSIS(.*)DESCRIPTION", read)
+    for use in listed.split(" schedule ")[1:]:
+        yield use.split()[0], *sorted(re.findall(r"(?<=\[)(-\w|--\w+)\b", use))
+
+
+def pages():
+    """The pages are set without a warning. That of rangelog has the words of a log; that of schedule its commands and options, and no
+    others."""
+    for number, page in enumerate(("rangelog.1", "schedule.1")):
+        source = prefix() / "share" / "man" / "man1" / page
+        warned = subprocess.run(["groff", "-mandoc", "-ww", "-z", source], capture_output=True, text=True, check=True).stderr
+        read = " ".join(run("man", "--local-file", source, MANWIDTH="1000").split())
+        if page == "rangelog.1":
+            unlike = [word for word in words_of_rangelog() if word not in read]
+        else:
+            unlike = set(words_of_schedule()) ^ set(synopsis(read))
+        if unlike:
+            print(f"    {page} and the program differ in {', '.join(map(str, unlike))}")
+        yield case("page", [number], (0, 0)), (len(warned.splitlines()), len(unlike))
+
+
+SUITES = {
+    "installed, the examples print what the model says": example_lines,
+    "installed, docs/LINKING.md shows what the examples print": documented_lines,
+    "installed, who is linked with the shared library needs it": linked_shared,
+    "installed, all files, and none when uninstalled": installed_files,
+    "installed, Python finds the library": found_by_python,
+    "installed, Python does not use a library of another series": another_series,
+    "installed, the programs run": programs,
+    "installed, the pages have no warning and say what the programs do": pages,
+}
