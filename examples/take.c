@@ -75,11 +75,21 @@ static void let_pass(uint64_t client, uint64_t pause)
         release(0);
 }
 
-/* Asks until the window is held, with a pause after each attempt that is twice as long as the one before. */
+/* A random number below the limit: clients that gave up together must not ask anew together. Each client begins with a state of its own. */
+static uint64_t drawn(uint64_t limit)
+{
+    static uint64_t state = 88172645463325252;
+    state ^= state << 13;
+    state ^= state >> 7;
+    state ^= state << 17;
+    return state % limit;
+}
+
+/* Asks until the window is held. After each attempt it pauses for a random time, below a limit that doubles up to a last one. */
 static void take(uint64_t client, uint64_t left, uint64_t right)
 {
-    for (uint64_t pause = FIRST_PAUSE; !attempt(client, left, right); pause *= 2)
-        let_pass(client, pause);
+    for (uint64_t limit = FIRST_LIMIT; !attempt(client, left, right); limit = limit < LAST_LIMIT ? 2 * limit : LAST_LIMIT)
+        let_pass(client, drawn(limit));
     printf("client %" PRIu64 " holds [%" PRIu64 ", %" PRIu64 ") at %" PRIu64 "\n", client, left, right, now);
 }
 

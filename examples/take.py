@@ -9,15 +9,17 @@ from nolthewyr import Phase, Refused, Settings, Table, outcome_text
 WAIT = 30
 # No window takes so many if nobody is in its way.
 MOST_STEPS = 300
-FIRST_PAUSE = 100
+FIRST_LIMIT = 200
+LAST_LIMIT = 1600
 WORK = 800
 
 
 class Clients:
-    """The clients of one table. `now` is here a count of steps and pauses; clients that run by themselves read a clock that they share."""
+    """The clients of one table. `now` is here a count of steps and pauses; clients that run by themselves read a clock that they share,
+    and each begins with a `state` of its own for its random pauses."""
 
     def __init__(self, table):
-        self.table, self.now = table, 0
+        self.table, self.now, self.state = table, 0, 88172645463325252
 
     def step(self, client):
         self.now += 1
@@ -51,12 +53,20 @@ class Clients:
         if self.table.record(0).phase == Phase.HELD and self.now >= WORK:
             self.release(0)
 
+    def drawn(self, limit):
+        """A random number below the limit, as the examples in C and Rust draw it: clients that gave up together must not ask anew together.
+        A program that is not compared with others takes `random.randrange(limit)`."""
+        self.state ^= self.state << 13 & 2 ** 64 - 1
+        self.state ^= self.state >> 7
+        self.state ^= self.state << 17 & 2 ** 64 - 1
+        return self.state % limit
+
     def take(self, client, left, right):
-        """Asks until the window is held, with a pause after each attempt that is twice as long as the one before."""
-        pause = FIRST_PAUSE
+        """Asks until the window is held. After each attempt it pauses for a random time, below a limit that doubles up to a last one."""
+        limit = FIRST_LIMIT
         while not self.attempt(client, left, right):
-            self.let_pass(client, pause)
-            pause *= 2
+            self.let_pass(client, self.drawn(limit))
+            limit = min(2 * limit, LAST_LIMIT)
         print(f"client {client} holds [{left}, {right}) at {self.now}")
 
 

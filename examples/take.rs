@@ -8,13 +8,16 @@ use std::process::exit;
 const WAIT: u64 = 30;
 /// No window takes so many if nobody is in its way.
 const MOST_STEPS: usize = 300;
-const FIRST_PAUSE: u64 = 100;
+const FIRST_LIMIT: u64 = 200;
+const LAST_LIMIT: u64 = 1600;
 const WORK: u64 = 800;
 
 struct Clients {
     table: Table,
     /// Here a count of steps and pauses; clients that run by themselves read a clock that they share.
     now: u64,
+    /// Of the random pauses. Each client that runs by itself begins with a state of its own.
+    state: u64,
 }
 
 impl Clients {
@@ -69,12 +72,21 @@ impl Clients {
         Ok(())
     }
 
-    /// Asks until the window is held, with a pause after each attempt that is twice as long as the one before.
+    /// A random number below the limit: clients that gave up together must not ask anew together.
+    fn drawn(&mut self, limit: u64) -> u64 {
+        self.state ^= self.state << 13;
+        self.state ^= self.state >> 7;
+        self.state ^= self.state << 17;
+        self.state % limit
+    }
+
+    /// Asks until the window is held. After each attempt it pauses for a random time, below a limit that doubles up to a last one.
     fn take(&mut self, client: usize, left: u64, right: u64) -> Result<(), Cause> {
-        let mut pause = FIRST_PAUSE;
+        let mut limit = FIRST_LIMIT;
         while !self.attempt(client, left, right)? {
+            let pause = self.drawn(limit);
             self.let_pass(client, pause)?;
-            pause *= 2;
+            limit = LAST_LIMIT.min(2 * limit);
         }
         println!("client {client} holds [{left}, {right}) at {}", self.now);
         Ok(())
@@ -83,7 +95,7 @@ impl Clients {
 
 fn run(levels: u64) -> Result<(), Cause> {
     let table = Table::open(Settings { levels, distance: 2, wait: WAIT }, 2)?;
-    let mut clients = Clients { table, now: 0 };
+    let mut clients = Clients { table, now: 0, state: 88172645463325252 };
     clients.take(0, 10, 20)?;
     clients.take(1, 15, 30)?;
     clients.release(1)
