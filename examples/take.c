@@ -10,7 +10,7 @@
 
 /* The wait is longer than a claim takes: from its first climb to its last notice at most 23 steps. No window takes MOST_STEPS if nobody is
  * in its way. */
-enum { CLIENTS = 2, WAIT = 30, MOST_STEPS = 300, FIRST_PAUSE = 100, WORK = 800 };
+enum { CLIENTS = 2, WAIT = 30, MOST_STEPS = 300, FIRST_LIMIT = 200, LAST_LIMIT = 1600, WORK = 800 };
 
 static nolthewyr_settings settings = {.levels = 3, .distance = 2, .wait = WAIT};
 static nolthewyr_record records[CLIENTS];
