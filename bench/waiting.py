@@ -1,6 +1,6 @@
 #!/usr/bin/env python3
 """How many clients wait for each other for ever if none gives up, and what cancel and back-off make of the same wishes: the table of
-docs/WAITING.md. NOLTHEWYR_LIBRARY=target/build/libnolthewyr.so bench/waiting.py
+docs/WAITING.md: make && bench/waiting.py
 
 40 clients with windows of all sizes (the logarithm of the length is uniform) ask at the same time and step in turn, one step a tick; who
 holds releases after 20 ticks. A client that is late asks again at once.

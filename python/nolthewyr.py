@@ -99,7 +99,7 @@ def library_file():
     if asked := os.environ.get("NOLTHEWYR_LIBRARY"):
         return asked
     here = Path(__file__).resolve().parent
-    places = here / FILE, here.parent.parent / "lib" / FILE
+    places = here / FILE, here.parent.parent / "lib" / FILE, here.parent / "target" / "build" / "libnolthewyr.so"
     return next((str(place) for place in places if place.is_file()), FILE)
 
 

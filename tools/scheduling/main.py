@@ -15,6 +15,7 @@ from scheduling.streams import Streams, write_file
 from scheduling.text import LONGEST_TEXT, read_text
 from scheduling.wishes import read_wishes
 
+OLDEST_PYTHON = 3, 10
 # The parser of the command line ends with 2 itself.
 DONE, INPUT_WRONG, FAILED, INTERRUPTED = 0, 1, 3, 130
 
@@ -134,6 +135,9 @@ def do(streams, options):
 def main():
     signal.signal(signal.SIGINT, signal.default_int_handler)
     streams = Streams()
+    if sys.version_info < OLDEST_PYTHON:
+        streams.say("schedule: Python {}.{} or later is needed".format(*OLDEST_PYTHON))
+        return FAILED
     try:
         return do(streams, parser(streams).parse_args())
     except Wrong as wrong:
