@@ -8,7 +8,7 @@
 A refused call raises `Refused`. examples/take.py has the whole of it, with what to do if the window cannot be had.
 
 The shared library is the file that NOLTHEWYR_LIBRARY in the environment names; else it is looked for beside this file, where `make install`
-puts it, and where the system looks for libraries. It is loaded by the first call.
+and `make` put it, and where the system looks for libraries. It is loaded by the first call.
 """
 
 import os

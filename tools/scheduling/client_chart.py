@@ -19,20 +19,22 @@ def colour(client):
     return f"k{client % COLOURS}"
 
 
-def bar(stretch, left, right, **place):
-    """A rectangle for a stretch, with all that it says as attributes."""
+def facts(stretch):
+    """What a stretch says, as attributes."""
     start, end = stretch.start, stretch.end
-    return element("rect", element("title", in_words(stretch)), **place, x=left, width=right - left, data_client=stretch.client,
-                   data_phase=stretch.phase, data_left=stretch.left, data_right=stretch.right, data_from=start.place,
-                   data_to=end.place if end else None, data_from_clock=start.clock, data_to_clock=end.clock if end else None)
+    return dict(data_client=stretch.client, data_phase=stretch.phase, data_left=stretch.left, data_right=stretch.right,
+                data_from=start.place, data_to=end.place if end else None,
+                data_from_clock=start.clock, data_to_clock=end.clock if end else None)
+
+
+def bar(stretch, left, right, **place):
+    """A rectangle for a stretch."""
+    return element("rect", element("title", in_words(stretch)), **place, x=left, width=right - left, **facts(stretch))
 
 
 def instant(stretch, shape):
     """A stretch that begins and ends at one clock: a mark, with the attributes of a bar."""
-    start, end = stretch.start, stretch.end
-    return element("path", element("title", in_words(stretch)), class_="instant", d=shape, data_client=stretch.client,
-                   data_phase=stretch.phase, data_left=stretch.left, data_right=stretch.right, data_from=start.place, data_to=end.place,
-                   data_from_clock=start.clock, data_to_clock=end.clock)
+    return element("path", element("title", in_words(stretch)), class_="instant", d=shape, **facts(stretch))
 
 
 def words_on(stretch, room):
