@@ -10,6 +10,8 @@
 
 PREFIX = /usr/local
 DESTDIR =
+# PREFIX may be said from the folder in which make is called; the pkg-config file needs it whole.
+override PREFIX := $(abspath $(PREFIX))
 BINDIR = $(PREFIX)/bin
 LIBDIR = $(PREFIX)/lib
 INCLUDEDIR = $(PREFIX)/include

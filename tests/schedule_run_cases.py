@@ -20,7 +20,7 @@ from scheduling.waiting import wait_of
 NAMES["report of a schedule"] = ("seed",), ("rows", "unlike the log and the model", "held lines unlike", "counts unlike")
 NAMES["waiting client"] = ("seed", "client"), ("waits", "named clients that are idle or itself")
 NAMES["line of a report"] = ("place in the list of reports", "line"), ("as expected",)
-NAMES["run"] = ("place in the list of files",), ("exit status", "log as rangelog's")
+NAMES["run"] = ("place in the list of files",), ("exit status", "log as rangelog's", "said why")
 
 PHASES = ["idle", "ticket", "turn", "climb", "blocked", "claim", "notify", "wait", "check", "held", "returning"]
 OUTCOMES = ["", "released", "late", "cancelled"]
@@ -170,15 +170,16 @@ def whole_case_report():
 
 
 def runs():
-    """`run --log` prints the log of a text and of a file, and the exit status says whether the schedule was run."""
+    """`run --log` prints the log of a text and of a file, also of a file that is no schedule, and the exit status says whether the schedule
+    was run."""
     texts = sorted((ROOT / "schedules").glob("*.txt"))
     files = [(path.read_bytes(), path.with_suffix(".bin").read_bytes()) for path in texts]
-    files += [(data, data) for data in (WHOLE_CASE, *(drawn("contended", seed) for seed in range(8)), *(drawn("refused", seed) for seed in range(8)))]
+    drawn_files = (drawn(kind, seed) for kind in ("contended", "refused", "damaged") for seed in range(8))
+    files += [(data, data) for data in (WHOLE_CASE, *drawn_files, bytes(70000), bytes(5))]
     for place, (given, file) in enumerate(files):
         ran, log = started("run", "--log", data=given), schedule.log(file)
-        expected = (1, int(log == "refused 10\n")) if log.startswith("refused") else (0, 0)
-        unlike = int(ran.written.decode() != log) if expected[1] == 0 else int(ran.written == b"")
-        yield case("run", [place], expected), (ran.status, unlike)
+        refused = log.startswith("refused")
+        yield case("run", [place], (int(refused), 1, int(refused))), (ran.status, int(ran.written.decode() == log), int(ran.said != ""))
 
 
 SUITES = {

@@ -43,9 +43,14 @@ class Made(NamedTuple):
     status: int = DONE
 
 
+def is_packed(data):
+    """Some byte of every packed file is 0, the highest of its offset; no byte of a text is."""
+    return 0 in data[:LONGEST + 1]
+
+
 def read_source(data):
-    """The schedule of a text or of a packed file, which a byte 0 tells apart, and the file's bytes."""
-    if 0 in data[:LONGEST + 1]:
+    """The schedule of a text or of a packed file, and the file's bytes."""
+    if is_packed(data):
         return packed.read_file(data), data
     source = read_text(data)
     return source, packed.pack(source.schedule)
@@ -64,20 +69,36 @@ def do_unpack(streams, options):
     return Made(packed.unpack(streams.read(options.file, LONGEST)).encode())
 
 
-def run(streams, options):
-    """The schedule that was read, and the lines of its log."""
-    source, data = read_source(streams.read(options.file, LONGEST_TEXT))
+def run(data):
+    """The schedule of what was read, and the lines of its log."""
+    source, data = read_source(data)
     return source, running.whole_log(data, source.schedule)
 
 
-def do_run(streams, options):
-    source, log = run(streams, options)
-    refused = running.refusal(log)
-    if options.log:
-        return Made(lines(log), refused, INPUT_WRONG if refused else DONE)
-    if refused:
+def run_and_happened(streams, options):
+    """The schedule and what happened in it, if it was not refused as a whole."""
+    source, log = run(streams.read(options.file, LONGEST_TEXT))
+    if refused := running.refusal(log):
         raise Wrong(*refused)
-    return Made(lines(report.report(source, happened(source.schedule, log))))
+    return source, happened(source.schedule, log)
+
+
+def log_alone(data):
+    """The log, also that of a file that is no schedule, with what is wrong with it beside it."""
+    try:
+        _, log = run(data)
+    except Wrong as wrong:
+        if not is_packed(data):
+            raise
+        return Made(running.output_of(data).encode(), wrong.messages, INPUT_WRONG)
+    refused = running.refusal(log)
+    return Made(lines(log), refused, INPUT_WRONG if refused else DONE)
+
+
+def do_run(streams, options):
+    if options.log:
+        return log_alone(streams.read(options.file, LONGEST_TEXT))
+    return Made(lines(report.report(*run_and_happened(streams, options))))
 
 
 def do_plan(streams, options):
@@ -87,10 +108,8 @@ def do_plan(streams, options):
 
 
 def do_picture(streams, options):
-    source, log = run(streams, options)
-    if refused := running.refusal(log):
-        raise Wrong(*refused)
-    return Made(picture.page(happened(source.schedule, log), options.by, options.file).encode())
+    _, known = run_and_happened(streams, options)
+    return Made(picture.page(known, options.by, options.file).encode())
 
 
 COMMANDS = {
