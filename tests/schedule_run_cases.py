@@ -8,7 +8,7 @@ from compare import NAMES, case
 from library import ROOT
 from model import schedule
 from model.history import Opened, holds
-from model.record import IDLE, Settings
+from model.record import IDLE
 from random_schedules import drawn
 from schedule_files import WHOLE_CASE
 from schedule_tool import started

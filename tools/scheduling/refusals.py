@@ -2,7 +2,7 @@
 
 from model import tree
 from model.schedule import MOST_CLIENTS, MOST_LEVELS
-from scheduling.names import PHASES, window
+from scheduling.names import PHASES
 
 
 def no_such_client(clients, client):

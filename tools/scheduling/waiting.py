@@ -4,7 +4,7 @@ from functools import lru_cache
 from typing import Callable, NamedTuple
 
 from model import record as records
-from model import tree, word
+from model import word
 from model.owned import owned_by
 from model.step import wanted
 
