@@ -7,7 +7,7 @@ from scheduling.names import HELD, OUTCOMES, PHASES, RETURNING, listed, window
 from scheduling.refusals import words_for
 from scheduling.waiting import wait_of
 
-HEADINGS = ("line", "call", "log", "clock", "what happened")
+HEADINGS = "call", "log", "clock", "what happened"
 
 
 def phase_in_words(event):
@@ -29,8 +29,9 @@ def what_happened(schedule, event):
 
 
 def rows(source, events):
-    """A row for each call: the number of its line (of its call, where a file has no lines), the call, its line of the log, the clock
+    """A row for each call: the number of its line, or of the call where a file has no lines, the call, its line of the log, the clock
     after it, and what happened."""
+    yield "line" if source.lines else "number", *HEADINGS
     places = source.lines or range(len(source.written))
     for place, written, event in zip(places, source.written, events, strict=True):
         yield str(place), written, event.logged, str(event.clock), what_happened(source.schedule, event)
@@ -89,7 +90,7 @@ def section(title, lines):
 
 def report(source, happened):
     """The whole report, line by line."""
-    yield from in_columns([HEADINGS, *rows(source, happened.events)])
+    yield from in_columns(list(rows(source, happened.events)))
     yield from section("Held", held_lines(happened.events))
     yield from section("Not idle and not holding at the end", waiting_lines(happened))
     yield from section("In all", counted_lines(happened))
