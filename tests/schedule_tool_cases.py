@@ -200,6 +200,8 @@ def examples():
         yield told(f"{path.name} packed", "pack", path.read_bytes(), (0, file, ""))
         yield told(f"{path.stem}.bin unpacked", "unpack", file, (0, text.encode(), ""))
         yield told(f"{path.stem}.log", "pack", path.read_bytes(), (0, file if logged(path, file) else None, ""))
+    zeros = "tree 002 m 01 wait 5 clients 2\nrequest 0 " + "0" * 30 + "10 020\nstep 00 0"
+    yield told("leading zeros", "pack", zeros.encode(), (0, packed_text(HEAD + "request 0 10 20\nstep 0 0"), ""))
     yield told("a text that begins with a byte order mark", "pack", b"\xef\xbb\xbf" + HEAD.encode(), (0, with_header(), ""))
 
 
