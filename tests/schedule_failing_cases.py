@@ -54,7 +54,14 @@ COMMANDS = {
                                 "schedule: ls: cannot access '/no/such/file': No such file or directory\n"),
     "rangelog ends with 1": ("RANGELOG=false schedule run whole-case.txt", 3, "schedule: false ended with status 1\n"),
     "no log": ("RANGELOG=true schedule run whole-case.txt", 3,
-               "schedule: the log is not whole: it has 0 lines, for the header and 14 calls\n"),
+               "schedule: the log is not whole: it has 0 lines, and the model's has 15\n"),
+    "no log of a refused schedule": ("echo tree 7 m 1 wait 5 clients 2 | RANGELOG=true schedule run --log", 3,
+                                     "schedule: the log is not whole: it has 0 lines, and the model's has 1\n"),
+    "a log of a refused schedule": ("echo tree 7 m 1 wait 5 clients 2 | RANGELOG='echo tree 7 m 1 wait 5 clients 2' schedule run", 3,
+                                    "schedule: line 1 of the log is `tree 7 m 1 wait 5 clients 2`, and the model says `refused 11`: "
+                                    "one of the two is wrong; keep the file and report it\n"),
+    "no command for rangelog": ("RANGELOG=\"'\" schedule run whole-case.txt", 3,
+                                "schedule: RANGELOG in the environment is no command: No closing quotation\n"),
 }
 
 
@@ -86,10 +93,12 @@ def commands():
 
 # What a program in place of rangelog makes of the log of the whole case, and what is said of that.
 CHANGED_LOGS = {
-    "a line short": (LOG[:-len("13 step 1 0 9 0 256\n")], "the log is not whole: it has 14 lines, for the header and 14 calls"),
-    "a line more": (LOG + LOG[-20:], "the log is not whole: it has 16 lines, for the header and 14 calls"),
+    "a line short": (LOG[:-len("13 step 1 0 9 0 256\n")], "the log is not whole: it has 14 lines, and the model's has 15"),
+    "a line more": (LOG + LOG[-20:], "the log is not whole: it has 16 lines, and the model's has 15"),
     "cut in its last line": (LOG[:-3], "the log is not whole: it ends within its line 15, `"
                              + LOG[:-3][-80:].replace("\n", "\\n") + "`"),
+    "a refusal": ("refused 3\n", "line 1 of the log is `refused 3`, and the model says `tree 2 m 1 wait 5 clients 2`: one of the two is wrong; "
+                  "keep the file and report it"),
     "another phase": (LOG.replace("7 step 0 0 9", "7 step 0 0 8"),
                       "line 9 of the log is `7 step 0 0 8 10 20`, and the model says `7 step 0 0 9 10 20`: one of the two is wrong; keep the file and report it"),
     "another header": (LOG.replace("wait 5", "wait 6"), "line 1 of the log is `tree 2 m 1 wait 6 clients 2`, and the model says "

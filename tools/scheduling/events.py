@@ -1,13 +1,12 @@
-"""What happened: each call of a schedule with the client's record before and after it, by the model, held to the log line by line."""
+"""What happened: each call of a schedule with its line of the log, and with the client's record before and after it, by the model."""
 
 from typing import NamedTuple
 
 from model import tree
 from model.history import Call, Opened
 from model.record import IDLE, Record
-from model.schedule import header_line, line, record_after
+from model.schedule import record_after
 from scheduling.names import HELD
-from scheduling.problems import Failed
 
 
 class Event(NamedTuple):
@@ -50,22 +49,14 @@ def fresh(schedule):
     return Opened(schedule.settings, words, records)
 
 
-def agree(place, expected, logged):
-    """The log is believed only where the model, written apart from it, says the same."""
-    if logged != expected:
-        raise Failed(f"line {place} of the log is `{logged}`, and the model says `{expected}`: one of the two is wrong; keep the file and report it")
-
-
 def happened(schedule, log):
-    """What the lines of a log tell, with all that the model knows beside it."""
+    """What the lines of a log tell, which is the model's, with all that the model knows beside it."""
     opened, events = fresh(schedule), []
-    agree(1, header_line(schedule).rstrip("\n"), log[0])
     for place, (call, logged) in enumerate(zip(schedule.calls, log[1:], strict=True)):
         client_there = call.client < schedule.clients
         before, last = opened.records[call.client] if client_there else IDLE, opened.clock
         made = opened.make(call)
         after = record_after(made, opened.records)
-        agree(place + 2, line(place, made, after).rstrip("\n"), logged)
         events.append(Event(place, call, made.number, before, after, last, opened.clock, logged))
     return Happened(schedule, tuple(events), opened.words, opened.records, opened.clock)
 

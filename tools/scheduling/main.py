@@ -72,7 +72,7 @@ def do_unpack(streams, options):
 def run(data):
     """The schedule of what was read, and the lines of its log."""
     source, data = read_source(data)
-    return source, running.whole_log(data, source.schedule)
+    return source, running.whole_log(data)
 
 
 def run_and_happened(streams, options):
@@ -90,7 +90,7 @@ def log_alone(data):
     except Wrong as wrong:
         if not is_packed(data):
             raise
-        return Made(running.output_of(data).encode(), wrong.messages, INPUT_WRONG)
+        return Made(lines(running.whole_log(data)), wrong.messages, INPUT_WRONG)
     refused = running.refusal(log)
     return Made(lines(log), refused, INPUT_WRONG if refused else DONE)
 

@@ -1,4 +1,4 @@
-"""Running `rangelog`, and seeing that its whole log came."""
+"""Running `rangelog`, and seeing that its whole log came and is the model's."""
 
 import os
 import shlex
@@ -6,6 +6,7 @@ import shutil
 import subprocess
 from pathlib import Path
 
+from model import schedule
 from scheduling.names import FILE_REFUSED
 from scheduling.problems import Failed, reason, shown
 from scheduling.streams import program_folder
@@ -16,7 +17,11 @@ SECONDS = 60
 
 def rangelog():
     """The command: what RANGELOG in the environment says, else the program beside this one, else the repository's, else the system's."""
-    if asked := shlex.split(os.environ.get("RANGELOG", "")):
+    try:
+        asked = shlex.split(os.environ.get("RANGELOG", ""))
+    except ValueError as error:
+        raise Failed(f"RANGELOG in the environment is no command: {error}") from None
+    if asked:
         return asked
     for place in (program_folder() / "rangelog", BUILT):
         if place.is_file():
@@ -40,16 +45,19 @@ def output_of(data):
     return ran.stdout.decode("ascii", "replace")
 
 
-def whole_log(data, schedule):
-    """The log's lines: a header line and one for each call, or `refused N` alone."""
-    log = output_of(data)
+def whole_log(data):
+    """The log's lines: a header line and one for each call, or `refused N` alone. A log is believed only where the model, written apart
+    from `rangelog`, says the same."""
+    log, expected = output_of(data), schedule.log(data).splitlines()
     lines = log.split("\n")
     if lines.pop() != "":
         raise Failed(f"the log is not whole: it ends within its line {len(lines) + 1}, {shown(log[-80:])}")
-    if len(lines) == 1 and lines[0].startswith("refused "):
-        return lines
-    if len(lines) != 1 + len(schedule.calls):
-        raise Failed(f"the log is not whole: it has {len(lines)} lines, for the header and {len(schedule.calls)} calls")
+    for place, (line, by_model) in enumerate(zip(lines, expected), 1):
+        if line != by_model:
+            raise Failed(f"line {place} of the log is {shown(line)}, and the model says {shown(by_model)}: one of the two is wrong; "
+                         "keep the file and report it")
+    if len(lines) != len(expected):
+        raise Failed(f"the log is not whole: it has {len(lines)} lines, and the model's has {len(expected)}")
     return lines
 
 
