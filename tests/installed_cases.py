@@ -84,7 +84,8 @@ ASK = "import nolthewyr; print(nolthewyr.library_file(), nolthewyr.version())"
 
 
 def found_by_python():
-    """NOLTHEWYR_LIBRARY names the file; else it is beside the Python file, where it is installed, or where the system looks."""
+    """NOLTHEWYR_LIBRARY names the file; else it is beside the Python file, where it is installed, in the repository, or where the system
+    looks."""
     [share], [libraries], [version] = asked("--variable=pkgdatadir"), asked("--variable=libdir"), asked("--modversion")
     name = f"libnolthewyr.so.{nolthewyr.SERIES}"
     alone, beside = place("alone"), place("beside")
@@ -96,6 +97,7 @@ def found_by_python():
         (f"{libraries}/libnolthewyr.so", {"PYTHONPATH": str(beside), "NOLTHEWYR_LIBRARY": f"{libraries}/libnolthewyr.so"}),
         (str(beside / name), {"PYTHONPATH": str(beside)}),
         (f"{libraries}/{name}", {"PYTHONPATH": share}),
+        (str(ROOT / "target" / "build" / "libnolthewyr.so"), {"PYTHONPATH": str(ROOT / "python")}),
         (name, {"PYTHONPATH": str(alone), "LD_LIBRARY_PATH": libraries}),
     ]
     for way, (expected, named) in enumerate(ways):
@@ -110,7 +112,7 @@ def another_series():
     command("gcc", "-shared", "-fPIC", source, "-o", made)
     named = environment(PYTHONPATH=asked("--variable=pkgdatadir")[0], NOLTHEWYR_LIBRARY=str(made))
     ran = subprocess.run(["python3", "-c", ASK], env=named, capture_output=True, text=True)
-    yield case("found by Python", [4], 1), int(f"{made} has version 0.2.0, and this file is for" in ran.stderr)
+    yield case("found by Python", [5], 1), int(f"{made} has version 0.2.0, and this file is for" in ran.stderr)
 
 
 def programs():
