@@ -1,0 +1,12 @@
+-- The numbers of the tests that ask for counts alone: the beginnings of the pages' chains. Assumes nothing.
+use mathlib.Core.List.{[], _∷_}
+use Prim.Native.Nat.{ℕ}
+use Rattle.lock.specs.declared.Settings.{Settings}
+use Rattle.lock.specs.rules.Unreadable.{differ}
+use Rattle.lock.specs.rules.Calls.{firstCause, settingsOutside, clientsOutside, clientTests}
+
+unfoldable pub plannersCause : Settings → ℕ → ℕ → ℕ
+plannersCause s rows records = firstCause ((settingsOutside s, 1) ∷ (differ rows records, 2) ∷ (clientsOutside records, 3) ∷ [])
+
+unfoldable pub runCause : Settings → ℕ → ℕ → ℕ
+runCause s records client = firstCause ((settingsOutside s, 1) ∷ clientTests records client)

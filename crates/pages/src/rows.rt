@@ -1,0 +1,49 @@
+// The rows of the planners' page.
+ghost use mathlib.Core.Path.{_≡_};
+ghost use mathlib.Core.Bool.{false};
+ghost use mathlib.Core.List.{map};
+ghost use lib.ListN.{length};
+ghost use Rattle.lock.specs.rules.Unreadable.{unreadable};
+ghost use Rattle.lock.specs.laws.Active.{Settled};
+ghost use Rattle.pages.specs.rules.Pages.{rowOf, anyUnreadable};
+use crate::Row;
+use lock::Record;
+use lock::Settings;
+
+// The row of a readable record: its pieces are its window's cover, and so is their over-cover. (Of the last clock speaks the contract alone.)
+pub fn row_of(record: Record, settings: Settings, last: u64) -> Row
+    requires { ⌜ Settled settings × (unreadable settings record last ≡ false) ⌝ }
+    ensures { λ r. ⌜ r ≡ rowOf settings record ⌝ }
+{
+    if record.phase == 0 {
+        return Row {
+            phase: 0,
+            left: 0,
+            right: 0,
+            first: 0,
+            second: 0,
+            over: 0,
+        };
+    }
+    let answer = cover::cover(settings.levels, record.left, record.right);
+    Row {
+        phase: record.phase,
+        left: record.left,
+        right: record.right,
+        first: record.first,
+        second: record.second,
+        over: answer.over,
+    }
+}
+
+pub fn fill_rows(records: &[Record], rows: &mut [Row], settings: Settings, last: u64)
+    requires { ⌜ Settled settings × (length (now rows) ≡ length (now records)) × (anyUnreadable settings (now records) last ≡ false) ⌝ }
+    ensures { λ r. ⌜ now (rows .exit) ≡ map (rowOf settings) (now (records .entry)) ⌝ }
+{
+    let mut client = 0;
+    while client < rows.len() {
+        let one = records[client];
+        rows[client] = row_of(one, settings, last);
+        client = client + 1;
+    }
+}
