@@ -1,10 +1,9 @@
 // The lines of both pages. Each function writes its piece into the lent bytes from `at` on, and answers where the piece ends. The bytes before `at` stay.
 ghost use Prim.Native.Nat.{_+_, _≤_};
-ghost use mathlib.Core.List.{_++_};
 ghost use lib.ListN.{length};
 ghost use Rattle.schedule.specs.laws.Appended.{Appended};
-ghost use Rattle.schedule.specs.rules.Text.{text, spaced};
 ghost use Rattle.rangepages.specs.rules.Printed.{rowText, recordLine};
+ghost use Rattle.rangepages.specs.laws.Lines.{timesText, currentText};
 use lock::Record;
 use pages::Row;
 use schedule::put_bytes;
@@ -27,21 +26,31 @@ pub fn put_row(out: &mut [u8], at: usize, client: u64, row: Row) -> usize
     put_bytes(out, g, b"\n")
 }
 
-// The end of a run's line: its record from the piece being given back on, and the count.
-fn put_rest(out: &mut [u8], at: usize, own: Record, held: u64) -> usize
-    requires { ⌜ at + 169 ≤ length (now out) ⌝ }
-    ensures piece { λ r. ⌜ Appended (now (out .entry)) at (now (out .exit)) r (spaced (own .giving) ++ (spaced (own .grip) ++ (spaced (own .ticket) ++ (spaced (own .place) ++ (spaced (own .notices) ++ (spaced (own .t1) ++ (spaced (own .t0) ++ (spaced held ++ text "\n")))))))) ⌝ }
-    ensures short { λ r. ⌜ r ≤ at + 169 ⌝ }
+// The end of a run's line: the noted times, and the count.
+fn put_times(out: &mut [u8], at: usize, own: Record, held: u64) -> usize
+    requires { ⌜ at + 64 ≤ length (now out) ⌝ }
+    ensures piece { λ r. ⌜ Appended (now (out .entry)) at (now (out .exit)) r (timesText own held) ⌝ }
+    ensures short { λ r. ⌜ r ≤ at + 64 ⌝ }
 {
-    let a = put_spaced(out, at, own.giving);
-    let b = put_spaced(out, a, own.grip);
-    let c = put_spaced(out, b, own.ticket);
-    let d = put_spaced(out, c, own.place);
-    let e = put_spaced(out, d, own.notices);
-    let f = put_spaced(out, e, own.t1);
-    let g = put_spaced(out, f, own.t0);
-    let h = put_spaced(out, g, held);
-    put_bytes(out, h, b"\n")
+    let a = put_spaced(out, at, own.t1);
+    let b = put_spaced(out, a, own.t0);
+    let c = put_spaced(out, b, held);
+    put_bytes(out, c, b"\n")
+}
+
+// The line from the current piece on.
+fn put_current(out: &mut [u8], at: usize, own: Record, held: u64) -> usize
+    requires { ⌜ at + 190 ≤ length (now out) ⌝ }
+    ensures piece { λ r. ⌜ Appended (now (out .entry)) at (now (out .exit)) r (currentText own held) ⌝ }
+    ensures short { λ r. ⌜ r ≤ at + 190 ⌝ }
+{
+    let a = put_spaced(out, at, own.current);
+    let b = put_spaced(out, a, own.giving);
+    let c = put_spaced(out, b, own.grip);
+    let d = put_spaced(out, c, own.ticket);
+    let e = put_spaced(out, d, own.place);
+    let f = put_spaced(out, e, own.notices);
+    put_times(out, f, own, held)
 }
 
 // A run's page: its record, and how many clients are in phase 9.
@@ -57,6 +66,5 @@ pub fn put_record(out: &mut [u8], at: usize, client: u64, own: Record, held: u64
     let e = put_spaced(out, d, own.right);
     let f = put_spaced(out, e, own.first);
     let g = put_spaced(out, f, own.second);
-    let h = put_spaced(out, g, own.current);
-    put_rest(out, h, own, held)
+    put_current(out, g, own, held)
 }

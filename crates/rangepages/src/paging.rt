@@ -9,14 +9,14 @@ ghost use Rattle.schedule.specs.rules.Running.{recordsOf};
 ghost use Rattle.schedule.specs.rules.Refusal.{refusal};
 ghost use Rattle.schedule.specs.laws.Appended.{Appended};
 ghost use Rattle.rangepages.specs.rules.Printed.{rowLine, recordLine, lineEach, room, pagesOf, Paged};
-ghost use Rattle.rangepages.specs.laws.Lines.{Full, Readable};
+ghost use Rattle.rangepages.specs.laws.Paging.{Full, Readable};
 use crate::lines;
 use lock::Settings;
 use schedule::Run;
 
 // How many of the run's clients are in phase 9.
 fn held_in(run: Run) -> u64
-    requires { ⌜ run .clients ≤ 64 ⌝ }
+    requires { ⌜ Full run ⌝ }
     ensures { λ n. ⌜ n ≡ heldCount (recordsOf run) ⌝ }
 {
     let shelf = run.shelf;
