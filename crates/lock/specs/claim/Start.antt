@@ -1,6 +1,5 @@
 -- Laws: what an accepted opening leaves has the invariant. Assumes nothing.
 use mathlib.Core.Path.{_≡_, refl, sym, ap, subst, _∙_}
-use mathlib.Core.Logic.{inl}
 use Prim.Native.Nat.{ℕ, zero, suc, _+_, _%_}
 use native.Mathlib.Omega.{arith}
 use lib.ListN.{length, getD, replicate, length-replicate}
@@ -11,10 +10,11 @@ use Rattle.word.specs.laws.Bits.{bit-zero}
 use Rattle.tree.specs.rules.Tree.{leaf}
 use Rattle.lock.specs.declared.Record.{Record}
 use Rattle.lock.specs.declared.Settings.{Settings}
-use Rattle.lock.specs.rules.Records.{wordAt, idleWith}
+use Rattle.lock.specs.rules.Records.{wordAt}
 use Rattle.lock.specs.rules.Table.{State, recordAt, openingNumber, opened}
 use Rattle.lock.specs.laws.Accepted.{opened-accepted}
 use Rattle.lock.specs.claim.Owned.{owns, ownsUnit, ownsNotice}
+use Rattle.lock.specs.claim.Fit.{Fit, idle-fit}
 use Rattle.lock.specs.claim.Stage.{idle-stage}
 use Rattle.lock.specs.claim.InnerWords.{nobody, ticketOf, InnerWord}
 use Rattle.lock.specs.claim.Timed.{Timed}
@@ -60,7 +60,7 @@ module _ (s : Settings) where
         settled = a .0;
         count = length-replicate (length (st .words)) 0 ∙ a .1;
         few = rw (length-replicate k nobody) (a .2);
-        fit = λ c. inl (sym (free c) ∙ ap (λ x. idleWith (x .outcome)) (free c));
+        fit = λ c. subst (λ x. Fit s x 0) (free c) (idle-fit s 0 0 (omega arith));
         inner = λ n _ _. subst (λ (w : ℕ). InnerWord s (replicate k nobody) n w) (word n) (zero-kept n k);
         small = λ n _ _. omega (arith, word n);
         bits = λ u _. sym (ap (bit (u % 64)) (word (leaf (s .levels) u))) ∙ bit-zero (u % 64) ∙ sym (none (ownsUnit s u) k (empty-unit s nobody nobody-empty u));
