@@ -36,10 +36,10 @@ module _ (s : Settings) (rs : List Record) (r : Record) (last now : ℕ) (later 
   n = currentPiece r
 
   -- r at this place in 8
-  to-check : (pl : ℕ) → 7 ≤ r .phase → r .phase ≤ 8 → pl < length (checkList (s .levels) (s .distance) n) → Fit s (withPlace pl (toPhase 8 r)) now
+  to-check : (place : ℕ) → 7 ≤ r .phase → r .phase ≤ 8 → place < length (checkList (s .levels) (s .distance) n) → Fit s (withPlace place (toPhase 8 r)) now
   unfolding pieces pieceAt
-  to-check pl a b l =
-      let q = withPlace pl (toPhase 8 r) in
+  to-check place a b l =
+      let q = withPlace place (toPhase 8 r) in
       let ahead : r .phase ≢ 10 = λ f. omega arith in
       record {
         readable = readable-check s q now g (asked-same s r q last now rd (kin r q refl refl refl refl) later refl refl refl refl) (rd .no-outcome ahead) (rd .no-giving ahead)

@@ -12,7 +12,7 @@ use Rattle.base.specs.laws.ChoiceLaws.{on-choose, by-eq, neqb→ne}
 use Rattle.word.specs.rules.Word.{occ, tcnt, tmax, addTmax}
 use Rattle.word.specs.laws.Fields.{field-lt}
 use Rattle.tree.specs.rules.Tree.{climb, level, Node}
-use Rattle.tree.specs.rules.Lists.{ancestors, notifyList}
+use Rattle.tree.specs.rules.Lists.{ancestors}
 use Rattle.tree.specs.laws.Level.{climb-level, level-root}
 use Rattle.tree.specs.laws.Ancestors.{ancestors-count, ancestors-place}
 use Rattle.lock.specs.declared.Record.{Record}
@@ -28,7 +28,7 @@ use Rattle.lock.specs.claim.Fit.{Fit, ready-apart, fit-readable}
 use Rattle.lock.specs.claim.Effect.{drew, turned}
 use Rattle.lock.specs.claim.InnerWords.{nobody}
 use Rattle.lock.specs.claim.Stage.{passing, passing-climb, passing-claim, passing-none}
-use Rattle.lock.specs.claim.Forward.{Kin, kin, onward-unreturned, forward-grips, drawn-else}
+use Rattle.lock.specs.claim.Forward.{kin, onward-unreturned, forward-grips, drawn-else}
 use Rattle.lock.specs.claim.Onward.{asked-kin, asked-same, onward-low}
 use Rattle.lock.specs.claim.Keeps.{Keeps, keeps-stay, keeps-quiet}
 
@@ -40,11 +40,11 @@ module _ (s : Settings) (rs : List Record) (r : Record) (last now : ℕ) (later 
   current-node = ready-apart s r last rd .node (r .current) (rd .active .exists)
 
   -- in 3 to 5 the record goes on with the grip that it has: to climb or wait at an ancestor, or to claim
-  pub climbing-fit : 3 ≤ r .phase → r .phase ≤ 5 → (p pl t : ℕ) → t ≤ now → ((3 ≤ p) × (p ≤ 4) × (pl < length (ancestors n))) ⊎ ((p ≡ 5) × (pl ≡ 0))
-      → Fit s (withPlace pl (toPhase p (withT1 t r))) now
+  pub climbing-fit : 3 ≤ r .phase → r .phase ≤ 5 → (p place t : ℕ) → t ≤ now → ((3 ≤ p) × (p ≤ 4) × (place < length (ancestors n))) ⊎ ((p ≡ 5) × (place ≡ 0))
+      → Fit s (withPlace place (toPhase p (withT1 t r))) now
   unfolding pieceAt pieces
-  climbing-fit a b p pl t c o =
-      let q = withPlace pl (toPhase p (withT1 t r)) in
+  climbing-fit a b p place t c o =
+      let q = withPlace place (toPhase p (withT1 t r)) in
       let ahead : r .phase ≢ 10 = λ f. omega arith in
       let every = asked-kin s r q last now rd (kin r q refl refl refl refl) (rd .active .exists) (rd .active .ticket-most) c (omega (arith, rd .active .t0-past)) in
       let none = rd .no-notices (by-eq (level n) (s .levels) (λ f. omega (arith, rd .grip-leaf a b f)) (λ d. omega (arith, rd .grip-inner a b d))) in
@@ -127,14 +127,14 @@ module _ (s : Settings) (rs : List Record) (r : Record) (last now : ℕ) (later 
         (record { some = omega (arith, ancestor-is, c .0); inside = omega (arith, c .1, current-node .inside) }, λ e. omega (arith, c .1, current-node .inside))
 
     -- back to the parent, or to wait at this ancestor
-    back-to : 3 ≤ r .phase → r .phase ≤ 4 → (p pl : ℕ) → 3 ≤ p → p ≤ 4 → pl < length (ancestors n) → (p ≡ 3 → pl ≡ 0) → Keeps s rs r x w w (withPlace pl (toPhase p r)) now
-    back-to y z p pl c d l f =
-        let q = withPlace pl (toPhase p r) in
+    back-to : 3 ≤ r .phase → r .phase ≤ 4 → (p place : ℕ) → 3 ≤ p → p ≤ 4 → place < length (ancestors n) → (p ≡ 3 → place ≡ 0) → Keeps s rs r x w w (withPlace place (toPhase p r)) now
+    back-to y z p place c d l f =
+        let q = withPlace place (toPhase p r) in
         let k = kin r q refl refl refl refl in
         let ahead : r .phase ≢ 10 = λ o. omega arith in
         let aheadq : p ≢ 10 = λ o. omega arith in
         keeps-quiet s rs r q x w now (λ _. ancestor-node .0) k refl ahead (onward-unreturned s q aheadq) refl refl refl
-        (climbing-fit y (omega arith) p pl (r .t1) (omega (arith, rd .active .t1-past)) (inl (c, d, l)))
+        (climbing-fit y (omega arith) p place (r .t1) (omega (arith, rd .active .t1-past)) (inl (c, d, l)))
         (onward-low s rs nobody r now q k refl ahead aheadq (omega arith)
         (inl (by-eq p 3 (λ o. passing-climb q o ∙ f o) (λ o. passing-none q o (λ i. omega arith) (λ i. omega arith)))))
 
@@ -147,11 +147,11 @@ module _ (s : Settings) (rs : List Record) (r : Record) (last now : ℕ) (later 
 
     -- one ancestor more is clear: t is t1, or the clock, noted at the parent
     module _ (e : r .phase ≡ 3) (none : (d : ℕ) → owns s 3 x (getD rs d nobody) ≡ 0) (t : ℕ) (m : (t ≡ r .t1) ⊎ ((r .place ≡ 0) × (t ≡ now))) where
-      up-to : (p pl : ℕ) → ((p ≡ 3) × (pl ≡ suc (r .place)) × (pl < length (ancestors n))) ⊎ ((p ≡ 5) × (pl ≡ 0) × (level n - 1 ≡ suc (r .place)))
-          → Keeps s rs r x w w (withPlace pl (toPhase p (withT1 t r))) now
+      up-to : (p place : ℕ) → ((p ≡ 3) × (place ≡ suc (r .place)) × (place < length (ancestors n))) ⊎ ((p ≡ 5) × (place ≡ 0) × (level n - 1 ≡ suc (r .place)))
+          → Keeps s rs r x w w (withPlace place (toPhase p (withT1 t r))) now
       unfolding pieceAt pieces
-      up-to p pl o =
-          let q = withPlace pl (toPhase p (withT1 t r)) in
+      up-to p place o =
+          let q = withPlace place (toPhase p (withT1 t r)) in
           let k = kin r q refl refl refl refl in
           let y : p ≤ 5 = ⊎-elim (λ z. omega (arith, z .0)) (λ z. omega (arith, z .0)) o in
           let aheadq : p ≢ 10 = λ z. omega arith in
@@ -160,7 +160,7 @@ module _ (s : Settings) (rs : List Record) (r : Record) (last now : ℕ) (later 
           let more : passing q ≡ suc (passing r) = ⊎-elim (λ z. passing-climb q (z .0) ∙ z .1 ∙ ap suc (sym was)) (λ z. passing-claim q (z .0) ∙ z .2 ∙ ap suc (sym was)) o in
           let noted : t ≤ now = ⊎-elim (λ z. omega (arith, rd .active .t1-past)) (λ z. omega (arith, z .1)) m in
           keeps-quiet s rs r q x w now (λ _. ancestor-node .0) k refl ahead (onward-unreturned s q aheadq) refl refl refl
-          (climbing-fit (omega arith) (omega arith) p pl t noted (⊎-elim (λ z. inl (omega (arith, z .0), omega (arith, z .0), z .2)) (λ z. inr (z .0, z .1)) o))
+          (climbing-fit (omega arith) (omega arith) p place t noted (⊎-elim (λ z. inl (omega (arith, z .0), omega (arith, z .0), z .2)) (λ z. inr (z .0, z .1)) o))
           (onward-low s rs nobody r now q k refl ahead aheadq y
           (inr (inr (more, ⊎-elim inl (λ z. inr (was ∙ z .0)) m, λ d. ap (λ (a : ℕ). owns s 3 a (getD rs d nobody)) (ap (λ (a : ℕ). climb (suc a) n) was ∙ sym ancestor-is) ∙ none d))))
 

@@ -21,8 +21,8 @@ use Rattle.lock.specs.declared.Record.{Record}
 use Rattle.lock.specs.declared.Settings.{Settings}
 use Rattle.lock.specs.rules.Records.{coverOf, pieces, pieceAt, currentPiece, idleWith}
 use Rattle.lock.specs.laws.Pieces.{notices-before, notices-current}
-use Rattle.lock.specs.laws.Active.{Settled}
 use Rattle.lock.specs.rules.Unreadable.{unreadable}
+use Rattle.lock.specs.laws.Active.{Settled}
 use Rattle.lock.specs.laws.ActiveLaws.{in-at, idle-readable}
 use Rattle.lock.specs.laws.Ready.{Ready, ready}
 use Rattle.lock.specs.laws.WhenReadable.{readable-idle, readable-later}

@@ -9,7 +9,6 @@ use lib.ListN.{length, getD}
 use Rattle.base.specs.laws.ChoiceLaws.{by-lt, by-eq}
 use Rattle.tree.specs.rules.Tree.{climb, level}
 use Rattle.tree.specs.laws.Check.{checkCount, checkNode}
-use Rattle.tree.specs.rules.Lists.{notifyList}
 use Rattle.lock.specs.declared.Record.{Record}
 use Rattle.lock.specs.declared.Settings.{Settings}
 use Rattle.lock.specs.rules.Records.{pieces, pieceAt, currentPiece}

@@ -1,28 +1,22 @@
 -- No history meets cause 6: after every list of calls from an accepted opening every record is readable, and no call of it is refused by 6. Assumes nothing.
-use mathlib.Core.Path.{_≡_, sym, subst}
+use mathlib.Core.Path.{_≡_}
 use mathlib.Core.Logic.{_≢_, inl, inr}
 use mathlib.Core.List.{List, [], _∷_, _++_}
 use native.Mathlib.Omega.{arith}
 use lib.ListN.{length}
-use Rattle.base.specs.laws.ChoiceLaws.{choose-eq}
 use Rattle.lock.specs.declared.Settings.{Settings}
 use Rattle.lock.specs.rules.Calls.{treeTests, clientTests, requestTests, stepTests, releaseTests, cancelTests}
-use Rattle.lock.specs.rules.Table.{State, Call, request, step, release, cancel, clientOf, ownTests, numberOf, call, opened, opening}
+use Rattle.lock.specs.rules.Table.{State, Call, request, step, release, cancel, clientOf, ownTests, numberOf, call, opening}
 use Rattle.lock.specs.rules.History.{run, events, Some, AllReadable}
 use Rattle.lock.specs.laws.CallLaws.{NotNamed, never-named}
 use Rattle.lock.specs.claim.Invariant.{Invariant}
 use Rattle.lock.specs.claim.Keeping.{call-keeps, run-keeps}
-use Rattle.lock.specs.claim.Start.{opened-invariant}
+use Rattle.lock.specs.claim.Start.{opening-invariant}
 
 -- ---- every record
 
 pub invariant-readable : (s : Settings) (st : State) → Invariant s st → AllReadable s st
 invariant-readable s st inv c = inv .fit c .readable
-
--- what an accepted opening left
-opening-invariant : (s : Settings) (lent : State) → opening s lent .number ≡ 0 → Invariant s (opening s lent .state)
-unfolding opening
-opening-invariant s lent e = subst (Invariant s) (sym (choose-eq (opening s lent .number) 0 (opened lent) lent e)) (opened-invariant s lent e)
 
 pub every-readable : (s : Settings) (lent : State) → opening s lent .number ≡ 0 → (ks : List Call) → AllReadable s (run s (opening s lent .state) ks)
 every-readable s lent e ks = invariant-readable s _ (run-keeps s (opening s lent .state) (opening-invariant s lent e) ks)

@@ -48,12 +48,11 @@ module _ (s : Settings) (rs : List Record) (r : Record) (last now : ℕ) (later 
   node = ready-apart s r last rd .node (r .giving) begun
 
   -- a record that goes on returning: with this piece, grip and place
-  still : (gv gp pl : ℕ) → gp ≤ 3 → (level (currentPiece r) ≡ s .levels → (gp ≡ 0) ⊎ (gp ≡ 3)) → (gp < 3 → r .notices ≡ 0) → gv ≤ r .current → gripOf (withGrip gp r) gv ≢ 0
-      → pl ≤ noticesOf s r gv → Fit s (withGiving gv (withGrip gp (withPlace pl r))) now × Timely s rs nobody r (withGiving gv (withGrip gp (withPlace pl r))) now
+  still : (giving grip place : ℕ) → grip ≤ 3 → (level (currentPiece r) ≡ s .levels → (grip ≡ 0) ⊎ (grip ≡ 3)) → (grip < 3 → r .notices ≡ 0) → giving ≤ r .current → gripOf (withGrip grip r) giving ≢ 0
+      → place ≤ noticesOf s r giving → Fit s (withGiving giving (withGrip grip (withPlace place r))) now × Timely s rs nobody r (withGiving giving (withGrip grip (withPlace place r))) now
   unfolding pieces pieceAt gripOf noticesOf
-  still gv gp pl a b c d f h =
-      let z = withGiving gv (withGrip gp (withPlace pl r)) in
-      (
+  still giving grip place a b c d f h =
+      let z = withGiving giving (withGrip grip (withPlace place r)) in (
         fit-readable s z now
             (readable-returning s z now g (asked-same s r z last now rd (kin r z refl refl refl refl) later refl refl refl refl) a b e (rd .outcome-some e) (rd .outcome-most) h (rd .active .noticed) c d f)
             (λ x. omega arith),
@@ -61,9 +60,9 @@ module _ (s : Settings) (rs : List Record) (r : Record) (last now : ℕ) (later 
       )
 
   -- with the grip that it has
-  onwards : (gv pl : ℕ) → gv ≤ r .current → gripOf r gv ≢ 0 → pl ≤ noticesOf s r gv
-      → Fit s (withPlace pl (withGiving gv r)) now × Timely s rs nobody r (withPlace pl (withGiving gv r)) now
-  onwards gv pl = still gv (r .grip) pl (rd .grip-most e) (rd .grip-leaf-returning e) (rd .no-notices)
+  onwards : (giving place : ℕ) → giving ≤ r .current → gripOf r giving ≢ 0 → place ≤ noticesOf s r giving
+      → Fit s (withPlace place (withGiving giving r)) now × Timely s rs nobody r (withPlace place (withGiving giving r)) now
+  onwards giving place = still giving (r .grip) place (rd .grip-most e) (rd .grip-leaf-returning e) (rd .no-notices)
 
   -- after a word is given back
   after-word : Fit s (wordReturned s r) now × Timely s rs nobody r (wordReturned s r) now

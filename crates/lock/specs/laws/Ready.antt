@@ -4,11 +4,12 @@ use mathlib.Core.Logic.{_≢_, _⊎_, inl, inr, ⊎-elim}
 use mathlib.Core.Bool.{Bool, true, false, not, _&&_}
 use Prim.Native.Nat.{ℕ, suc, _≤_, _<_}
 use native.Mathlib.Omega.{arith}
-use borrow.Author.Tests.{ltb-false, eqb-false, eqb-true, not-false, lt-ltb, eq-eqb, ne-eqb}
+use borrow.Author.Tests.{ltb-false, eqb-false, lt-ltb, eq-eqb, ne-eqb}
 use lib.Dec.{eqb, ltb}
 use lib.ListN.{length}
 use Rattle.base.specs.rules.Choice.{choose}
 use Rattle.base.specs.laws.ChoiceLaws.{choose-eq, choose-ne, by-lt, by-eq}
+use Rattle.base.specs.laws.TestLaws.{both-false}
 use Rattle.tree.specs.rules.Tree.{level}
 use Rattle.tree.specs.rules.Lists.{notifyList}
 use Rattle.lock.specs.declared.Record.{Record}
@@ -17,8 +18,7 @@ use Rattle.lock.specs.rules.Records.{Phase, phaseOf, pieces, currentPiec
 use Rattle.lock.specs.laws.Phases.{at-ticket, at-turn, at-climb, at-blocked, at-claim, at-notify, at-wait, at-check, at-returning}
 use Rattle.lock.specs.rules.Unreadable.{nonzero, differ, numberTooLarge, noticesWrong, phaseElsewhere, heldEarly, outcomeWrong, lacksGrip, gripLacking, givingWrong, unreadable}
 use Rattle.lock.specs.laws.Active.{Settled, Active}
-use Rattle.base.specs.laws.TestLaws.{both-false}
-use Rattle.lock.specs.laws.ReadableLaws.{grip-taken}
+use Rattle.lock.specs.laws.ReadableLaws.{same-number, grip-taken}
 use Rattle.lock.specs.laws.ActiveLaws.{Passed, passed, active}
 
 pub record Ready (s : Settings) (r : Record) (last : ℕ) : Type 0 where
@@ -41,10 +41,6 @@ pub record Ready (s : Settings) (r : Record) (last : ℕ) : Type 0 where
   pub outcome-some : r .phase ≡ 10 → r .outcome ≢ 0
   pub no-giving : r .phase ≢ 10 → r .giving ≡ 0
   pub giving-gripped : r .phase ≡ 10 → gripOf r (r .giving) ≢ 0
-
--- a test that is false of two numbers that differ says that they do not
-same : (m n : ℕ) → differ m n ≡ false → m ≡ n
-same m n e = eqb-true m n (not-false (eqb m n) e)
 
 -- the second of two joined tests, where the first is true
 and-second : (a b : Bool) → a ≡ true → (a && b) ≡ false → b ≡ false
@@ -69,15 +65,15 @@ module _ (s : Settings) (r : Record) (last : ℕ) (k : Passed s r last) where
   climbing : 3 ≤ r .phase → r .phase ≤ 5 → ((level (currentPiece r) ≡ s .levels → r .grip ≡ 0) × (level (currentPiece r) ≢ s .levels → r .grip ≡ 2))
   unfolding lacksGrip
   climbing a b =
-      by-eq (r .phase) 3 (λ e. climbing-grip (same (r .grip) _ (lacks _ (at-climb (r .phase) e)))) (λ d.
-      by-eq (r .phase) 4 (λ e. climbing-grip (same (r .grip) _ (lacks _ (at-blocked (r .phase) e)))) (λ f.
-      climbing-grip (same (r .grip) _ (lacks _ (at-claim (r .phase) (omega arith))))))
+      by-eq (r .phase) 3 (λ e. climbing-grip (same-number (r .grip) _ (lacks _ (at-climb (r .phase) e)))) (λ d.
+      by-eq (r .phase) 4 (λ e. climbing-grip (same-number (r .grip) _ (lacks _ (at-blocked (r .phase) e)))) (λ f.
+      climbing-grip (same-number (r .grip) _ (lacks _ (at-claim (r .phase) (omega arith))))))
 
   leaf-returning : r .phase ≡ 10 → level (currentPiece r) ≡ s .levels → (r .grip ≡ 0) ⊎ (r .grip ≡ 3)
   unfolding lacksGrip isLeaf
   leaf-returning e f =
       let both : (differ (r .grip) 0 && differ (r .grip) 3) ≡ false = sym (choose-eq (level (currentPiece r)) (s .levels) _ (ltb 3 (r .grip)) f) ∙ lacks _ (at-returning (r .phase) e) in
-      by-eq (r .grip) 0 inl (λ d. inr (same (r .grip) 3 (and-second (differ (r .grip) 0) _ (ap not (ne-eqb (r .grip) 0 d)) both)))
+      by-eq (r .grip) 0 inl (λ d. inr (same-number (r .grip) 3 (and-second (differ (r .grip) 0) _ (ap not (ne-eqb (r .grip) 0 d)) both)))
 
   most-returning : r .phase ≡ 10 → r .grip ≤ 3
   unfolding lacksGrip isLeaf
@@ -101,11 +97,11 @@ module _ (s : Settings) (r : Record) (last : ℕ) (k : Passed s r last) where
   ready-passed z a = record {
     active = a;
     some = omega arith;
-    grip-ticket = λ e. same (r .grip) 0 (lacks _ (at-ticket (r .phase) e));
-    grip-turn = λ e. same (r .grip) 1 (lacks _ (at-turn (r .phase) e));
+    grip-ticket = λ e. same-number (r .grip) 0 (lacks _ (at-ticket (r .phase) e));
+    grip-turn = λ e. same-number (r .grip) 1 (lacks _ (at-turn (r .phase) e));
     grip-leaf = λ x y f. climbing x y .0 f;
     grip-inner = λ x y d. climbing x y .1 d;
-    claimed = λ x y. same (r .grip) 3 (grip-taken (isLeaf s (currentPiece r)) (r .grip) (r .phase) x (omega arith) ∙ k .grip);
+    claimed = λ x y. same-number (r .grip) 3 (grip-taken (isLeaf s (currentPiece r)) (r .grip) (r .phase) x (omega arith) ∙ k .grip);
     grip-most = most-returning;
     grip-leaf-returning = leaf-returning;
     inner = λ o. not-leaf (⊎-elim (λ e. elsewhere _ (at-ticket (r .phase) e)) (λ o. ⊎-elim (λ e. elsewhere _ (at-turn (r .phase) e))
@@ -115,7 +111,7 @@ module _ (s : Settings) (r : Record) (last : ℕ) (k : Passed s r last) where
     no-notices = λ b. by-lt 0 (r .notices)
         (λ l. absurd (omega (arith, ltb-false (r .grip) 3 (and-second (nonzero (r .notices)) (ltb (r .grip) 3) (lt-ltb 0 (r .notices) l) (notice-tests .0)))))
         (λ l. omega arith);
-    notices-place = λ e. same (r .notices) (r .place) (and-second (eqb (r .phase) 6) _ (eq-eqb (r .phase) 6 e) (notice-tests .1));
+    notices-place = λ e. same-number (r .notices) (r .place) (and-second (eqb (r .phase) 6) _ (eq-eqb (r .phase) 6 e) (notice-tests .1));
     whole = λ e. ltb-false (suc (r .current)) (length (pieces r)) (and-second (eqb (r .phase) 9) _ (eq-eqb (r .phase) 9 e) (k .held));
     outcome-most = ltb-false 3 (r .outcome) (both-false (ltb 10 (r .phase)) (ltb 3 (r .outcome)) (k .numbers) .1);
     no-outcome = λ d. omega (arith, ltb-false 0 (r .outcome) (sym (choose-ne (r .phase) 10 (eqb (r .outcome) 0) _ d) ∙ k .outcome));
