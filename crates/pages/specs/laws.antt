@@ -1,2 +1,4 @@
 pub mod Causes
+pub mod PlannersLaws
+pub mod RowLaws
 pub mod RunLaws
