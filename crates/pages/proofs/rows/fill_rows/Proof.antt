@@ -33,7 +33,7 @@ use denote.RattleType.{RattleType, owns}
 use denote.Laws.{Is, shows}
 use denote.Plain.{uint-vals, uint-tells, uint-makes}
 use denote.Builtin.{u64}
-use denote.Memory.{shares, pointee}
+use denote.Memory.{shares, pointee, mem as memOf}
 use denote.Ref.{RefT}
 use denote.Slice.{sliceVal, sliceTy, ShrSlice, MutSlice, Room, heres, codedHoleys, slice-vals, mut-slice-tells, shr-slice-tells, finally}
 use denote.Lend.{Held}
@@ -68,7 +68,9 @@ use Rattle.pages.proofs.Row as Ro
 use Rattle.pages.proofs.Row.Laws as Ro′
 use Rattle.pages.proofs.rows.row_of as row-of
 use Rattle.pages.proofs.rows.row_of.Symbol as row-of-def
+use Rattle.pages.proofs.rows.row_of.Symbol.{name as #row-of}
 use Rattle.pages.proofs.rows.row_of.Met as row-of-thm
+use Rattle.pages.proofs.rows.fill_rows.Key.{name as #this}
 use Rattle.pages.proofs.rows.fill_rows as this
 use Rattle.pages.proofs.rows.fill_rows.Statement as stated
 use Rattle.pages.proofs.rows.fill_rows.Code as code
