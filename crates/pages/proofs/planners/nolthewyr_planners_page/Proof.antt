@@ -24,13 +24,12 @@ use types.Run.{look, init, forget, stop, hop, fld, from, load, lit, addr, of-opd
 use types.Run.{returns, land, enter, alloc1, alloc0, params1, pass1, pass0, free1, free0}
 use types.Part.{agg, whole, sub, look-in}
 use sound.WpLaws.{fmOf, WpFn-mono}
-use denote.RattleType.{RattleType, owns}
+use denote.RattleType.{owns}
 use denote.Laws.{Is, shows}
-use denote.Plain.{Nothing, uint-vals, uint-tells, uint-makes, uint-lawful, bool-lawful, nothing-lawful}
+use denote.Plain.{Nothing, uint-makes, uint-lawful, bool-lawful, nothing-lawful}
 use denote.Builtin.{u64, usize, bool}
 use denote.Ref.{RefT}
-use denote.Slice.{sliceVal, ShrSlice, MutSlice, Room, slice-vals, mut-slice-tells, shr-slice-tells, shr-slice-copy, finally}
-use denote.Signature.{plain, shrSliceOf}
+use denote.Slice.{sliceVal, ShrSlice, MutSlice, Room, shr-slice-copy, finally}
 use denote.Steps.{only, owned, peeks, heard, nothing}
 use denote.Struct.Laws as LL
 use denote.Triple.Entry.{onEntry}
@@ -39,8 +38,7 @@ use denote.Triple.Statement.{Contract, Triple}
 use denote.Triple.Call.{calls-at}
 use denote.Triple.Clauses.{ensured, lasts}
 use denote.Triple.Table.{entered, cited}
-use denote.Triple.Walked.{says, Stays, stay-dropped, gave-slice, walkOf, goes-dropped, goes-gave-slice, Walks, ends-at, walked, walk-meets}
-use denote.Exit.{yes}
+use denote.Triple.Walked.{says, walkOf, Walks, ends-at, walked, walk-meets}
 use Rattle.lock.specs.declared.Record.{Record}
 use Rattle.lock.specs.declared.Settings.{Settings}
 use Rattle.lock.specs.laws.Active.{Settled}
@@ -53,7 +51,7 @@ use Rattle.pages.specs.declared.Row.{Row}
 use Rattle.pages.specs.rules.Pages.{rowOf, anyUnreadable, page, plannersPage}
 use Rattle.pages.specs.laws.Causes.{plannersCause}
 use Rattle.pages.specs.laws.PlannersLaws.{planners-refuses, planners-unreadable, planners-takes, planners-tested}
-use Rattle.pages.proofs.Row as Ro
+use Rattle.pages.proofs.Lent.{RW, passed, vals, spelt, told, stayed, all-go}
 use Rattle.pages.proofs.causes.planners_cause as cause
 use Rattle.pages.proofs.causes.planners_cause.Symbol as cause-def
 use Rattle.pages.proofs.causes.planners_cause.Symbol.{name as #cause}
@@ -70,13 +68,6 @@ use Rattle.pages.proofs.planners.nolthewyr_planners_page.Key.{name as #
 use Rattle.pages.proofs.planners.nolthewyr_planners_page as this
 use Rattle.pages.proofs.planners.nolthewyr_planners_page.Statement as stated
 use Rattle.pages.proofs.planners.nolthewyr_planners_page.Code as code
-
--- the type of a row, as the walk names it
-abbrev RW : RattleType
-RW = Ro.the-row
-
-abbrev stayed : Stays (this.ended .signature .params) (this.ended .kept)
-stayed = (stay-dropped (shrSliceOf (0 ∷ []) tt (plain (λ _. R))) yes, (gave-slice (1 ∷ []) tt (plain (λ _. RW)), (stay-dropped (plain (λ _. RG)) yes, (stay-dropped (plain (λ _. u64)) yes, tt))))
 
 module _ {M : Type 1} (𝓤 : URA M) (H : Heap 𝓤) (A : Atoms 𝓤) (mem : Memory → SProp 𝓤) (run : Routine → Fun 𝓤) where
   -- the contracts that the proof cites
@@ -125,14 +116,8 @@ module _ {M : Type 1} (𝓤 : URA M) (H : Heap 𝓤) (A : Atoms 𝓤) (W : Given
   abbrev s′ : Val
   s′ = sliceVal (u .ptr) (length ws)
 
-  abbrev a : RefT (List Record) × (RefT (List Row) × (Settings × (ℕ × Unit {0})))
-  a = (x, (u, (st, (last, tt))))
-
-  abbrev vals : List Val × (List Val × (List Val × (List Val × Unit {0})))
-  vals = (s ∷ [], (s′ ∷ [], (G′.lowered st ∷ [], (vint w64 last ∷ [], tt))))
-
   abbrev Post : Val → SProp 𝓤
-  Post = walkOf 𝓤 H A this.ended stayed (this.clauses 𝓤 H A mem run) .post (((κ, (κ′, tt)), (q, (q′, tt)), tt, a, vals), tt)
+  Post = walkOf 𝓤 H A this.ended stayed (this.clauses 𝓤 H A mem run) .post (((κ, (κ′, tt)), (q, (q′, tt)), tt, passed x u st last, vals x u st last), tt)
 
   -- the records, as often as they are passed on
   abbrev Lent : Item 𝓤
@@ -142,7 +127,7 @@ module _ {M : Type 1} (𝓤 : URA M) (H : Heap 𝓤) (A : Atoms 𝓤) (W : Given
       → ent 𝓤 (⋆ 𝓤 H A ((‵ (flft κ q) ⊛ (‵ (flft κ′ q′) ⊛ ‵ ftrue)) ∷ ‵ (finally RW (u .name) zs) ∷ [])) (Post (vint w64 n))
   exits n zs n-fits long e =
       qed W ((‵ (flft κ q) ⊛ (‵ (flft κ′ q′) ⊛ ‵ ftrue)) ∷ ‵ (finally RW (u .name) zs) ∷ []) ∵
-      suffices ! _ (ends-at 𝓤 H A this.ended stayed (this.clauses 𝓤 H A mem run) W (((κ, (κ′, tt)), (q, (q′, tt)), tt, a, vals), tt) (vint w64 n) n (tt, (zs, (tt, (tt, tt)))) (tt, (long, (tt, (tt, tt))))) $
+      suffices ! _ (ends-at 𝓤 H A this.ended stayed (this.clauses 𝓤 H A mem run) W (((κ, (κ′, tt)), (q, (q′, tt)), tt, passed x u st last, vals x u st last), tt) (vint w64 n) n (tt, (zs, (tt, (tt, tt)))) (tt, (long, (tt, (tt, tt))))) $
       shows-that ! (factI 𝓤 _ (emp 𝓤) e) $ frame ! $ nothing ! $ nothing ! $ fjoin ! $ nothing ! $ fjoin ! $ move ! (1 ∷ 0 ∷ []) $ fjoin ! $ nothing ! $ fjoin ! $ frame ! $
       owned ! u64 (Is u64) (uint-makes 𝓤 H A W w64) n _ (refl, n-fits) $ done !
 
@@ -177,21 +162,21 @@ module _ {M : Type 1} (𝓤 : URA M) (H : Heap 𝓤) (A : Atoms 𝓤) (W : Given
   any-of t = exE 𝓤 _ (λ vs. snd∗ 𝓤 (sem 𝓤 H A (lasts any.ended (κ, tt) read vs)) (fact 𝓤 (t ≡ unread)))
 
   abbrev to-fill : Fill 𝓤 H A mem run .Ghost
-  to-fill = (((κ, (κ′, tt)), (q, (q′, tt)), tt, a, vals), tt)
+  to-fill = (((κ, (κ′, tt)), (q, (q′, tt)), tt, passed x u st last, vals x u st last), tt)
 
   goes-fill : Settled st × (length ws ≡ length ys) × (unread ≡ false)
       → ent 𝓤 (sep 𝓤 (sep 𝓤 (A .lft κ q) (sep 𝓤 (A .lft κ′ q′) (sem 𝓤 H A ftrue))) (sep 𝓤 (sem 𝓤 H A (ShrSlice (named 0) κ R .own x (s ∷ []))) (sem 𝓤 H A (MutSlice (named 1) κ′ RW .own u (s′ ∷ [])))))
       (Fill 𝓤 H A mem run .pre to-fill)
-  goes-fill passed =
-      qed W ((‵ (flft κ q) ⊛ (‵ (flft κ′ q′) ⊛ ‵ ftrue)) ∷ Lent ∷ ‵ (MutSlice (named 1) κ′ RW .own u (s′ ∷ [])) ∷ []) ∵ says ! passed $
+  goes-fill known =
+      qed W ((‵ (flft κ q) ⊛ (‵ (flft κ′ q′) ⊛ ‵ ftrue)) ∷ Lent ∷ ‵ (MutSlice (named 1) κ′ RW .own u (s′ ∷ [])) ∷ []) ∵ says ! known $
       nothing ! $ owned ! u64 (Is u64) (uint-makes 𝓤 H A W w64) last _ (refl, last-fits) $ fjoin ! $ owned ! RG (Is RG) ((LL.makes G.the-type G′.the-plain) 𝓤 H A) st _ gs $ fjoin ! $
       move ! (3 ∷ 0 ∷ []) $ fjoin ! $ move ! (2 ∷ 0 ∷ []) $ fjoin ! $ move ! (1 ∷ 0 ∷ []) $ frame ! $ done !
 
   module _ (𝓣 : Tables 𝓤 H) (sure : Triple 𝓤 (𝓣 .C #cause) (Cause 𝓤 H A mem run)) (tests-all : Triple 𝓤 (𝓣 .C #any) (Any 𝓤 H A mem run)) (fills : Triple 𝓤 (𝓣 .C #fill) (Fill 𝓤 H A mem run)) where
-    walk : ent 𝓤 (onEntry 𝓤 H A this.signature (κ, (κ′, tt)) (q, (q′, tt)) a vals) (WpFn 𝓤 H (𝓣 .C) (𝓣 .Λ) code.function (s ∷ s′ ∷ G′.lowered st ∷ vint w64 last ∷ []) Post)
+    walk : ent 𝓤 (onEntry 𝓤 H A this.signature (κ, (κ′, tt)) (q, (q′, tt)) (passed x u st last) (vals x u st last)) (WpFn 𝓤 H (𝓣 .C) (𝓣 .Λ) code.function (s ∷ s′ ∷ G′.lowered st ∷ vint w64 last ∷ []) Post)
     walk =
         let fm = fmOf 𝓤 H (W .laws) 𝓣 in
-        qed W ((‵ (flft κ q) ⊛ (‵ (flft κ′ q′) ⊛ ‵ ftrue)) ∷ ‵ (owns (ShrSlice (named 0) κ R ∷ MutSlice (named 1) κ′ RW ∷ RG ∷ u64 ∷ []) a vals) ∷ []) ∵
+        qed W ((‵ (flft κ q) ⊛ (‵ (flft κ′ q′) ⊛ ‵ ftrue)) ∷ ‵ (owns (ShrSlice (named 0) κ R ∷ MutSlice (named 1) κ′ RW ∷ RG ∷ u64 ∷ []) (passed x u st last) (vals x u st last)) ∷ []) ∵
         enter ! (𝓣 .C) (𝓣 .Λ) code.function (s ∷ s′ ∷ G′.lowered st ∷ vint w64 last ∷ []) _ $
         alloc1 ! (λ l₀. alloc1 ! (λ l₁. alloc1 ! (λ l₂. alloc1 ! (λ l₃. alloc1 ! (λ l₄. alloc1 ! (λ l₅. alloc1 ! (λ l₆. alloc1 ! (λ l₇. alloc1 ! (λ l₈. alloc1 ! (λ l₉. alloc1 ! (λ l₁₀. alloc1 ! (λ l₁₁. alloc1 ! (λ l₁₂. alloc0 ! $ params1 ! $
         pass1 ! (init ! 22 refl (tt, (tt, (record { fits = room .0 }, tt)))) $ pass1 ! (init ! 20 refl (tt, (tt, (record { fits = room′ .0 }, tt)))) $
@@ -230,8 +215,8 @@ module _ {M : Type 1} (𝓤 : URA M) (H : Heap 𝓤) (A : Atoms 𝓤) (W : Given
         assigns ! (agg ! (and-then ! (load ! (from ! (stop !)) (look ! 5 refl)) (and-then ! (load ! (from ! (fld ! refl (stop !))) (look-in ! 23 (sub ! 1 refl (whole !)))) (no-more !)))) (from ! (stop !)) (init ! 3 refl (tt, (tt, (record { fits = room′ .0 }, tt)))) $
         move ! (0 ∷ 1 ∷ 2 ∷ []) $ use3 W (raw (Fill 𝓤 H A mem run .pre to-fill)) (goes-fill (tested-so .0, tested-so .1, readable)) $
         calls-at ! fm (Fill 𝓤 H A mem run) fills to-fill (and-then ! (load ! (from ! (stop !)) (look ! 23 refl)) (and-then ! (load ! (from ! (stop !)) (look ! 1 refl)) (and-then ! (load ! (from ! (stop !)) (look ! 19 refl)) (and-then ! (load ! (from ! (stop !)) (look ! 17 refl)) (no-more !))))) (λ w.
-        use1 W (later (some (λ (r : Unit {0}). ((‵ (flft κ q) ⊛ (‵ (flft κ′ q′) ⊛ ‵ ftrue)) ⊛ ‵ (Nothing .own r (w ∷ []))) ⊛ raw (ensured 𝓤 H A fill.ended (fill.clauses 𝓤 H A mem run) (κ, (κ′, tt)) a tt r)))) (id⊢ 𝓤 _) $ await ! tt $ pick ! (λ r.
-        split ! $ move ! (1 ∷ []) $ use1 W (some (λ (vs : Unit {0} × (List Row × (Unit {0} × (Unit {0} × Unit {0})))). ‵ (lasts fill.ended (κ, (κ′, tt)) a vs) ⊛ raw (fact 𝓤 (vs .1 .0 ≡ made)))) (id⊢ 𝓤 _) $ pick ! (λ vs.
+        use1 W (later (some (λ (r : Unit {0}). ((‵ (flft κ q) ⊛ (‵ (flft κ′ q′) ⊛ ‵ ftrue)) ⊛ ‵ (Nothing .own r (w ∷ []))) ⊛ raw (ensured 𝓤 H A fill.ended (fill.clauses 𝓤 H A mem run) (κ, (κ′, tt)) (passed x u st last) tt r)))) (id⊢ 𝓤 _) $ await ! tt $ pick ! (λ r.
+        split ! $ move ! (1 ∷ []) $ use1 W (some (λ (vs : Unit {0} × (List Row × (Unit {0} × (Unit {0} × Unit {0})))). ‵ (lasts fill.ended (κ, (κ′, tt)) (passed x u st last) vs) ⊛ raw (fact 𝓤 (vs .1 .0 ≡ made)))) (id⊢ 𝓤 _) $ pick ! (λ vs.
         split ! $ move ! (1 ∷ []) $ heard ! (vs .1 .0 ≡ made) (λ gm. fsplit ! $ drop ! $ fsplit ! $ fsplit ! $ move ! (1 ∷ []) $ feqL ! (λ long. move ! (1 ∷ []) $ drop ! $ move ! (1 ∷ []) $ split ! $ move ! (1 ∷ []) $
         peeks ! Nothing (Is Nothing) (shows 𝓤 H A Nothing) r (w ∷ []) (λ ir. land ! (from ! (stop !)) (init ! 7 refl (nothing-lawful 𝓤 H A W .typed r _ ir .0)) $ drop ! $
         assigns ! (of-opd ! (load ! (from ! (stop !)) (look ! 16 refl))) (from ! (stop !)) (init ! 26 refl (tt, record { fits = ie .1 })) $
@@ -240,17 +225,13 @@ module _ {M : Type 1} (𝓤 : URA M) (H : Heap 𝓤) (A : Atoms 𝓤) (W : Given
 module _ {M : Type 1} (𝓤 : URA M) (H : Heap 𝓤) (A : Atoms 𝓤) (W : Given 𝓤 H A) (mem : Memory → SProp 𝓤) (run : Routine → Fun 𝓤) (𝓣 : Tables 𝓤 H)
     (sure : Triple 𝓤 (𝓣 .C #cause) (Cause 𝓤 H A mem run)) (tests-all : Triple 𝓤 (𝓣 .C #any) (Any 𝓤 H A mem run)) (fills : Triple 𝓤 (𝓣 .C #fill) (Fill 𝓤 H A mem run)) where
   page-walks : Walks 𝓤 H A this.ended stayed (WpFn 𝓤 H (𝓣 .C) (𝓣 .Λ) code.function) (this.clauses 𝓤 H A mem run)
-  page-walks = walked 𝓤 H A this.ended stayed (this.clauses 𝓤 H A mem run) (WpFn 𝓤 H (𝓣 .C) (𝓣 .Λ) code.function)
-      (λ κs. (slice-vals, (slice-vals, (LL.vals G.the-type G′.the-laws, (uint-vals w64, tt)))))
-      (λ κs. (shr-slice-tells (named 0) (κs .0) R, (mut-slice-tells (named 1) (κs .1 .0) RW, (LL.tells G.the-type G′.the-laws, (uint-tells w64, tt)))))
+  page-walks = walked 𝓤 H A this.ended stayed (this.clauses 𝓤 H A mem run) (WpFn 𝓤 H (𝓣 .C) (𝓣 .Λ) code.function) spelt told
       (λ κs qs bounds a g are. via 𝓤 _ (fst∗ 𝓤 _ (emp 𝓤))
       (walk 𝓤 H A W mem run (κs .0) (κs .1 .0) (qs .0) (qs .1 .0) (a .0) (a .1 .0) (a .1 .1 .0) (a .1 .1 .1 .0) (are .1 .1 .0) (are .1 .1 .1 .0 .1) (are .0 .0 .1) (are .1 .0 .0 .1) 𝓣 sure tests-all fills))
 
   page-meets : Meets 𝓤 H A this.signature (WpFn 𝓤 H (𝓣 .C) (𝓣 .Λ) code.function) (this.spec 𝓤 H A mem run)
   page-meets =
-      walk-meets 𝓤 H A this.ended stayed W
-      (goes-dropped 𝓤 H A W 2 (shrSliceOf (0 ∷ []) tt (plain (λ _. R))) yes (λ κs x f. refl), (goes-gave-slice 𝓤 H A W 2 1 tt (plain (λ _. RW)), (goes-dropped 𝓤 H A W 2 (plain (λ _. RG)) yes (λ κs x f. refl), (goes-dropped 𝓤 H A W 2 (plain (λ _. u64)) yes (λ κs x f. refl), tt))))
-      (this.clauses 𝓤 H A mem run) (WpFn 𝓤 H (𝓣 .C) (𝓣 .Λ) code.function) (WpFn-mono 𝓤 H (W .laws) 𝓣 code.function) page-walks
+      walk-meets 𝓤 H A this.ended stayed W (all-go 𝓤 H A W) (this.clauses 𝓤 H A mem run) (WpFn 𝓤 H (𝓣 .C) (𝓣 .Λ) code.function) (WpFn-mono 𝓤 H (W .laws) 𝓣 code.function) page-walks
 
 pub nolthewyr-planners-page-spec : {M : Type 1} → stated.statement M
 unfolding code.routine tablesOf
