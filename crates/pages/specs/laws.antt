@@ -1,2 +1,5 @@
+pub mod CauseLaws
 pub mod Causes
+pub mod CountLaws
+pub mod Isolation
 pub mod RunLaws
