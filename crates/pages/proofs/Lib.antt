@@ -1,3 +1,4 @@
 pub mod Counting
 pub mod Lent
 pub mod Mapped
+pub mod Shared

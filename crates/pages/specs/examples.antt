@@ -1,1 +1,2 @@
+pub mod IsolationExample
 pub mod PagesExample
