@@ -1,4 +1,3 @@
-pub mod Counting
 pub mod Lent
 pub mod Mapped
 pub mod Shared
