@@ -51,7 +51,7 @@ module _ (bytes : List ℕ) (z : refusal bytes ≡ 0) where
   unfolding openingIn opening
   settled s e = subst Settled (sym e) (opened-accepted (settingsIn bytes) (lentFor (settingsIn bytes) (clientsIn bytes)) (opening-passes bytes z) .0)
 
-  count-after : length (afterCalls bytes .records) ≡ clientsIn bytes
+  pub count-after : length (afterCalls bytes .records) ≡ clientsIn bytes
   unfolding afterCalls openingIn lentFor
   count-after =
       count-run (settingsIn bytes) (callsIn bytes) (openingIn bytes .state)
