@@ -1,7 +1,6 @@
 -- Laws: the step of phase 6 owes nothing to the invariant. Assumes nothing.
 use mathlib.Core.Path.{_≡_, refl, sym, ap, _∙_}
 use mathlib.Core.Logic.{_≢_, inl, inr}
-use mathlib.Core.Bool.{false}
 use mathlib.Core.List.{List}
 use Prim.Native.Nat.{ℕ, suc, _-_, _≤_, _<_}
 use native.Mathlib.Omega.{arith}
@@ -19,7 +18,6 @@ use Rattle.lock.specs.rules.Steps.{taken, allNotified, noticeGiven}
 use Rattle.lock.specs.laws.Active.{Settled}
 use Rattle.lock.specs.laws.Pieces.{first-gripped}
 use Rattle.lock.specs.laws.Ready.{Ready, any-grip-leaf, any-grip-most}
-use Rattle.lock.specs.laws.OwnTests.{notBegun}
 use Rattle.lock.specs.laws.WhenReadable.{readable-notify, readable-wait, readable-returning}
 use Rattle.lock.specs.claim.Fit.{ready-apart, fit-readable}
 use Rattle.lock.specs.claim.Effect.{Same, Effect, notified, notices-then}
@@ -52,10 +50,6 @@ module _ (s : Settings) (rs : List Record) (r : Record) (last now : ℕ) (later 
   grip : r .grip ≡ 3
   grip = rd .claimed (omega arith) (omega arith)
 
-  -- q is r with as many notices, at this place, in this phase: what every phase asks holds of it
-  every : (q : Record) → Kin r q → q .current ≡ r .current → q .ticket ≡ r .ticket → q .t1 ≡ r .t1 → q .t0 ≡ r .t0 → notBegun s q now ≡ false
-  every q k = asked-same s r q last now rd k later
-
   -- r with one notice more
   abbrev p : Record
   p = withNotices (suc (r .place)) r
@@ -84,7 +78,7 @@ module _ (s : Settings) (rs : List Record) (r : Record) (last now : ℕ) (later 
       record {
         node = λ _. notified-node .0;
         effect = given q (forward-same s p q (record { pieces-same = refl; left-same = refl; right-same = refl }) refl (onward-unreturned s p ahead) (onward-unreturned s q ahead) refl refl refl);
-        fits = fit-readable s q now (readable-notify s q now g (every q k refl refl refl refl) (rd .no-outcome ahead) (rd .no-giving ahead) grip e b refl) (λ a. omega arith);
+        fits = fit-readable s q now (readable-notify s q now g (asked-same s r q last now rd k later refl refl refl refl) (rd .no-outcome ahead) (rd .no-giving ahead) grip e b refl) (λ a. omega arith);
         time = onward s rs nobody r now q k refl ahead ahead (λ a b. inl (a, b, refl)) (λ a _. absurd (omega arith))
             (λ l a. absurd (omega (arith, checked-none s q (r .current) (λ f. omega arith) (λ f. omega arith))))
             (inr (inl (omega (arith, passing-notify q e, passing-notify r e), refl))) (λ a _. absurd (omega arith));
@@ -107,7 +101,7 @@ module _ (s : Settings) (rs : List Record) (r : Record) (last now : ℕ) (later 
           effect = given q (forward-same s p q (record { pieces-same = refl; left-same = refl; right-same = refl }) refl (onward-unreturned s p ahead)
               (entering-unreturned s q refl (rd .no-giving ahead) refl) refl refl refl);
           fits = fit-readable s q now
-              (readable-returning s q now g (every q k refl refl refl refl) (any-grip-most s r last rd) (any-grip-leaf s r last rd) refl (λ z. omega arith) (omega arith) (omega arith) (omega (arith, whole))
+              (readable-returning s q now g (asked-same s r q last now rd k later refl refl refl refl) (any-grip-most s r last rd) (any-grip-leaf s r last rd) refl (λ z. omega arith) (omega arith) (omega arith) (omega (arith, whole))
               (λ a. absurd (omega (arith, grip))) (rd .active .giving-begun) (λ z. first-gripped q (λ y. omega (arith, grip)) (ap (gripOf q) (sym (rd .no-giving ahead)) ∙ z))) (λ a. omega arith);
           time = timely-returning s rs nobody r now q refl;
         }
@@ -128,7 +122,7 @@ module _ (s : Settings) (rs : List Record) (r : Record) (last now : ℕ) (later 
             node = λ _. notified-node .0;
             effect = given q (forward-same s p q (record { pieces-same = refl; left-same = refl; right-same = refl }) refl (onward-unreturned s p ahead) (onward-unreturned s q (λ f. omega arith)) refl refl refl);
             fits = record {
-              readable = readable-wait s q now g (every q k refl refl refl refl) (rd .no-outcome ahead) (rd .no-giving ahead) grip (omega (arith, whole)) refl inner refl;
+              readable = readable-wait s q now g (asked-same s r q last now rd k later refl refl refl refl) (rd .no-outcome ahead) (rd .no-giving ahead) grip (omega (arith, whole)) refl inner refl;
               all-noticed = λ _ _. whole;
             };
             time = onward s rs nobody r now q k refl ahead (λ f. omega arith) (λ _ _. inl (omega arith, omega arith, refl)) (λ a _. absurd (omega arith))
