@@ -1,5 +1,5 @@
--- Examples, closed by computing. Two tables, each left by a history of two clients, in which the other client has another window and another phase: the run's record and the
--- number of clients in phase 9 are the same, and so is its page. A third table in which the other client holds: the number differs, and so does the page. Assumes nothing.
+-- Examples, closed by computing: tables of readable records, each left by a history of two clients. In two of them the other client has another window and another phase, the run's record
+-- and the number of clients in phase 9 are the same, and so is the run's page. In the third the other client holds too: that number differs, and so does the page. Assumes nothing.
 use mathlib.Core.Path.{_≡_, refl, sym, ap, _∙_}
 use mathlib.Core.Bool.{false}
 use mathlib.Core.List.{List, [], _∷_, _++_}
@@ -55,32 +55,23 @@ other records = let r = getD records 1 (idleWith 0) in r .phase ∷ r .left ∷ 
 
 -- ---- what comes out of them
 
-readable : (anyUnreadable settings (table climbing) 1 ≡ false) × (anyUnreadable settings (table ticketed) 1 ≡ false) × (anyUnreadable settings (table holding) 1 ≡ false)
-unfolding run call numberOf after ownTests recordAt clientOf opening openingNumber opened firstCause settingsOutside treeTests clientsOutside clientTests requestTests stepTests releaseTests cancelTests requested released cancelled touchedIn startPhase begin taken ticketTaken turnAwaited goUp climbed unblocked bitsClaimed occClaimed allNotified noticeGiven waited checkPassed pieceReturned wordReturned turnReturned claimPiece returnBits returnInner giveBack movedIn numberTooLarge idleFilled notCovered noCurrent ticketTooLarge fieldsWrong listLength placePast noticesWrong timeAhead phaseElsewhere heldEarly outcomeWrong lacksGrip givingWrong unreadable phaseOf pieces pieceAt isLeaf gripOf noticesOf wordAt written levelsOutside windowOutside lesser behind leastOf rest search found leastCover before part over total rank upward ancestors ancestor notifies notifiedFrom notifyLevels notifyList row descendants nearest checkList climb leftmost first level levelWithin size left units holder wordCount field putField addField matches replaced maskedSwap leafBits wantedBits takeBits giveBits returnOcc choose anyUnreadable inPhase9 heldCount runTests runNumber runPage
-readable = (refl, refl, refl)
-
-others : (other (table climbing) ≡ 3 ∷ 300 ∷ 310 ∷ []) × (other (table ticketed) ≡ 2 ∷ 512 ∷ 768 ∷ []) × (other (table holding) ≡ 9 ∷ 300 ∷ 310 ∷ [])
-unfolding run call numberOf after ownTests recordAt clientOf opening openingNumber opened firstCause settingsOutside treeTests clientsOutside clientTests requestTests stepTests releaseTests cancelTests requested released cancelled touchedIn startPhase begin taken ticketTaken turnAwaited goUp climbed unblocked bitsClaimed occClaimed allNotified noticeGiven waited checkPassed pieceReturned wordReturned turnReturned claimPiece returnBits returnInner giveBack movedIn numberTooLarge idleFilled notCovered noCurrent ticketTooLarge fieldsWrong listLength placePast noticesWrong timeAhead phaseElsewhere heldEarly outcomeWrong lacksGrip givingWrong unreadable phaseOf pieces pieceAt isLeaf gripOf noticesOf wordAt written levelsOutside windowOutside lesser behind leastOf rest search found leastCover before part over total rank upward ancestors ancestor notifies notifiedFrom notifyLevels notifyList row descendants nearest checkList climb leftmost first level levelWithin size left units holder wordCount field putField addField matches replaced maskedSwap leafBits wantedBits takeBits giveBits returnOcc choose anyUnreadable inPhase9 heldCount runTests runNumber runPage
-others = (refl, refl, refl)
-
-agree : (length (table climbing) ≡ length (table ticketed)) × (ownRecord (table climbing) 0 ≡ ownRecord (table ticketed) 0)
-    × (heldCount (table climbing) ≡ heldCount (table ticketed))
-unfolding run call numberOf after ownTests recordAt clientOf opening openingNumber opened firstCause settingsOutside treeTests clientsOutside clientTests requestTests stepTests releaseTests cancelTests requested released cancelled touchedIn startPhase begin taken ticketTaken turnAwaited goUp climbed unblocked bitsClaimed occClaimed allNotified noticeGiven waited checkPassed pieceReturned wordReturned turnReturned claimPiece returnBits returnInner giveBack movedIn numberTooLarge idleFilled notCovered noCurrent ticketTooLarge fieldsWrong listLength placePast noticesWrong timeAhead phaseElsewhere heldEarly outcomeWrong lacksGrip givingWrong unreadable phaseOf pieces pieceAt isLeaf gripOf noticesOf wordAt written levelsOutside windowOutside lesser behind leastOf rest search found leastCover before part over total rank upward ancestors ancestor notifies notifiedFrom notifyLevels notifyList row descendants nearest checkList climb leftmost first level levelWithin size left units holder wordCount field putField addField matches replaced maskedSwap leafBits wantedBits takeBits giveBits returnOcc choose anyUnreadable inPhase9 heldCount runTests runNumber runPage
-agree = (refl, refl, refl)
-
-pages : (seen climbing .number ≡ 0) × (seen climbing .held ≡ 1) × (seen holding .number ≡ 0) × (seen holding .held ≡ 2)
+computed :
+    (anyUnreadable settings (table climbing) 1 ≡ false) × (anyUnreadable settings (table ticketed) 1 ≡ false) × (anyUnreadable settings (table holding) 1 ≡ false)
+    × (other (table climbing) ≡ 3 ∷ 300 ∷ 310 ∷ []) × (other (table ticketed) ≡ 2 ∷ 512 ∷ 768 ∷ []) × (other (table holding) ≡ 9 ∷ 300 ∷ 310 ∷ [])
+    × (length (table climbing) ≡ length (table ticketed)) × (ownRecord (table climbing) 0 ≡ ownRecord (table ticketed) 0) × (heldCount (table climbing) ≡ heldCount (table ticketed))
     × (ownRecord (table climbing) 0 ≡ ownRecord (table holding) 0)
+    × (seen climbing .number ≡ 0) × (seen climbing .held ≡ 1) × (seen holding .number ≡ 0) × (seen holding .held ≡ 2)
 unfolding run call numberOf after ownTests recordAt clientOf opening openingNumber opened firstCause settingsOutside treeTests clientsOutside clientTests requestTests stepTests releaseTests cancelTests requested released cancelled touchedIn startPhase begin taken ticketTaken turnAwaited goUp climbed unblocked bitsClaimed occClaimed allNotified noticeGiven waited checkPassed pieceReturned wordReturned turnReturned claimPiece returnBits returnInner giveBack movedIn numberTooLarge idleFilled notCovered noCurrent ticketTooLarge fieldsWrong listLength placePast noticesWrong timeAhead phaseElsewhere heldEarly outcomeWrong lacksGrip givingWrong unreadable phaseOf pieces pieceAt isLeaf gripOf noticesOf wordAt written levelsOutside windowOutside lesser behind leastOf rest search found leastCover before part over total rank upward ancestors ancestor notifies notifiedFrom notifyLevels notifyList row descendants nearest checkList climb leftmost first level levelWithin size left units holder wordCount field putField addField matches replaced maskedSwap leafBits wantedBits takeBits giveBits returnOcc choose anyUnreadable inPhase9 heldCount runTests runNumber runPage
-pages = (refl, refl, refl, refl, refl)
+computed = (refl, refl, refl, refl, refl, refl, refl, refl, refl, refl, refl, refl, refl, refl)
 
 -- ---- the same page of tables that differ, and pages that differ
 
 pub same-page : (seen climbing .number ≡ 0) × (seen climbing ≡ seen ticketed) × (table climbing ≡ table ticketed → ⊥)
 same-page = (
-  pages .0,
-  isolation settings (table climbing) (table ticketed) 1 0 (agree .0) (agree .1) (agree .2),
-  λ e. omega (arith, ap (λ (l : List ℕ). getD l 0 0) (sym (others .0) ∙ ap other e ∙ others .1)),
+  computed .10,
+  isolation settings (table climbing) (table ticketed) 1 0 (computed .6) (computed .7) (computed .8),
+  λ e. omega (arith, ap (λ (l : List ℕ). getD l 0 0) (sym (computed .3) ∙ ap other e ∙ computed .4)),
 )
 
 pub other-page : (seen holding .number ≡ 0) × (ownRecord (table climbing) 0 ≡ ownRecord (table holding) 0) × (seen climbing ≡ seen holding → ⊥)
-other-page = (pages .2, pages .4, λ e. omega (arith, sym (pages .1) ∙ ap (λ (p : RunPage). p .held) e ∙ pages .3))
+other-page = (computed .12, computed .9, λ e. omega (arith, sym (computed .11) ∙ ap (λ (p : RunPage). p .held) e ∙ computed .13))

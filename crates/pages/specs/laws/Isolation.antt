@@ -1,4 +1,4 @@
--- Document 02, request 2.1: what a run's page says of other clients is how many of them are in phase 9, and no more. Assumes nothing.
+-- Document 02, request 2.1: a run gets a page "with its own record and the number of clients in phase 9, and no more". Assumes nothing.
 use mathlib.Core.Path.{_≡_, refl, sym, _∙_}
 use mathlib.Core.List.{List, [], _∷_, _++_}
 use Prim.Native.Nat.{ℕ}

@@ -27,6 +27,15 @@ acceptedPage own held = record { number = 0; own = own; held = held }
 unfoldable pub ownPage : Settings → Record → ℕ → ℕ → RunPage
 ownPage s own last held = choose (unreadable s own last) (refusedPage 6) (acceptedPage own held)
 
+module _ (s : Settings) (own : Record) (last held : ℕ) where
+  pub own-refused : unreadable s own last ≡ true → refusedPage 6 ≡ ownPage s own last held
+  unfolding ownPage choose
+  own-refused e = sym (ap (λ (b : Bool). choose b (refusedPage 6) (acceptedPage own held)) e)
+
+  pub own-accepted : unreadable s own last ≡ false → acceptedPage own held ≡ ownPage s own last held
+  unfolding ownPage choose
+  own-accepted e = sym (ap (λ (b : Bool). choose b (refusedPage 6) (acceptedPage own held)) e)
+
 module _ (s : Settings) (records : List Record) (last client : ℕ) where
   -- the tests of counts alone, and the one of the run's own record
   abbrev count-tests : Tests
