@@ -36,6 +36,7 @@ pub fn row_of(one: Record, settings: Settings, last: u64) -> Row
     }
 }
 
+// A row for each record, in their order.
 pub fn fill_rows(records: &[Record], rows: &mut [Row], settings: Settings, last: u64)
     requires { ⌜ Settled settings × (length (now rows) ≡ length (now records)) × (anyUnreadable settings (now records) last ≡ false) ⌝ }
     ensures { λ r. ⌜ now (rows .exit) ≡ map (rowOf settings) (now (records .entry)) ⌝ }
