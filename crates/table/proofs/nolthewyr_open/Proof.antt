@@ -2,7 +2,7 @@
 -- are. Else the words go to `zero_words` for good, and the borrow of the records is opened once, before the loop, and closed once, after it. The invariant has the
 -- row of records at `filled ys i`: i idle records, and the rest as they were. Assumes nothing.
 use mathlib.Core.Path.{_≡_, refl, sym, _∙_, ap, subst}
-use Prim.Native.Nat.{ℕ, zero-le, _+_, _-_, _<_, _^_}
+use Prim.Native.Nat.{ℕ, zero-le, _+_, _<_, _^_}
 use native.Mathlib.Nat.{le-antisymm, lt-of-le-of-lt}
 use native.Mathlib.Numerals.{add-one-le, add-one-dec}
 use mathlib.Core.Bool.{not}

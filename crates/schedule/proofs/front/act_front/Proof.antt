@@ -17,9 +17,11 @@ use prog.Wp.{Heap, Calls, Loops, WpFn, Tables}
 use ghost.Atoms.{Atoms, sem}
 use contract.Monad.{Fun, fact, factI}
 use contract.Running.{givenOf, tables, tablesOf}
-use types.Kit.{Given, ‵, raw, given, _⊛_, some, later, ⋆, _$_, _∵_, !, qed, by, move, drop, use1, use2, use3, split, join, pick, learn, rewrite, fsplit, fjoin, feqL, suffices, frame, await, done}
+use types.Kit.{Given, ‵, raw, given, _⊛_, some, later, ⋆, _$_, _∵_, !, qed, by, move, drop, use1, use2, use3, split, join, pick, learn, rewrite, fsplit, fjoin, feqL}
+use types.Kit.{suffices, frame, await, done}
 use types.Tokens.{lft-new, lft-end}
-use types.Run.{look, init, forget, stop, hop, fld, from, load, addr, of-opd, and-then, no-more, assigns, returns, land, enter, alloc1, alloc0, params1, pass1, pass0, free1, free0}
+use types.Run.{look, init, forget, stop, hop, fld, from, load, addr, of-opd, and-then, no-more, assigns, returns, land, enter, alloc1, alloc0, params1, pass1, pass0}
+use types.Run.{free1, free0}
 use types.Part.{agg, whole, sub, look-in}
 use sound.WpLaws.{FmC, fmOf, WpFn-mono}
 use denote.RattleType.{RattleType, owns}
