@@ -25,7 +25,7 @@ static const char *const outcomes[] = {
     [NOLTHEWYR_OUTCOME_CANCELLED] = "cancelled",
 };
 
-/* 10 and 11 have no name: only rangelog gives them. */
+/* 10 and 11 have no name: only rangelog and rangepages give them. */
 static const char *const causes[] = {
     [NOLTHEWYR_CAUSE_ACCEPTED] = "accepted",
     [NOLTHEWYR_CAUSE_SETTINGS] = "levels not 2 to 12, distance not 1 to 4, or wait not 1 to 4294967295",
@@ -38,7 +38,7 @@ static const char *const causes[] = {
     [NOLTHEWYR_CAUSE_PHASE] = "request when not idle, release when not held, or cancel when idle, held or returning",
     [NOLTHEWYR_CAUSE_CLEAR_BIT] = "returning leaf finds a wanted bit clear",
     "not a schedule",
-    "over 6 levels or over 64 clients, the limits of rangelog",
+    "over 6 levels or over 64 clients, the limits of rangelog and rangepages",
 };
 
 static const char *text(const char *const *texts, size_t count, uint64_t number, const char *unknown)
