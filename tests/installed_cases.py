@@ -146,8 +146,9 @@ def words_of_rangelog():
 
 
 def words_of_rangepages():
-    """The names of a row's fields and of a record's, as their structs have them, and what a page can be refused by."""
-    fields = [name for struct in (nolthewyr.Row, nolthewyr.Record) for name, _ in struct._fields_]
+    """The names of a row's fields and of a record's, as their structs have them, and what a schedule is refused by."""
+    library()
+    fields = [f" {name} " for struct in (nolthewyr.Row, nolthewyr.Record) for name, _ in struct._fields_]
     return fields + [f"{number} {nolthewyr.cause_text(number)}" for number in (10, 11)]
 
 
