@@ -2,7 +2,8 @@ pub mod Appended
 pub mod Decimal
 pub mod FormatLaws
 pub mod Little
-pub mod Running
+pub mod Refusing
+pub mod RunLaws
 pub mod ShelfLaws
 pub mod SingleHolding
 pub mod WellFormed

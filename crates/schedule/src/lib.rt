@@ -1,4 +1,4 @@
-// A schedule: the file format that `rangelog` reads, the calls in it, and the log of running them.
+// A schedule: the file format that the programs read, the calls in it made one after another, and the log of them.
 use lock::Record;
 use table::Answer;
 
@@ -8,7 +8,15 @@ mod logging;
 mod running;
 mod text;
 
+pub use format::settings_in;
+pub use front::record_of;
 pub use logging::log;
+pub use running::refusal;
+pub use running::run_schedule;
+pub use text::put_bytes;
+pub use text::put_decimal;
+pub use text::put_refused;
+pub use text::put_spaced;
 
 // The records of up to 64 clients, kept by value: a call is made on the first of them, as many as there are clients.
 pub struct Shelf {

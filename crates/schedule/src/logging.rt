@@ -5,11 +5,13 @@ ghost use Prim.Native.Nat.{suc, _+_, _≤_};
 ghost use lib.ListN.{length, take};
 ghost use Rattle.io.specs.Counts.{Counts};
 ghost use Rattle.lock.specs.rules.Table.{clientOf};
-ghost use Rattle.schedule.specs.rules.Format.{settingsIn, clientsIn, placeOf, callIn, callsIn};
-ghost use Rattle.schedule.specs.rules.Log.{room, headerLine, line, lines, logOfCalls, Logged};
+ghost use Rattle.schedule.specs.rules.Format.{placeOf, callIn, callsIn};
+ghost use Rattle.schedule.specs.rules.Running.{stateOf};
+ghost use Rattle.schedule.specs.rules.Refusal.{refusal};
+ghost use Rattle.schedule.specs.rules.Log.{room, headerLine, line, lines, logOf, Logged};
 ghost use Rattle.schedule.specs.laws.Appended.{Appended};
 ghost use Rattle.schedule.specs.laws.WellFormed.{WellFormed};
-ghost use Rattle.schedule.specs.laws.Running.{stateOf, recordIn};
+ghost use Rattle.schedule.specs.laws.RunLaws.{recordIn};
 use crate::Made;
 use crate::Run;
 use crate::format;
@@ -50,17 +52,13 @@ fn put_lines(bytes: &[u8], run: Run, words: &mut [u64], settings: Settings, out:
     end
 }
 
-// Makes the calls on a fresh table, or writes by which number its opening is refused.
-fn run_file(bytes: &[u8], out: &mut [u8]) -> usize
-    requires { ⌜ WellFormed (now bytes) × (room ≤ length (now out)) ⌝ }
-    ensures { λ r. ⌜ (take r (now (out .exit)) ≡ logOfCalls (settingsIn (now (bytes .entry))) (clientsIn (now (bytes .entry))) (callsIn (now (bytes .entry)))) × (r ≤ length (now (out .exit))) ⌝ }
+// Makes the calls on a fresh table and writes their lines.
+fn put_log(bytes: &[u8], out: &mut [u8]) -> usize
+    requires { ⌜ (refusal (now bytes) ≡ 0) × (room ≤ length (now out)) ⌝ }
+    ensures { λ r. ⌜ (take r (now (out .exit)) ≡ logOf (now (bytes .entry))) × (r ≤ length (now (out .exit))) ⌝ }
 {
     let settings = format::settings_in(bytes);
     let clients = format::clients_in(bytes);
-    let number = running::opening_number(settings, clients);
-    if number != 0 {
-        return text::put_refused(out, 0, number);
-    }
     let count = running::word_count(settings.levels);
     let mut words = running::zero_words();
     let tree: &mut [u64] = &mut words[..count];
@@ -75,9 +73,9 @@ pub fn log(bytes: &[u8], out: &mut [u8]) -> usize
     if out.len() < 400000 {
         return 0;
     }
-    let cause = format::file_cause(bytes);
-    if cause != 0 {
-        return text::put_refused(out, 0, cause);
+    let number = running::refusal(bytes);
+    if number != 0 {
+        return text::put_refused(out, 0, number);
     }
-    run_file(bytes, out)
+    put_log(bytes, out)
 }

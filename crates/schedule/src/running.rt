@@ -1,12 +1,16 @@
 // The calls of a schedule, made one after another on a run: records on a shelf, the words lent beside it. Nothing is written here.
 ghost use mathlib.Core.Path.{_≡_};
 ghost use Prim.Native.Nat.{suc, _≤_};
-ghost use lib.ListN.{length, take, replicate};
+ghost use lib.ListN.{length, replicate};
 ghost use Rattle.tree.specs.rules.Tree.{wordCount};
 ghost use Rattle.lock.specs.rules.Table as Table;
+ghost use Rattle.lock.specs.rules.History as History;
 ghost use Rattle.table.specs.rules.Lent.{result};
-ghost use Rattle.schedule.specs.rules.Format.{placeOf, callIn, lentFor};
-ghost use Rattle.schedule.specs.laws.Running.{stateOf, freshRun};
+ghost use Rattle.schedule.specs.rules.Format.{placeOf, clientsIn, callIn, callsIn, lentFor};
+ghost use Rattle.schedule.specs.rules.Running.{afterCalls, recordsOf, stateOf};
+ghost use Rattle.schedule.specs.rules.Refusal.{refusal};
+ghost use Rattle.schedule.specs.laws.RunLaws.{freshRun};
+ghost use Rattle.schedule.specs.laws.WellFormed.{WellFormed};
 use crate::Made;
 use crate::Run;
 use crate::format;
@@ -42,6 +46,19 @@ pub fn opening_number(settings: Settings, clients: usize) -> u64
     opening_cause(settings, count, clients)
 }
 
+// The number by which a schedule is refused, 0 if its calls are made. The whole file is examined before its opening.
+pub fn refusal(bytes: &[u8]) -> u64
+    ensures { λ n. ⌜ n ≡ refusal (now (bytes .entry)) ⌝ }
+{
+    let cause = format::file_cause(bytes);
+    if cause != 0 {
+        return cause;
+    }
+    let settings = format::settings_in(bytes);
+    let clients = format::clients_in(bytes);
+    opening_number(settings, clients)
+}
+
 // The run before the first call: idle records, and the clock 0.
 pub fn fresh_run(clients: usize) -> Run
     ensures { λ r. ⌜ r ≡ freshRun clients ⌝ }
@@ -56,7 +73,7 @@ pub fn fresh_run(clients: usize) -> Run
 // Makes call k of the file.
 pub fn make_call(bytes: &[u8], k: usize, run: Run, words: &mut [u64], settings: Settings) -> Made
     requires { ⌜ (placeOf (now bytes) (suc k) ≤ length (now bytes)) × (run .clients ≤ 64) ⌝ }
-    ensures made { λ r. ⌜ result (r .number) (take (r .run .clients) (r .run .shelf .records)) (now (words .exit)) (r .run .clock) ≡ Table.call settings (stateOf run (now (words .entry))) (callIn (now (bytes .entry)) k) ⌝ }
+    ensures made { λ r. ⌜ result (r .number) (recordsOf (r .run)) (now (words .exit)) (r .run .clock) ≡ Table.call settings (stateOf run (now (words .entry))) (callIn (now (bytes .entry)) k) ⌝ }
     ensures clients { λ r. ⌜ r .run .clients ≡ run .clients ⌝ }
 {
     let call = format::call_in(bytes, k, run.clock);
@@ -73,4 +90,37 @@ pub fn make_call(bytes: &[u8], k: usize, run: Run, words: &mut [u64], settings: 
             clock: answer.clock,
         },
     }
+}
+
+// Makes all calls of the file.
+fn make_calls(bytes: &[u8], run: Run, words: &mut [u64], settings: Settings) -> Run
+    requires { ⌜ WellFormed (now bytes) × (run .clients ≤ 64) ⌝ }
+    ensures made { λ r. ⌜ stateOf r (now (words .exit)) ≡ History.run settings (stateOf run (now (words .entry))) (callsIn (now (bytes .entry))) ⌝ }
+    ensures clients { λ r. ⌜ r .clients ≡ run .clients ⌝ }
+{
+    let count = format::count_in(bytes);
+    let mut run = run;
+    let mut k = 0;
+    while k < count {
+        let made = make_call(bytes, k, run, words, settings);
+        let next = made.run;
+        run = next;
+        k = k + 1;
+    }
+    run
+}
+
+// Makes all calls of a schedule that is not refused, on a fresh table. The words are let go with it.
+pub fn run_schedule(bytes: &[u8]) -> Run
+    requires { ⌜ refusal (now bytes) ≡ 0 ⌝ }
+    ensures records { λ r. ⌜ recordsOf r ≡ afterCalls (now (bytes .entry)) .records ⌝ }
+    ensures clock { λ r. ⌜ r .clock ≡ afterCalls (now (bytes .entry)) .clock ⌝ }
+    ensures clients { λ r. ⌜ r .clients ≡ clientsIn (now (bytes .entry)) ⌝ }
+{
+    let settings = format::settings_in(bytes);
+    let clients = format::clients_in(bytes);
+    let count = word_count(settings.levels);
+    let mut words = zero_words();
+    let tree: &mut [u64] = &mut words[..count];
+    make_calls(bytes, fresh_run(clients), tree, settings)
 }

@@ -3,15 +3,16 @@ use mathlib.Core.Path.{_≡_, refl}
 use mathlib.Core.List.{List, _∷_, _++_}
 use Prim.Native.Nat.{ℕ, suc}
 use Rattle.lock.specs.declared.Settings.{Settings}
-use Rattle.lock.specs.rules.Table.{State, Call, clientOf, recordAt, call, opening}
+use Rattle.lock.specs.rules.Table.{State, Call, clientOf, recordAt, call}
 use Rattle.lock.specs.rules.History.{event, Demand3}
 use Rattle.lock.specs.claim.Demand3.{demand-3}
 use Rattle.schedule.specs.rules.Format.{settingsIn, clientsIn, callsFrom, lentFor}
+use Rattle.schedule.specs.rules.Running.{openingIn}
 use Rattle.schedule.specs.rules.Log.{line, lines}
 
 -- the first n calls of a file whose opening is accepted
-pub file-demand-3 : (bytes : List ℕ) → opening (settingsIn bytes) (lentFor (settingsIn bytes) (clientsIn bytes)) .number ≡ 0
-    → (n : ℕ) → Demand3 (settingsIn bytes) (opening (settingsIn bytes) (lentFor (settingsIn bytes) (clientsIn bytes)) .state) (callsFrom bytes 0 n)
+pub file-demand-3 : (bytes : List ℕ) → openingIn bytes .number ≡ 0 → (n : ℕ) → Demand3 (settingsIn bytes) (openingIn bytes .state) (callsFrom bytes 0 n)
+unfolding openingIn
 file-demand-3 bytes e n = demand-3 (settingsIn bytes) (lentFor (settingsIn bytes) (clientsIn bytes)) e (callsFrom bytes 0 n)
 
 -- each line of the log is of an event of that history: its call, its number, and the client's record in the phase that the event has

@@ -1,24 +1,24 @@
 -- Laws: the lines that the calls of a schedule add to its log, and the ways through a file. Assumes nothing.
-use mathlib.Core.Path.{_≡_, refl, sym, ap, _∙_}
+use mathlib.Core.Path.{_≡_, sym, ap, ap₂, _∙_}
 use mathlib.Core.List.{List, _++_, append-assoc, append-nil}
 use Prim.Native.Nat.{ℕ, suc, _+_, _-_, _*_, _≤_, _<_}
 use native.Mathlib.Omega.{arith}
-use lib.ListN.{length, take, replicate, length-take}
-use Rattle.base.specs.laws.ChoiceLaws.{choose-eq, choose-ne}
-use Rattle.io.specs.Counts.{Counts}
-use Rattle.tree.specs.rules.Tree.{wordCount}
+use lib.ListN.{length, take}
 use Rattle.lock.specs.declared.Record.{Record}
 use Rattle.lock.specs.declared.Settings.{Settings}
-use Rattle.lock.specs.rules.Table.{State, Call, clientOf, recordAt, Out, call, opening}
+use Rattle.lock.specs.rules.Table.{State, Call, clientOf, recordAt, Out, call}
 use Rattle.table.specs.rules.Lent.{result}
 use Rattle.schedule.specs.declared.Made.{Made}
 use Rattle.schedule.specs.declared.Run.{Run}
-use Rattle.schedule.specs.rules.Format.{settingsIn, clientsIn, countIn, placeOf, callIn, callsFrom, callsIn, fileCause, lentFor}
-use Rattle.schedule.specs.rules.Log.{kindText, headerLine, line, lines, refusedLine, logOfCalls, logOf, room, Logged}
+use Rattle.schedule.specs.rules.Format.{settingsIn, clientsIn, countIn, placeOf, callIn, callsFrom, callsIn}
+use Rattle.schedule.specs.rules.Running.{openingIn, recordsOf, stateOf}
+use Rattle.schedule.specs.rules.Refusal.{refusal}
+use Rattle.schedule.specs.rules.Log.{kindText, headerLine, line, lines, logOf}
 use Rattle.schedule.specs.rules.Text.{text, decimal, spaced}
 use Rattle.schedule.specs.laws.Appended.{Appended}
 use Rattle.schedule.specs.laws.WellFormed.{WellFormed}
-use Rattle.schedule.specs.laws.Running.{stateOf, recordIn, freshRun, fresh-state}
+use Rattle.schedule.specs.laws.RunLaws.{recordIn}
+use Rattle.schedule.specs.laws.Refusing.{run-whole}
 
 -- ---- one line
 
@@ -45,7 +45,7 @@ module _ (s : Settings) (bytes : List ℕ) (whole : List ℕ) where
 
   -- call k is made, and its line written
   pub written-more : (st : State) (k : ℕ) (out : List ℕ) (at : ℕ) → Written st k out at → k < countIn bytes → (made : Made) (words new : List ℕ) (end : ℕ)
-      → result (made .number) (take (made .run .clients) (made .run .shelf .records)) words (made .run .clock) ≡ call s st (callIn bytes k)
+      → result (made .number) (recordsOf (made .run)) words (made .run .clock) ≡ call s st (callIn bytes k)
       → Appended out at new end (line k (callIn bytes k) (made .number) (recordIn (made .run) (clientOf (callIn bytes k)))) → end ≤ at + 144
       → Written (stateOf (made .run) words) (k + 1) new end
   unfolding lines callsFrom recordAt
@@ -91,42 +91,12 @@ pub few-calls : (bytes : List ℕ) → WellFormed bytes → countIn bytes ≤ 27
 unfolding placeOf
 few-calls bytes w = omega (arith, w .inside, w .offset, w .short)
 
--- ---- an opening that is refused, and one that is accepted
+-- ---- the whole log of a file that is not refused
 
-module _ (s : Settings) (clients : ℕ) (calls : List Call) (n : ℕ) (f : n ≡ opening s (lentFor s clients) .number) where
-  pub log-refused : (n ≡ 0 → ⊥) → (old out : List ℕ) (end : ℕ) → Appended old 0 out end (refusedLine n) → take end out ≡ logOfCalls s clients calls
-  unfolding logOfCalls
-  log-refused d old out end a = a .text ∙ ap refusedLine f ∙ sym (choose-ne (opening s (lentFor s clients) .number) 0 _ _ (λ z. d (f ∙ z)))
-
-  pub log-run : n ≡ 0 → clients ≤ 64 → (run : Run) → run ≡ freshRun clients → (words : List ℕ) → words ≡ replicate (wordCount (s .levels)) 0
-      → (text : List ℕ) → text ≡ headerLine s (run .clients) ++ lines s (stateOf run words) 0 calls → text ≡ logOfCalls s clients calls
-  unfolding logOfCalls
-  log-run z few run e words g text t =
-      t ∙ ap (λ (r : Run). headerLine s (r .clients) ++ lines s (stateOf r words) 0 calls) e
-      ∙ ap (λ (st : State). headerLine s clients ++ lines s st 0 calls) (fresh-state s clients words few g)
-      ∙ sym (choose-eq (opening s (lentFor s clients) .number) 0 _ _ (sym f ∙ z))
-
--- ---- the three ways through a file
-
-module _ (bytes old : List ℕ) where
-  pub no-room : length old < room → Logged bytes old old 0
-  no-room b = record { text = λ c. absurd (omega arith); short = λ _. (refl, refl) }
-
-  pub file-refused : (n : ℕ) → n ≡ fileCause bytes → (n ≡ 0 → ⊥) → room ≤ length old → (out : List ℕ) (end : ℕ) → Appended old 0 out end (refusedLine n) → Logged bytes old out end
-  unfolding logOf
-  file-refused n e d b out end a = record {
-    text = λ _. a .text ∙ ap refusedLine e ∙ sym (choose-ne (fileCause bytes) 0 _ _ (λ z. d (e ∙ z)));
-    short = λ c. absurd (omega arith);
-  }
-
-  pub file-run : fileCause bytes ≡ 0 → room ≤ length old → (out : List ℕ) (end : ℕ) → take end out ≡ logOfCalls (settingsIn bytes) (clientsIn bytes) (callsIn bytes)
-      → Logged bytes old out end
-  unfolding logOf
-  file-run z b out end t = record {
-    text = λ _. t ∙ sym (choose-eq (fileCause bytes) 0 _ _ z);
-    short = λ c. absurd (omega arith);
-  }
-
--- what counts the bytes of a list, for whoever lends them on
-pub counted : (n : ℕ) (l : List ℕ) → n ≤ length l → Counts n l
-counted n l b = (b, omega (arith, length-take n l))
+pub log-run : (bytes : List ℕ) → refusal bytes ≡ 0 → (s : Settings) (clients : ℕ) → s ≡ settingsIn bytes → clients ≡ clientsIn bytes → (st : State) → st ≡ openingIn bytes .state
+    → (whole : List ℕ) → whole ≡ headerLine s clients ++ lines s st 0 (callsIn bytes) → whole ≡ logOf bytes
+unfolding logOf
+log-run bytes z s clients e f st g whole t =
+    let of : State → List ℕ = λ x. headerLine (settingsIn bytes) (clientsIn bytes) ++ lines (settingsIn bytes) x 0 (callsIn bytes) in
+    run-whole bytes (of (openingIn bytes .state)) z whole
+    (t ∙ ap₂ (λ (x : Settings) (y : ℕ). headerLine x y ++ lines x st 0 (callsIn bytes)) e f ∙ ap of g)

@@ -1,15 +1,13 @@
 -- To be believed: document 01, section "The schedule program": the log of a schedule, byte by byte (ASCII). Assumes nothing.
-use mathlib.Core.Path.{_≡_}
 use mathlib.Core.List.{List, [], _∷_, _++_}
-use Prim.Native.Nat.{ℕ, suc, _≤_, _<_}
-use lib.Dec.{eqb}
-use lib.ListN.{length, take}
-use Rattle.base.specs.rules.Choice.{choose}
+use Prim.Native.Nat.{ℕ, suc}
 use Rattle.lock.specs.declared.Record.{Record}
 use Rattle.lock.specs.declared.Settings.{Settings}
-use Rattle.lock.specs.rules.Table.{State, Call, request, step, release, cancel, clientOf, recordAt, call, opening}
-use Rattle.schedule.specs.rules.Format.{settingsIn, clientsIn, callsIn, fileCause, lentFor}
-use Rattle.schedule.specs.rules.Text.{text, decimal, spaced}
+use Rattle.lock.specs.rules.Table.{State, Call, request, step, release, cancel, clientOf, recordAt, call}
+use Rattle.schedule.specs.rules.Format.{settingsIn, clientsIn, callsIn}
+use Rattle.schedule.specs.rules.Running.{openingIn}
+use Rattle.schedule.specs.rules.Refusal.{unlessRefused}
+use Rattle.schedule.specs.rules.Text.{text, decimal, spaced, PutInto}
 
 -- ---- "The header line gives H, m, T and the clients, no other setting.": tree 2 m 1 wait 5 clients 2
 
@@ -35,28 +33,15 @@ unfoldable pub lines : Settings → State → ℕ → List Call → List ℕ
 lines s st k [] = []
 lines s st k (c ∷ cs) = line k c (call s st c .number) (recordAt (call s st c .state) (clientOf c)) ++ lines s (call s st c .state) (suc k) cs
 
--- ---- "refused 10", "refused 11", "A refused opening prints its number likewise. Each is then the only line."
+-- ---- the log of a file
 
-unfoldable pub refusedLine : ℕ → List ℕ
-refusedLine number = text "refused" ++ (spaced number ++ text "\n")
-
-unfoldable pub logOfCalls : Settings → ℕ → List Call → List ℕ
-logOfCalls s clients calls =
-    choose (eqb (opening s (lentFor s clients) .number) 0)
-    (headerLine s clients ++ lines s (opening s (lentFor s clients) .state) 0 calls)
-    (refusedLine (opening s (lentFor s clients) .number))
-
--- the log of a file
 unfoldable pub logOf : List ℕ → List ℕ
-logOf bytes = choose (eqb (fileCause bytes) 0) (logOfCalls (settingsIn bytes) (clientsIn bytes) (callsIn bytes)) (refusedLine (fileCause bytes))
-
--- ---- the log in lent bytes
+logOf bytes = unlessRefused bytes (headerLine (settingsIn bytes) (clientsIn bytes) ++ lines (settingsIn bytes) (openingIn bytes .state) 0 (callsIn bytes))
 
 -- every log fits here: at most 2,730 calls fit a file, and a line has at most 144 bytes
 abbrev pub room : ℕ
 room = 400000
 
--- of bytes lent with room enough the first `count` are the log afterwards, and what stands behind them is free; with less room nothing is done
-pub record Logged (bytes lent after : List ℕ) (count : ℕ) : Type 0 where
-  pub text : room ≤ length lent → take count after ≡ logOf bytes
-  pub short : length lent < room → (count ≡ 0) × (after ≡ lent)
+-- the log in lent bytes
+abbrev pub Logged : List ℕ → List ℕ → List ℕ → ℕ → Type 0
+Logged bytes lent after count = PutInto room (logOf bytes) lent after count

@@ -1,7 +1,7 @@
 -- `schedule::front::record_of` meets its contract. Assumes nothing.
 use mathlib.Core.Path.{_∙_}
 use native.Mathlib.Omega.{arith}
-use Rattle.schedule.specs.laws.Running.{front-record, no-record}
+use Rattle.schedule.specs.laws.RunLaws.{front-record, no-record}
 use borrow.Author.Needs.{needs}
 use Rattle.schedule.proofs.front.record_of.Statement.{statement}
 use Rattle.schedule.proofs.front.record_of.Tie as tie

@@ -1,6 +1,6 @@
 -- `schedule::running::make_call` meets its contract. Assumes nothing.
 use mathlib.Core.Path.{refl, _∙_}
-use Rattle.schedule.specs.laws.Running.{call-made}
+use Rattle.schedule.specs.laws.RunLaws.{call-made}
 use borrow.Author.Needs.{needs}
 use Rattle.schedule.proofs.running.make_call.Statement.{statement}
 use Rattle.schedule.proofs.running.make_call.Tie as tie

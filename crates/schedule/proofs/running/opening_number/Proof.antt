@@ -1,5 +1,5 @@
 -- `schedule::running::opening_number` meets its contract. Assumes nothing.
-use Rattle.schedule.specs.laws.Running.{opening-number}
+use Rattle.schedule.specs.laws.RunLaws.{opening-number}
 use borrow.Author.Needs.{needs}
 use Rattle.schedule.proofs.running.opening_number.Statement.{statement}
 use Rattle.schedule.proofs.running.opening_number.Tie as tie

@@ -1,6 +1,6 @@
 -- `schedule::text::put_refused` meets its contract. Assumes nothing.
 use Rattle.schedule.specs.laws.Appended.{joined}
-use Rattle.schedule.specs.rules.Log.{refusedLine}
+use Rattle.schedule.specs.rules.Refusal.{refusedLine}
 use borrow.Author.Needs.{needs}
 use Rattle.schedule.proofs.text.put_refused.Statement.{statement}
 use Rattle.schedule.proofs.text.put_refused.Tie as tie

@@ -1,4 +1,4 @@
--- `rangelog::read_input` meets its contract: the loop keeps the room's length, and leaves less of it at each turn. Assumes nothing.
+-- `reading::read_input` meets its contract: the loop keeps the room's length, and leaves less of it at each turn. Assumes nothing.
 use mathlib.Core.Path.{_≡_}
 use Prim.Native.Nat.{_≤_, _-_}
 use native.Mathlib.Omega.{arith}
@@ -8,8 +8,8 @@ use borrow.Author.Needs.{needs}
 use borrow.Author.Tests.{eqb-false}
 use Rattle.base.specs.laws.TestLaws.{both-false}
 use Rattle.io.proofs.Counting.{counts}
-use Rattle.rangelog.proofs.read_input.Statement.{statement}
-use Rattle.rangelog.proofs.read_input.Tie as tie
+use Rattle.reading.proofs.read_input.Statement.{statement}
+use Rattle.reading.proofs.read_input.Tie as tie
 
 abbrev Inv-loop : tie.InvT-loop
 Inv-loop room₀ count₀ room count = (length room ≡ length room₀) × (count ≤ length room)

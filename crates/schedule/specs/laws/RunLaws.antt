@@ -1,7 +1,7 @@
 -- Laws: the calls of a schedule, made one after another on a run. Assumes nothing.
 use mathlib.Core.Path.{_≡_, refl, sym, ap, ap₂, _∙_}
 use mathlib.Core.List.{List}
-use Prim.Native.Nat.{ℕ, _≤_, _<_}
+use Prim.Native.Nat.{ℕ, suc, _+_, _-_, _≤_, _<_}
 use native.Mathlib.Omega.{arith}
 use lib.Dec.{eqb}
 use lib.ListN.{length, take, getD, replicate, length-take, length-replicate}
@@ -13,21 +13,19 @@ use Rattle.lock.specs.declared.Call.{Call as CallStruct}
 use Rattle.lock.specs.declared.Record.{Record}
 use Rattle.lock.specs.declared.Settings.{Settings}
 use Rattle.lock.specs.rules.Records.{idleWith}
-use Rattle.lock.specs.rules.Table.{State, call, openingNumber, opened, opening}
+use Rattle.lock.specs.rules.Table.{State, Out, call, openingNumber, opened, opening}
+use Rattle.lock.specs.rules.History.{run}
 use Rattle.lock.specs.rules.ByValue.{callOf}
 use Rattle.table.specs.rules.Lent.{lent}
 use Rattle.schedule.specs.declared.Run.{Run}
-use Rattle.schedule.specs.rules.Format.{callIn, lentFor}
+use Rattle.schedule.specs.rules.Format.{settingsIn, clientsIn, countIn, callIn, callsFrom, callsIn, lentFor}
+use Rattle.schedule.specs.rules.Running.{openingIn, afterCalls, recordsOf, stateOf}
 use Rattle.schedule.specs.laws.FormatLaws.{CallRead, call-read}
 use Rattle.schedule.specs.laws.ShelfLaws.{take-replicate, empty-front}
 
--- the table that a run's calls are made on
-abbrev pub stateOf : Run → List ℕ → State
-stateOf run words = lent (take (run .clients) (run .shelf .records)) words (run .clock)
-
--- a client's record in it, of a client past it an idle one
+-- a client's record in a run, of a client past its table an idle one
 abbrev pub recordIn : Run → ℕ → Record
-recordIn run client = getD (take (run .clients) (run .shelf .records)) client (idleWith 0)
+recordIn made client = getD (recordsOf made) client (idleWith 0)
 
 pub front-record : (l : List Record) (clients client : ℕ) → client < clients → getD l client (idleWith 0) ≡ getD (take clients l) client (idleWith 0)
 front-record l clients client b = sym (getD-take clients l client (idleWith 0) b)
@@ -69,7 +67,41 @@ pub tree-length : (l : List ℕ) (n : ℕ) → l ≡ replicate 1365 0 → n ≤ 
 tree-length l n e b = sym (ap length (tree-words l n e b) ∙ length-replicate n 0)
 
 -- a run begins on what is lent to the opening, which is what the opening leaves
-pub fresh-state : (s : Settings) (clients : ℕ) (words : List ℕ) → clients ≤ 64 → words ≡ replicate (wordCount (s .levels)) 0
+fresh-state : (s : Settings) (clients : ℕ) (words : List ℕ) → clients ≤ 64 → words ≡ replicate (wordCount (s .levels)) 0
     → stateOf (freshRun clients) words ≡ opening s (lentFor s clients) .state
 unfolding lentFor
 fresh-state s clients words b e = ap₂ (λ (records : List Record) (w : List ℕ). lent records w 0) (empty-front clients b) e ∙ sym (opening-fresh s clients)
+
+module _ (bytes : List ℕ) (s : Settings) (clients : ℕ) (e : s ≡ settingsIn bytes) (f : clients ≡ clientsIn bytes) where
+  -- as the code has settings, clients, run and words
+  pub begun : clients ≤ 64 → (made : Run) → made ≡ freshRun clients → (words : List ℕ) → words ≡ replicate (wordCount (s .levels)) 0 → stateOf made words ≡ openingIn bytes .state
+  unfolding openingIn
+  begun b made g words w =
+      ap (λ (x : Run). stateOf x words) g ∙ fresh-state s clients words b w ∙ ap₂ (λ (x : Settings) (y : ℕ). opening x (lentFor x y) .state) e f
+
+  -- ---- all calls
+
+  pub all-made : (first last : State) → first ≡ openingIn bytes .state → last ≡ run s first (callsIn bytes) → last ≡ afterCalls bytes
+  unfolding afterCalls
+  all-made first last b g = g ∙ ap₂ (λ (x : Settings) (y : State). run x y (callsIn bytes)) e b
+
+-- from call k on
+module _ (s : Settings) (bytes : List ℕ) where
+  abbrev pub runFrom : State → ℕ → State
+  runFrom st k = run s st (callsFrom bytes k (countIn bytes - k))
+
+  pub run-all : (st : State) → runFrom st 0 ≡ run s st (callsIn bytes)
+  unfolding callsIn
+  run-all st = ap (λ (n : ℕ). run s st (callsFrom bytes 0 n)) (let e : countIn bytes - 0 ≡ countIn bytes = omega arith in e)
+
+  pub run-more : (st : State) (k : ℕ) → k < countIn bytes → (out : Out) → out ≡ call s st (callIn bytes k) → runFrom (out .state) (k + 1) ≡ runFrom st k
+  unfolding run callsFrom
+  run-more st k b out e =
+      let left : countIn bytes - k ≡ suc (countIn bytes - (k + 1)) = omega arith in
+      let one : k + 1 ≡ suc k = omega arith in
+      ap₂ (λ (o : Out) (n : ℕ). run s (o .state) (callsFrom bytes n (countIn bytes - (k + 1)))) e one
+      ∙ sym (ap (λ (n : ℕ). run s st (callsFrom bytes k n)) left)
+
+  pub run-done : (st : State) (k : ℕ) → countIn bytes ≤ k → runFrom st k ≡ st
+  unfolding run callsFrom
+  run-done st k b = ap (λ (n : ℕ). run s st (callsFrom bytes k n)) (let e : countIn bytes - k ≡ 0 = omega arith in e)
