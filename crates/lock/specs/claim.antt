@@ -17,6 +17,7 @@ pub mod LeafWords
 pub mod Notifying
 pub mod Onward
 pub mod Owned
+pub mod Readable
 pub mod Returning
 pub mod Stage
 pub mod Start

@@ -15,4 +15,5 @@ pub mod Ready
 pub mod ReturnLaws
 pub mod StepLaws
 pub mod Touched
+pub mod WhenReadable
 pub mod WordLaws

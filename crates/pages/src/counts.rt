@@ -6,10 +6,10 @@ use lock::Record;
 use lock::Settings;
 
 // 1 for a client in phase 9, by its phase number alone.
-pub fn in_phase_9(record: Record) -> u64
-    ensures { λ n. ⌜ n ≡ inPhase9 record ⌝ }
+pub fn in_phase_9(one: Record) -> u64
+    ensures { λ n. ⌜ n ≡ inPhase9 one ⌝ }
 {
-    if record.phase == 9 {
+    if one.phase == 9 {
         return 1;
     }
     0

@@ -11,11 +11,11 @@ use lock::Record;
 use lock::Settings;
 
 // The row of a readable record: its pieces are its window's cover, and so is their over-cover. (Of the last clock speaks the contract alone.)
-pub fn row_of(record: Record, settings: Settings, last: u64) -> Row
-    requires { ⌜ Settled settings × (unreadable settings record last ≡ false) ⌝ }
-    ensures { λ r. ⌜ r ≡ rowOf settings record ⌝ }
+pub fn row_of(one: Record, settings: Settings, last: u64) -> Row
+    requires { ⌜ Settled settings × (unreadable settings one last ≡ false) ⌝ }
+    ensures { λ r. ⌜ r ≡ rowOf settings one ⌝ }
 {
-    if record.phase == 0 {
+    if one.phase == 0 {
         return Row {
             phase: 0,
             left: 0,
@@ -25,13 +25,13 @@ pub fn row_of(record: Record, settings: Settings, last: u64) -> Row
             over: 0,
         };
     }
-    let answer = cover::cover(settings.levels, record.left, record.right);
+    let answer = cover::cover(settings.levels, one.left, one.right);
     Row {
-        phase: record.phase,
-        left: record.left,
-        right: record.right,
-        first: record.first,
-        second: record.second,
+        phase: one.phase,
+        left: one.left,
+        right: one.right,
+        first: one.first,
+        second: one.second,
         over: answer.over,
     }
 }

@@ -26,9 +26,10 @@ use Rattle.lock.specs.declared.Settings.{Settings}
 use Rattle.lock.specs.rules.Records.{pieces, pieceAt, wordAt}
 use Rattle.lock.specs.rules.Table.{State, Call, recordAt, opened, opening}
 use Rattle.lock.specs.rules.History.{run, CleanInner, Clean, Demand3}
+use Rattle.lock.specs.laws.Ready.{Ready}
 use Rattle.lock.specs.claim.HistoryRecord.{holds-record, all-idle}
 use Rattle.lock.specs.claim.Owned.{owns, ownsUnit, ownsNotice}
-use Rattle.lock.specs.claim.Fit.{Live, covers, live-apart}
+use Rattle.lock.specs.claim.Fit.{covers, ready-apart, fit-idle, fit-ready}
 use Rattle.lock.specs.claim.Effect.{inWindow}
 use Rattle.lock.specs.claim.InnerWords.{nobody, ticketOf}
 use Rattle.lock.specs.claim.LeafWords.{in-window}
@@ -53,7 +54,7 @@ module _ (s : Settings) (st : State) (inv : Invariant s st) where
 
   -- a client that holds
   record Held (c u : ℕ) : Type 0 where
-    live : Live s (recordAt st c) (st .clock)
+    ready : Ready s (recordAt st c) (st .clock)
     phase : recordAt st c .phase ≡ 9
     low : recordAt st c .left ≤ u
     high : u < recordAt st c .right
@@ -62,7 +63,7 @@ module _ (s : Settings) (st : State) (inv : Invariant s st) where
   held : (c u : ℕ) → recordAt st c .phase ≡ 9 → recordAt st c .left ≤ u → u < recordAt st c .right → Held c u
   unfolding recordAt
   held c u e a b = record {
-    live = ⊎-elim (λ f. absurd (omega (arith, ap (λ x. x .phase) f))) (λ l. l) (inv .fit c);
+    ready = fit-ready s (recordAt st c) (st .clock) (inv .fit c) (inv .settled) (λ z. omega arith);
     phase = e;
     low = a;
     high = b;
@@ -74,7 +75,7 @@ module _ (s : Settings) (st : State) (inv : Invariant s st) where
   taken c u v i b =
       let r = recordAt st c in
       by-lt i (r .current) (λ l. stage-before r i l (λ e. omega (arith, v .phase)))
-      (λ l. stage-current r i (omega (arith, v .live .whole (v .phase))) ∙ v .phase)
+      (λ l. stage-current r i (omega (arith, v .ready .whole (v .phase))) ∙ v .phase)
 
   -- two different clients do not both own more than there is
   not-both : (f : Record → ℕ) (c d u : ℕ) → c ≢ d → Held c u → Held d u → f (recordAt st c) ≡ 1 → f (recordAt st d) ≡ 1 → sumBy f (st .records) < 2 → ⊥
@@ -92,8 +93,8 @@ module _ (s : Settings) (st : State) (inv : Invariant s st) where
       let a = pieceAt (recordAt st c) i in
       let b = pieceAt (recordAt st d) j in
       let g = inv .settled in
-      let na = live-apart s (recordAt st c) (st .clock) (v .live) .node i bi in
-      let nb = live-apart s (recordAt st d) (st .clock) (w .live) .node j bj in
+      let na = ready-apart s (recordAt st c) (st .clock) (v .ready) .node i bi in
+      let nb = ready-apart s (recordAt st d) (st .clock) (w .ready) .node j bj in
       let meet = meeting h m a b (g .levels-most) (g .distance-some) (g .distance-most) nb (na .some) above in
       let place = check-all a (na .some) h m (g .distance-some) (notifyNode m b (meet .place)) (meet .checked) in
       let ti = taken c u v i bi in
@@ -109,9 +110,9 @@ module _ (s : Settings) (st : State) (inv : Invariant s st) where
       let a = pieceAt (recordAt st c) i in
       let ti = taken c u v i bi in
       let tj = taken d u w j bj in
-      let mine : owns s 3 a (recordAt st c) ≡ 1 = stage-owns s (recordAt st c) (st .clock) (v .live) i (omega arith) (omega arith) in
-      let other : owns s 3 a (recordAt st d) ≡ 1 = ap (λ (x : ℕ). owns s 3 x (recordAt st d)) e ∙ stage-owns s (recordAt st d) (st .clock) (w .live) j (omega arith) (omega arith) in
-      let node = live-apart s (recordAt st c) (st .clock) (v .live) .node i bi in
+      let mine : owns s 3 a (recordAt st c) ≡ 1 = stage-owns s (recordAt st c) (st .clock) (v .ready) i (omega arith) (omega arith) in
+      let other : owns s 3 a (recordAt st d) ≡ 1 = ap (λ (x : ℕ). owns s 3 x (recordAt st d)) e ∙ stage-owns s (recordAt st d) (st .clock) (w .ready) j (omega arith) (omega arith) in
+      let node = ready-apart s (recordAt st c) (st .clock) (v .ready) .node i bi in
       by-eq (level a) h
       (λ l. let is : leaf h u ≡ a = ap (λ (x : ℕ). climb x (leaf h u)) (let z : 0 ≡ h - level a = omega arith in z) ∙ holds-holder h a node u hold in
       let unit : (r : Record) → r .left ≤ u → u < r .right → owns s 3 a r ≡ 1 → ownsUnit s u r ≡ 1 = λ r x y o. in-window r u (owns s 3 (leaf h u) r) x y ∙ ap (λ (k : ℕ). owns s 3 k r) is ∙ o in
@@ -125,9 +126,9 @@ module _ (s : Settings) (st : State) (inv : Invariant s st) where
   apart c d u n v w =
       let A = recordAt st c in
       let B = recordAt st d in
-      let f : u < units h = omega (arith, v .high, v .live .window .fits) in
-      let o = overlap h (A .left) (A .right) (pieces A) (covers s A (v .live .window) (v .live .cover)) (B .left) (B .right) (pieces B) (covers s B (w .live .window) (w .live .cover))
-      u (v .live .window .levels) f (v .low) (v .high) (w .low) (w .high) in
+      let f : u < units h = omega (arith, v .high, v .ready .active .window .fits) in
+      let o = overlap h (A .left) (A .right) (pieces A) (covers s A (v .ready .active .window) (v .ready .active .cover)) (B .left) (B .right) (pieces B) (covers s B (w .ready .active .window) (w .ready .active .cover))
+      u (v .ready .active .window .levels) f (v .low) (v .high) (w .low) (w .high) in
       let p = place-in (o .mine .node) (pieces A) (o .mine .among) in
       let q = place-in (o .other .node) (pieces B) (o .other .among) in
       ⊎-elim
@@ -144,9 +145,8 @@ module _ (s : Settings) (st : State) (inv : Invariant s st) where
     unfolding recordAt
     all-empty c =
         let r = recordAt st c in
-        ⊎-elim
-        (λ e. fresh-empty s r (λ f. omega (arith, idle c)) (ap (λ x. x .current) e) (ap (λ x. x .grip) e) (ap (λ x. x .notices) e))
-        (λ l. absurd (omega (arith, l .some, idle c))) (inv .fit c)
+        let e = fit-idle s r (st .clock) (inv .fit c) (idle c) in
+        fresh-empty s r (λ f. omega (arith, idle c)) (ap (λ x. x .current) e) (ap (λ x. x .grip) e) (ap (λ x. x .notices) e)
 
     clean-inner : (n : ℕ) → Node h n → level n < h → CleanInner (wordAt (st .words) n)
     clean-inner n v l =

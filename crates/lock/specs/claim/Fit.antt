@@ -1,14 +1,14 @@
--- Laws: what is known of every record of a table after a history: it is idle, or its pieces are its window's cover and its fields fit its phase.
--- Assumes nothing.
+-- Laws: what is known of every record of a table after a history: it is readable, and its notices fit its phase; and what follows of its pieces. Assumes nothing.
 use mathlib.Core.Path.{_≡_, sym, ap, subst, _∙_}
-use mathlib.Core.Logic.{_≢_, _⊎_, inl, inr, ⊎-elim}
+use mathlib.Core.Logic.{_≢_}
+use mathlib.Core.Bool.{false}
 use mathlib.Core.List.{List, [], _∷_}
 use Prim.Native.Nat.{ℕ, zero, suc, _≤_, _<_}
 use native.Mathlib.Omega.{arith}
 use lib.Dec.{eqb, leb, eqb→eq}
 use lib.ListN.{length, getD}
 use Rattle.base.specs.rules.Choice.{choose}
-use Rattle.base.specs.laws.ChoiceLaws.{on-choose, choose-eq, choose-ne, by-lt}
+use Rattle.base.specs.laws.ChoiceLaws.{on-choose, choose-eq, choose-ne, by-lt, by-eq}
 use Rattle.base.specs.laws.Sum.{sumTo, to-only, to-le, to-once}
 use Rattle.tree.specs.rules.Tree.{level, left, Node}
 use Rattle.tree.specs.rules.Lists.{notifyList}
@@ -21,25 +21,17 @@ use Rattle.lock.specs.declared.Record.{Record}
 use Rattle.lock.specs.declared.Settings.{Settings}
 use Rattle.lock.specs.rules.Records.{coverOf, pieces, pieceAt, currentPiece, idleWith}
 use Rattle.lock.specs.laws.Pieces.{notices-before, notices-current}
+use Rattle.lock.specs.rules.Unreadable.{unreadable}
 use Rattle.lock.specs.laws.Active.{Settled}
-use Rattle.lock.specs.laws.ActiveLaws.{in-at}
+use Rattle.lock.specs.laws.ActiveLaws.{in-at, idle-readable}
+use Rattle.lock.specs.laws.Ready.{Ready, ready}
+use Rattle.lock.specs.laws.WhenReadable.{readable-idle, readable-later}
 use Rattle.lock.specs.claim.Owned.{returned, gripped, noticed, reaches, owns, outstanding, ownsNotice, noticed-begun, noticed-none}
 
--- a record that is not idle
-pub record Live (s : Settings) (r : Record) (last : ℕ) : Type 0 where
-  pub window : Window (s .levels) (r .left) (r .right)
-  pub cover : pieces r ≡ coverOf s (r .left) (r .right)
-  pub exists : r .current < length (pieces r)
-  pub some : 1 ≤ r .phase
-  pub most : r .phase ≤ 10
-  pub claimed : 6 ≤ r .phase → r .phase ≤ 9 → r .grip ≡ 3
+-- readable, and from 7 to 9 with all notices of the current piece given, which a readable record need not have
+pub record Fit (s : Settings) (r : Record) (last : ℕ) : Type 0 where
+  pub readable : unreadable s r last ≡ false
   pub all-noticed : 7 ≤ r .phase → r .phase ≤ 9 → r .notices ≡ length (notifyList (s .distance) (currentPiece r))
-  pub listed : r .notices ≤ length (notifyList (s .distance) (currentPiece r))
-  pub whole : r .phase ≡ 9 → length (pieces r) ≤ suc (r .current)
-  pub t1-past : r .t1 ≤ last
-
-abbrev pub Fit : Settings → Record → ℕ → Type 0
-Fit s r last = (r ≡ idleWith (r .outcome)) ⊎ Live s r last
 
 -- ---- the pieces of a cover
 
@@ -125,38 +117,46 @@ module _ (s : Settings) (r : Record) (v : Apart s r) where
     unfolding ownsNotice
     notice-le n = omega (arith, to-le (λ i. sumTo (noticed s r i) (λ j. outstanding s n r i j)) 1 (length (pieces r)) (λ i b. notice-once n i b))
 
--- ---- a record that fits
+-- ---- a readable record that is not idle
 
-module _ (s : Settings) (r : Record) (last : ℕ) (v : Live s r last) where
-  pub live-apart : Apart s r
-  live-apart = covered-apart s r (v .window) (v .cover)
+module _ (s : Settings) (r : Record) (last : ℕ) (v : Ready s r last) where
+  pub ready-apart : Apart s r
+  ready-apart = covered-apart s r (v .active .window) (v .active .cover)
 
-  pub live-noticed : (i : ℕ) → i < length (pieces r) → noticed s r i ≤ length (notifyList (s .distance) (pieceAt r i))
-  live-noticed i b =
+  pub ready-noticed : (i : ℕ) → i < length (pieces r) → noticed s r i ≤ length (notifyList (s .distance) (pieceAt r i))
+  ready-noticed i b =
       by-lt (r .current) i
       (λ q. omega (arith, noticed-none s r i q))
       (λ q. by-lt i (r .current)
       (λ l. omega (arith, noticed-begun s r i q, notices-before s r i l))
       (λ l. let e : i ≡ r .current = omega arith in
       let f : length (notifyList (s .distance) (pieceAt r i)) ≡ length (notifyList (s .distance) (currentPiece r)) = ap (λ (j : ℕ). length (notifyList (s .distance) (pieceAt r j))) e in
-      omega (arith, noticed-begun s r i q, notices-current s r i l, v .listed)))
+      omega (arith, noticed-begun s r i q, notices-current s r i l, v .active .noticed)))
 
-pub fit-past : (s : Settings) (r : Record) (last : ℕ) → Fit s r last → r .t1 ≤ last
-fit-past s r last v = ⊎-elim (λ e. omega (arith, ap (λ x. x .t1) e)) (λ l. l .t1-past) v
+-- ---- a record that fits
 
-pub fit-later : (s : Settings) (r : Record) (last now : ℕ) → last ≤ now → Fit s r last → Fit s r now
-fit-later s r last now b v =
-    ⊎-elim inl
-    (λ l. inr (record {
-      window = l .window;
-      cover = l .cover;
-      exists = l .exists;
-      some = l .some;
-      most = l .most;
-      claimed = l .claimed;
-      all-noticed = l .all-noticed;
-      listed = l .listed;
-      whole = l .whole;
-      t1-past = omega (arith, l .t1-past);
-    }))
-    v
+module _ (s : Settings) (r : Record) (last : ℕ) where
+  -- before its notices are all given, or when it returns
+  pub fit-readable : unreadable s r last ≡ false → (7 ≤ r .phase → 9 < r .phase) → Fit s r last
+  fit-readable u b = record { readable = u; all-noticed = λ x y. absurd (omega (arith, b x)) }
+
+  module _ (v : Fit s r last) where
+    pub fit-idle : r .phase ≡ 0 → r ≡ idleWith (r .outcome)
+    fit-idle e = idle-readable s r last (v .readable) e
+
+    pub fit-later : (now : ℕ) → last ≤ now → Fit s r now
+    fit-later now b = record { readable = readable-later s r last now b (v .readable); all-noticed = v .all-noticed }
+
+    module _ (g : Settled s) where
+      pub fit-ready : r .phase ≢ 0 → Ready s r last
+      fit-ready d = ready s r last g (v .readable) d
+
+      -- cases on whether it is idle
+      pub on-fit : {P : Type 0} → (r ≡ idleWith (r .outcome) → P) → (Ready s r last → P) → P
+      on-fit f h = by-eq (r .phase) 0 (λ e. f (fit-idle e)) (λ d. h (fit-ready d))
+
+      pub fit-past : r .t1 ≤ last
+      fit-past = on-fit (λ e. omega (arith, ap (λ x. x .t1) e)) (λ l. l .active .t1-past)
+
+pub idle-fit : (s : Settings) (o last : ℕ) → o ≤ 3 → Fit s (idleWith o) last
+idle-fit s o last b = fit-readable s (idleWith o) last (readable-idle s o last b) (λ x. omega arith)

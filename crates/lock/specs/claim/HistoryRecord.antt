@@ -170,7 +170,7 @@ idle-record s st ks c z (inr h) =
 
 -- ---- all clients: those below the table's count, and past it no record stands
 
-count-run : (s : Settings) (ks : List Call) (st : State) → length (run s st ks .records) ≡ length (st .records)
+pub count-run : (s : Settings) (ks : List Call) (st : State) → length (run s st ks .records) ≡ length (st .records)
 unfolding run
 count-run s [] st = refl
 count-run s (k ∷ ks) st = count-run s ks (call s st k .state) ∙ count-after s st k

@@ -21,7 +21,7 @@ use Rattle.lock.specs.rules.Table.{State, recordAt}
 use Rattle.lock.specs.laws.Active.{Settled}
 use Rattle.lock.specs.rules.Steps.{wanted}
 use Rattle.lock.specs.claim.Owned.{owns-falls}
-use Rattle.lock.specs.claim.Fit.{Fit, fit-past, fit-later}
+use Rattle.lock.specs.claim.Fit.{Fit, fit-later}
 use Rattle.lock.specs.claim.Effect.{Grips, Notices, Effect, quiet, drew, turned, claimed, freed, passed, notified, unnotified, took, gave}
 use Rattle.lock.specs.claim.InnerWords.{nobody, InnerWord, inner-same, inner-drew, inner-turned, inner-claimed, inner-freed, inner-passed, inner-notified, inner-unnotified}
 use Rattle.lock.specs.claim.LeafWords.{LeafBit, leaf-same, leaf-took, leaf-gave}
@@ -31,7 +31,7 @@ pub record Invariant (s : Settings) (st : State) : Type 0 where
   pub settled : Settled s
   pub count : length (st .words) ≡ wordCount (s .levels)
   pub few : length (st .records) ≤ 32767
-  -- every record is idle or fits its phase
+  -- every record is readable, and its notices fit its phase
   pub fit : (c : ℕ) → Fit s (recordAt st c) (st .clock)
   -- every inner word holds what the records own of it
   pub inner : (n : ℕ) → Node (s .levels) n → level n ≢ s .levels → InnerWord s (st .records) n (wordAt (st .words) n)
@@ -190,7 +190,7 @@ module _ (s : Settings) (st : State) (inv : Invariant s st) (c : ℕ) (client : 
         on-set (λ y. Timed s y (getD (set rs c q) b nobody) now) rs c a q nobody client
         (λ i. on-set (λ y. Timed s q y now) rs c b q nobody client
         (λ j. absurd (d (i ∙ sym j)))
-        (λ j. timed-above s (inv .settled) rs nobody r q (st .clock) now later time (getD rs b nobody) (inv .fit b) (fit-past s (getD rs b nobody) (st .clock) (inv .fit b)) (λ n z. z b) (inv .timed c b (λ k. j (sym k)))))
+        (λ j. timed-above s (inv .settled) rs nobody r q (st .clock) now later time (getD rs b nobody) (inv .fit b) (λ n z. z b) (inv .timed c b (λ k. j (sym k)))))
         (λ i. on-set (λ y. Timed s (getD rs a nobody) y now) rs c b q nobody client
         (λ j. timed-below s (inv .settled) rs nobody r q (st .clock) now later time (getD rs a nobody) (inv .fit a) (λ n z. z a) (inv .timed a c i))
         (λ j. timed-later s (getD rs a nobody) (getD rs b nobody) (st .clock) now later (inv .timed a b d)))
@@ -201,7 +201,7 @@ module _ (s : Settings) (st : State) (inv : Invariant s st) (c : ℕ) (client : 
       settled = inv .settled;
       count = written-length (st .words) x v ∙ inv .count;
       few = rw (length-set rs c q) (inv .few);
-      fit = λ d. on-set (λ (z : Record). Fit s z now) rs c d q nobody client (λ _. fits) (λ _. fit-later s (getD rs d nobody) (st .clock) now later (inv .fit d));
+      fit = λ d. on-set (λ (z : Record). Fit s z now) rs c d q nobody client (λ _. fits) (λ _. fit-later s (getD rs d nobody) (st .clock) (inv .fit d) now later);
       inner = λ n a b. on-word (λ w. InnerWord s (set rs c q) n w) n a (λ i. rw i (here-kept (rw (sym i) a) (rw (sym i) b))) (else-kept n a b);
       small = λ n a b. on-word (λ w. w < 2 ^ 64) n a (λ i. here-small (rw (sym i) a) (rw (sym i) b)) (λ _. inv .small n a b);
       bits = λ u f. on-word (λ w. LeafBit s (set rs c q) u w) (leaf (s .levels) u)

@@ -1,13 +1,13 @@
 -- Laws: every call of a history keeps the invariant. Assumes nothing.
 use mathlib.Core.Path.{_≡_, refl, sym, ap, _∙_}
-use mathlib.Core.Logic.{_≢_, inl, inr, ⊎-elim}
+use mathlib.Core.Logic.{_≢_, inl, inr}
 use mathlib.Core.Bool.{false}
 use mathlib.Core.List.{List, [], _∷_}
 use Prim.Native.Nat.{ℕ, _≤_, _<_}
 use native.Mathlib.Omega.{arith}
 use lib.Dec.{eqb, eqb→eq}
 use lib.ListN.{length, getD}
-use Rattle.base.specs.laws.ChoiceLaws.{on-choose, by-lt}
+use Rattle.base.specs.laws.ChoiceLaws.{on-choose, by-lt, neqb→ne}
 use Rattle.cover.specs.rules.Cover.{In}
 use Rattle.cover.specs.rules.Answer.{windowOutside}
 use Rattle.cover.specs.laws.Lowest.{Window}
@@ -17,22 +17,22 @@ use Rattle.lock.specs.declared.Record.{Record}
 use Rattle.lock.specs.declared.Settings.{Settings}
 use Rattle.lock.specs.rules.Records.{coverOf, Phase, phaseOf, pieces, pieceAt, gripOf, wordAt, written, toPhase, withOutcome, idleWith}
 use Rattle.lock.specs.laws.Phases.{on-phase}
-use Rattle.lock.specs.laws.Pieces.{grip-before, grip-current}
-use Rattle.lock.specs.rules.Unreadable.{unreadable}
-use Rattle.lock.specs.rules.Steps.{touchedIn, movedIn}
+use Rattle.lock.specs.laws.Pieces.{piece-first, grip-before, grip-current, first-gripped}
+use Rattle.lock.specs.rules.Steps.{startPhase, touchedIn, movedIn}
 use Rattle.lock.specs.rules.Calls.{requested, released, cancelled}
 use Rattle.lock.specs.rules.Table.{State, Call, request, step, release, cancel, clientOf, recordAt, numberOf, after, call}
 use Rattle.lock.specs.rules.History.{run}
 use Rattle.lock.specs.laws.Active.{Settled}
 use Rattle.lock.specs.laws.ActiveLaws.{pieces-are}
 use Rattle.lock.specs.laws.Accepted.{accepted, request-tested, step-tested, release-tested, cancel-tested}
-use Rattle.lock.specs.laws.Ready.{Ready, ready}
-use Rattle.lock.specs.claim.Fit.{Live}
+use Rattle.lock.specs.laws.Ready.{Ready, any-grip-leaf, any-grip-most}
+use Rattle.lock.specs.laws.WhenReadable.{asked, readable-begin, readable-returning}
+use Rattle.lock.specs.claim.Fit.{Fit, fit-readable, fit-idle, fit-ready, idle-fit}
 use Rattle.lock.specs.claim.Effect.{quiet}
 use Rattle.lock.specs.claim.InnerWords.{nobody}
 use Rattle.lock.specs.claim.Invariant.{Invariant}
 use Rattle.lock.specs.claim.Forward.{kin, entering-unreturned, Empty, empty-same, fresh-empty}
-use Rattle.lock.specs.claim.Onward.{live-kin, timely-returning, timely-first}
+use Rattle.lock.specs.claim.Onward.{asked-same, timely-returning, timely-first}
 use Rattle.lock.specs.claim.Keeps.{Keeps, keeps-invariant, keeps-stay, keeps-quiet, occ-none, notice-none}
 use Rattle.lock.specs.claim.Taking.{start-low}
 use Rattle.lock.specs.claim.Climbing.{ticket-keeps, turn-keeps, ancestor-node, blocked-keeps, climb-keeps}
@@ -52,28 +52,19 @@ module _ (s : Settings) (g : Settled s) (l r : ℕ) (inside : windowOutside (s .
   some-piece n [] i = absurd i
   some-piece n (m ∷ c) i = omega arith
 
-  requested-live : (now : ℕ) → Live s (requested s l r) now
+  requested-fit : (now : ℕ) → Fit s (requested s l r) now
   unfolding requested
-  requested-live now =
+  requested-fit now =
       let q = requested s l r in
-      let h = s .levels in
       let w = window in
-      let least = least-cover h l r (w .levels) (w .some) (w .fits) 2 (omega arith) in
+      let least = least-cover (s .levels) l r (w .levels) (w .some) (w .fits) 2 (omega arith) in
       let held = least .covers .holds l (omega arith) (w .some) in
       let is : pieces q ≡ coverOf s l r = pieces-are q (coverOf s l r) (held .node) (held .among) (least .few) (λ m i. least .covers .meets m i .node .some) refl refl in
-      let low = start-low s (getD (coverOf s l r) 0 0) in
-      record {
-        window = w;
-        cover = is;
-        exists = omega (arith, ap length is, some-piece (held .node) (coverOf s l r) (held .among));
-        some = low .0;
-        most = omega (arith, low .1);
-        claimed = λ a _. absurd (omega (arith, low .1));
-        all-noticed = λ a _. absurd (omega (arith, low .1));
-        listed = omega arith;
-        whole = λ a. absurd (omega (arith, low .1));
-        t1-past = omega arith;
-      }
+      fit-readable s q now
+      (readable-begin s q now g
+      (asked s q now w is (omega (arith, ap length is, some-piece (held .node) (coverOf s l r) (held .among))) (omega arith) (omega arith) (omega arith))
+      refl refl (ap (startPhase s) (sym (piece-first q))) refl refl refl)
+      (λ a. omega (arith, start-low s (getD (coverOf s l r) 0 0)))
 
   pub request-keeps : (rs : List Record) (r′ : Record) (now : ℕ) → Empty s r′ → (w : ℕ) → Keeps s rs r′ 0 w w (requested s l r) now
   unfolding requested
@@ -83,25 +74,27 @@ module _ (s : Settings) (g : Settled s) (l r : ℕ) (inside : windowOutside (s .
       record {
         node = λ d. absurd (d refl);
         effect = quiet refl (empty-same s r′ q v (fresh-empty s q (λ e. omega (arith, low .1)) refl refl refl));
-        fits = inr (requested-live now);
+        fits = requested-fit now;
         time = timely-first s rs nobody r′ now q refl (low .1) (λ _. refl);
       }
 
 -- ---- release and cancel: a record begins to return
 
-module _ (s : Settings) (rs : List Record) (r : Record) (now : ℕ) (rd : Ready s r now) (lv : Live s r now) (ahead : r .phase ≢ 10) (w : ℕ) where
-  returns : (o : ℕ) → Keeps s rs r 0 w w (toPhase 10 (withOutcome o r)) now
-  unfolding pieces pieceAt
-  returns o =
+module _ (s : Settings) (rs : List Record) (r : Record) (now : ℕ) (g : Settled s) (rd : Ready s r now) (ahead : r .phase ≢ 10) (w : ℕ) where
+  returns : (o : ℕ) → o ≢ 0 → o ≤ 3 → gripOf r 0 ≢ 0 → Keeps s rs r 0 w w (toPhase 10 (withOutcome o r)) now
+  unfolding pieces pieceAt gripOf
+  returns o a b d =
       let q = toPhase 10 (withOutcome o r) in
       let k = kin r q refl refl refl refl in
-      keeps-quiet s rs r q 0 w now (λ d. absurd (d refl)) k refl ahead (entering-unreturned s q refl (rd .no-giving ahead) refl) refl refl refl
-      (live-kin s r q now now (omega arith) lv k (lv .exists) (omega arith) (omega arith) (λ _ a. absurd (omega arith)) (λ _ a. absurd (omega arith)) (lv .listed) (λ f. absurd (omega arith)) (lv .t1-past))
+      keeps-quiet s rs r q 0 w now (λ z. absurd (z refl)) k refl ahead (entering-unreturned s q refl (rd .no-giving ahead) refl) refl refl refl
+      (fit-readable s q now
+      (readable-returning s q now g (asked-same s r q now now rd k (omega arith) refl refl refl refl) (any-grip-most s r now rd) (any-grip-leaf s r now rd) refl a b (omega arith) (rd .active .noticed)
+      (rd .no-notices) (rd .active .giving-begun) (λ z. d (ap (gripOf r) (sym (rd .no-giving ahead)) ∙ z))) (λ x. omega arith))
       (timely-returning s rs nobody r now q refl)
 
-  pub release-keeps : Keeps s rs r 0 w w (released r) now
+  pub release-keeps : r .phase ≡ 9 → Keeps s rs r 0 w w (released r) now
   unfolding released
-  release-keeps = returns 1
+  release-keeps e = returns 1 (λ z. omega arith) (omega arith) (first-gripped r (λ z. omega (arith, rd .claimed (omega arith) (omega arith))))
 
   pub cancel-keeps : Keeps s rs r 0 w w (cancelled r) now
   unfolding cancelled
@@ -113,10 +106,10 @@ module _ (s : Settings) (rs : List Record) (r : Record) (now : ℕ) (rd : Ready 
       record {
         node = λ d. absurd (d refl);
         effect = quiet refl (empty-same s r (idleWith 3) (fresh-empty s r ahead first none (rd .no-notices (omega arith))) (fresh-empty s (idleWith 3) (λ e. omega arith) refl refl refl));
-        fits = inl refl;
+        fits = idle-fit s 3 now (omega arith);
         time = timely-first s rs nobody r now (idleWith 3) refl (omega arith) (λ _. refl);
       })
-      (λ _. returns 3)
+      (λ t. returns 3 (λ z. omega arith) (omega arith) (neqb→ne (gripOf r 0) 0 t))
 
 -- ---- the calls
 
@@ -124,17 +117,16 @@ module _ (s : Settings) (st : State) (inv : Invariant s st) (c : ℕ) where
   abbrev r : Record
   r = recordAt st c
 
-  live : r .phase ≢ 0 → Live s r (st .clock)
-  live d = ⊎-elim (λ e. absurd (d (ap (λ x. x .phase) e))) (λ l. l) (inv .fit c)
+  prepared : r .phase ≢ 0 → Ready s r (st .clock)
+  prepared = fit-ready s r (st .clock) (inv .fit c) (inv .settled)
 
   idle-empty : r .phase ≡ 0 → Empty s r
   idle-empty z =
-      ⊎-elim
-      (λ e. fresh-empty s r (λ f. omega arith) (ap (λ x. x .current) e) (ap (λ x. x .grip) e) (ap (λ x. x .notices) e))
-      (λ l. absurd (omega (arith, l .some))) (inv .fit c)
+      let e = fit-idle s r (st .clock) (inv .fit c) z in
+      fresh-empty s r (λ f. omega arith) (ap (λ x. x .current) e) (ap (λ x. x .grip) e) (ap (λ x. x .notices) e)
 
   -- the work of an accepted step, phase by phase
-  module _ (t : ℕ) (later : st .clock ≤ t) (u : unreadable s r (st .clock) ≡ false) where
+  module _ (t : ℕ) (later : st .clock ≤ t) where
     abbrev rs : List Record
     rs = st .records
 
@@ -147,9 +139,6 @@ module _ (s : Settings) (st : State) (inv : Invariant s st) (c : ℕ) where
     abbrev Owed : Phase → Type 0
     Owed p = movedIn s r (found p) t p .number ≡ 0 → Keeps s rs r (at p) (found p) (movedIn s r (found p) t p .word) (movedIn s r (found p) t p .next) t
 
-    prepared : r .phase ≢ 0 → Ready s r (st .clock)
-    prepared d = ready s r (st .clock) (inv .settled) u d
-
     stays : (w : ℕ) → Keeps s rs r 0 w w r t
     stays w = keeps-stay s rs r 0 w (st .clock) t later (inv .fit c) (λ d. absurd (d refl))
 
@@ -157,26 +146,27 @@ module _ (s : Settings) (st : State) (inv : Invariant s st) (c : ℕ) where
     unfolding touchedIn movedIn
     step-keeps =
         let g = inv .settled in
+        let fit = inv .fit c in
         on-phase (r .phase) Owed
         (λ e _. stays _)
-        (λ e _. let d : r .phase ≢ 0 = λ z. omega arith in ticket-keeps s rs r (st .clock) t later g (prepared d) (live d) _ e)
-        (λ e _. let d : r .phase ≢ 0 = λ z. omega arith in turn-keeps s rs r (st .clock) t later g (prepared d) (live d) _ e)
+        (λ e _. let d : r .phase ≢ 0 = λ z. omega arith in ticket-keeps s rs r (st .clock) t later g (prepared d) fit _ e)
+        (λ e _. let d : r .phase ≢ 0 = λ z. omega arith in turn-keeps s rs r (st .clock) t later g (prepared d) fit _ e)
         (λ e _. let d : r .phase ≢ 0 = λ z. omega arith in
         let rd = prepared d in
         let b = rd .active .climbing (inl e) in
-        let n = ancestor-node s rs r (st .clock) t later g rd (live d) 0 b in
-        climb-keeps s rs r (st .clock) t later g rd (live d) _ b e (λ z. occ-none s st inv _ (n .0) (n .1) z))
+        let n = ancestor-node s rs r (st .clock) t later g rd fit 0 b in
+        climb-keeps s rs r (st .clock) t later g rd fit _ b e (λ z. occ-none s st inv _ (n .0) (n .1) z))
         (λ e _. let d : r .phase ≢ 0 = λ z. omega arith in
         let rd = prepared d in
-        blocked-keeps s rs r (st .clock) t later g rd (live d) _ (rd .active .climbing (inr e)) e)
-        (λ e _. let d : r .phase ≢ 0 = λ z. omega arith in claim-keeps s rs r (st .clock) t later g (prepared d) (live d) _ e)
-        (λ e _. let d : r .phase ≢ 0 = λ z. omega arith in notify-keeps s rs r (st .clock) t later g (prepared d) (live d) _ e)
-        (λ e _. let d : r .phase ≢ 0 = λ z. omega arith in wait-keeps s rs r (st .clock) t later g (prepared d) (live d) _ e)
+        blocked-keeps s rs r (st .clock) t later g rd fit _ (rd .active .climbing (inr e)) e)
+        (λ e _. let d : r .phase ≢ 0 = λ z. omega arith in claim-keeps s rs r (st .clock) t later g (prepared d) fit _ e)
+        (λ e _. let d : r .phase ≢ 0 = λ z. omega arith in notify-keeps s rs r (st .clock) t later g (prepared d) _ e)
+        (λ e _. let d : r .phase ≢ 0 = λ z. omega arith in wait-keeps s rs r (st .clock) t later g (prepared d) fit _ e)
         (λ e _. let d : r .phase ≢ 0 = λ z. omega arith in
-        let n = checked-node s rs r (st .clock) t later g (prepared d) (live d) 0 e in
-        check-keeps s rs r (st .clock) t later g (prepared d) (live d) _ e (λ z. notice-none s st inv _ (n .0) (n .1) z))
+        let n = checked-node s rs r (st .clock) t later g (prepared d) fit 0 e in
+        check-keeps s rs r (st .clock) t later g (prepared d) fit _ e (λ z. notice-none s st inv _ (n .0) (n .1) z))
         (λ e _. stays _)
-        (λ e. let d : r .phase ≢ 0 = λ z. omega arith in returning-keeps s rs r (st .clock) t later g (prepared d) (live d) e (wordAt (st .words)))
+        (λ e. let d : r .phase ≢ 0 = λ z. omega arith in returning-keeps s rs r (st .clock) t later g (prepared d) fit e (wordAt (st .words)))
         (λ b _. stays _)
 
 -- what an accepted call leaves has the invariant
@@ -190,18 +180,18 @@ accepted-keeps s st inv (request c l r) e =
 accepted-keeps s st inv (step c t) e =
     let a = accepted s st (step c t) e in
     let b = step-tested s st c t (a .own) in
-    keeps-invariant s st c _ _ _ t inv (a .client) (b .0) (step-keeps s st inv c t (b .0) (b .1) (b .2))
+    keeps-invariant s st c _ _ _ t inv (a .client) (b .0) (step-keeps s st inv c t (b .0) (b .2))
 accepted-keeps s st inv (release c) e =
     let a = accepted s st (release c) e in
     let b = release-tested s st c (a .own) in
     let d : recordAt st c .phase ≢ 0 = λ z. omega (arith, b .1) in
     keeps-invariant s st c 0 (wordAt (st .words) 0) (released (recordAt st c)) (st .clock) inv (a .client) (omega arith)
-    (release-keeps s (st .records) (recordAt st c) (st .clock) (ready s (recordAt st c) (st .clock) (inv .settled) (b .0) d) (live s st inv c d) (λ z. omega (arith, b .1)) (wordAt (st .words) 0))
+    (release-keeps s (st .records) (recordAt st c) (st .clock) (inv .settled) (prepared s st inv c d) (λ z. omega (arith, b .1)) (wordAt (st .words) 0) (b .1))
 accepted-keeps s st inv (cancel c) e =
     let a = accepted s st (cancel c) e in
     let b = cancel-tested s st c (a .own) in
     keeps-invariant s st c 0 (wordAt (st .words) 0) (cancelled (recordAt st c)) (st .clock) inv (a .client) (omega arith)
-    (cancel-keeps s (st .records) (recordAt st c) (st .clock) (ready s (recordAt st c) (st .clock) (inv .settled) (b .0) (b .1)) (live s st inv c (b .1)) (b .3) (wordAt (st .words) 0))
+    (cancel-keeps s (st .records) (recordAt st c) (st .clock) (inv .settled) (prepared s st inv c (b .1)) (b .3) (wordAt (st .words) 0))
 
 pub call-keeps : (s : Settings) (st : State) → Invariant s st → (k : Call) → Invariant s (call s st k .state)
 unfolding call

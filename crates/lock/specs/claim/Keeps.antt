@@ -1,6 +1,6 @@
 -- Laws: what each accepted call owes to the invariant, and the calls that leave the record as it is. Assumes nothing.
 use mathlib.Core.Path.{_≡_, refl, ap, _∙_}
-use mathlib.Core.Logic.{_≢_, inr, ⊎-elim}
+use mathlib.Core.Logic.{_≢_}
 use mathlib.Core.List.{List}
 use Prim.Native.Nat.{ℕ, _≤_, _<_}
 use native.Mathlib.Omega.{arith}
@@ -21,7 +21,7 @@ use Rattle.lock.specs.rules.Table.{State, recordAt}
 use Rattle.lock.specs.laws.Active.{Settled}
 use Rattle.lock.specs.laws.Placed.{widen}
 use Rattle.lock.specs.claim.Owned.{owns, ownsNotice}
-use Rattle.lock.specs.claim.Fit.{Live, Fit, notice-le, live-apart, live-noticed, fit-later}
+use Rattle.lock.specs.claim.Fit.{Fit, notice-le, ready-apart, ready-noticed, fit-later, on-fit}
 use Rattle.lock.specs.claim.Effect.{Same, Effect, quiet}
 use Rattle.lock.specs.claim.InnerWords.{nobody}
 use Rattle.lock.specs.claim.Timed.{Timely}
@@ -48,15 +48,15 @@ same-refl s r = record { owned = λ _ _ _ _. refl; units = λ _. refl; notices =
 pub keeps-stay : (s : Settings) (rs : List Record) (r : Record) (x w last now : ℕ) → last ≤ now → Fit s r last → (x ≢ 0 → Node (s .levels) x)
     → Keeps s rs r x w w r now
 keeps-stay s rs r x w last now later v n =
-    record { node = n; effect = quiet refl (same-refl s r); fits = fit-later s r last now later v; time = timely-stay s rs nobody r now }
+    record { node = n; effect = quiet refl (same-refl s r); fits = fit-later s r last v now later; time = timely-stay s rs nobody r now }
 
 -- nothing changes hands
 pub keeps-quiet : (s : Settings) (rs : List Record) (r q : Record) (x w now : ℕ) → (x ≢ 0 → Node (s .levels) x) → Kin r q → q .current ≡ r .current
-    → r .phase ≢ 10 → Unreturned s q → q .grip ≡ r .grip → q .notices ≡ r .notices → q .ticket ≡ r .ticket → Live s q now → Timely s rs nobody r q now → Keeps s rs r x w w q now
+    → r .phase ≢ 10 → Unreturned s q → q .grip ≡ r .grip → q .notices ≡ r .notices → q .ticket ≡ r .ticket → Fit s q now → Timely s rs nobody r q now → Keeps s rs r x w w q now
 keeps-quiet s rs r q x w now n k c d u e f g v t = record {
   node = n;
   effect = quiet refl (forward-same s r q k c (onward-unreturned s r d) u e f g);
-  fits = inr v;
+  fits = v;
   time = t;
 }
 
@@ -81,10 +81,9 @@ module _ (s : Settings) (st : State) (inv : Invariant s st) (x : ℕ) (v : Node 
   unfolding recordAt
   notice-few d =
       let r = getD (st .records) d nobody in
-      ⊎-elim
+      on-fit s r (st .clock) (inv .fit d) (inv .settled)
       (λ e. omega (arith, ap (ownsNotice s x) e, empty-notice s (idleWith (r .outcome)) (idle-empty (r .outcome)) x))
-      (λ l. omega (arith, notice-le s r (live-apart s r (st .clock) l) (inv .settled) (live-noticed s r (st .clock) l) x, few-pieces r))
-      (inv .fit d)
+      (λ l. omega (arith, notice-le s r (ready-apart s r (st .clock) l) (inv .settled) (ready-noticed s r (st .clock) l) x, few-pieces r))
 
   -- the notice counts are equal: nobody has a notice there
   pub notice-none : dcnt (wordAt (st .words) x) ≡ dmax (wordAt (st .words) x) → (d : ℕ) → ownsNotice s x (getD (st .records) d nobody) ≡ 0

@@ -6,27 +6,29 @@ use Prim.Native.Nat.{ℕ, suc, _-_, _≤_, _<_}
 use native.Mathlib.Omega.{arith}
 use lib.Dec.{leb, ltb, eqb→eq, ltb→lt, nltb→le, nleb→lt}
 use lib.ListN.{length, getD}
-use Rattle.base.specs.laws.ChoiceLaws.{on-choose}
+use Rattle.base.specs.laws.ChoiceLaws.{on-choose, neqb→ne}
 use Rattle.word.specs.rules.Word.{addDmax}
 use Rattle.tree.specs.rules.Tree.{level, Node}
 use Rattle.tree.specs.rules.Lists.{notifyList}
 use Rattle.tree.specs.laws.Level.{level-pos}
 use Rattle.lock.specs.declared.Record.{Record}
 use Rattle.lock.specs.declared.Settings.{Settings}
-use Rattle.lock.specs.rules.Records.{pieces, pieceAt, currentPiece, isLeaf, toPhase, withOutcome, withPlace, withNotices}
+use Rattle.lock.specs.rules.Records.{pieces, pieceAt, currentPiece, isLeaf, gripOf, toPhase, withOutcome, withPlace, withNotices}
 use Rattle.lock.specs.rules.Steps.{taken, allNotified, noticeGiven}
 use Rattle.lock.specs.laws.Active.{Settled}
-use Rattle.lock.specs.laws.Ready.{Ready}
-use Rattle.lock.specs.claim.Fit.{Live, live-apart}
+use Rattle.lock.specs.laws.Pieces.{first-gripped}
+use Rattle.lock.specs.laws.Ready.{Ready, any-grip-leaf, any-grip-most}
+use Rattle.lock.specs.laws.WhenReadable.{readable-notify, readable-wait, readable-returning}
+use Rattle.lock.specs.claim.Fit.{ready-apart, fit-readable}
 use Rattle.lock.specs.claim.Effect.{Same, Effect, notified, notices-then}
 use Rattle.lock.specs.claim.InnerWords.{nobody}
 use Rattle.lock.specs.claim.Stage.{passing, stage-current, passing-notify, passing-none, checked-none}
 use Rattle.lock.specs.claim.Forward.{Kin, kin, onward-unreturned, entering-unreturned, forward-same, forward-notices, forward-notified}
-use Rattle.lock.specs.claim.Onward.{live-kin, onward, timely-returning}
+use Rattle.lock.specs.claim.Onward.{asked-same, onward, timely-returning}
 use Rattle.lock.specs.claim.Keeps.{Keeps, notified-inner}
 use Rattle.lock.specs.claim.Taking.{taken-keeps}
 
-module _ (s : Settings) (rs : List Record) (r : Record) (last now : ℕ) (later : last ≤ now) (g : Settled s) (rd : Ready s r last) (lv : Live s r last) (w : ℕ) (e : r .phase ≡ 6) where
+module _ (s : Settings) (rs : List Record) (r : Record) (last now : ℕ) (later : last ≤ now) (g : Settled s) (rd : Ready s r last) (w : ℕ) (e : r .phase ≡ 6) where
   abbrev n : ℕ
   n = currentPiece r
 
@@ -40,13 +42,13 @@ module _ (s : Settings) (rs : List Record) (r : Record) (last now : ℕ) (later 
   listed = rd .active .notifying e
 
   notified-node : Node (s .levels) x × (level x ≢ s .levels)
-  notified-node = notified-inner s g n (live-apart s r last lv .node (r .current) (lv .exists)) (r .place) listed
+  notified-node = notified-inner s g n (ready-apart s r last rd .node (r .current) (rd .active .exists)) (r .place) listed
 
   ahead : r .phase ≢ 10
   ahead f = omega arith
 
-  t1-past : r .t1 ≤ now
-  t1-past = omega (arith, lv .t1-past)
+  grip : r .grip ≡ 3
+  grip = rd .claimed (omega arith) (omega arith)
 
   -- r with one notice more
   abbrev p : Record
@@ -62,8 +64,8 @@ module _ (s : Settings) (rs : List Record) (r : Record) (last now : ℕ) (later 
       let more : suc (r .place) ≡ suc (r .notices) = ap suc (sym (rd .notices-place e)) in
       let at : getD (notifyList m n) (r .notices) 0 ≡ x = ap (λ (i : ℕ). getD (notifyList m n) i 0) (rd .notices-place e) in
       notified (notified-node .1)
-      (notices-then s r p q y x (forward-notices s r p kin-p refl un unp (live-apart s r last lv) (lv .exists) refl more refl x at))
-      (y .notices x (notified-node .0 .some) ∙ forward-notified s r p kin-p refl un unp (live-apart s r last lv) (lv .exists) refl more refl x at) refl
+      (notices-then s r p q y x (forward-notices s r p kin-p refl un unp (ready-apart s r last rd) (rd .active .exists) refl more refl x at))
+      (y .notices x (notified-node .0 .some) ∙ forward-notified s r p kin-p refl un unp (ready-apart s r last rd) (rd .active .exists) refl more refl x at) refl
 
   -- ---- not the last
 
@@ -76,7 +78,7 @@ module _ (s : Settings) (rs : List Record) (r : Record) (last now : ℕ) (later 
       record {
         node = λ _. notified-node .0;
         effect = given q (forward-same s p q (record { pieces-same = refl; left-same = refl; right-same = refl }) refl (onward-unreturned s p ahead) (onward-unreturned s q ahead) refl refl refl);
-        fits = inr (live-kin s r q last now later lv k (lv .exists) (lv .some) (lv .most) (lv .claimed) (λ a _. absurd (omega arith)) (omega arith) (λ f. absurd (omega arith)) t1-past);
+        fits = fit-readable s q now (readable-notify s q now g (asked-same s r q last now rd k later refl refl refl refl) (rd .no-outcome ahead) (rd .no-giving ahead) grip e b refl) (λ a. omega arith);
         time = onward s rs nobody r now q k refl ahead ahead (λ a b. inl (a, b, refl)) (λ a _. absurd (omega arith))
             (λ l a. absurd (omega (arith, checked-none s q (r .current) (λ f. omega arith) (λ f. omega arith))))
             (inr (inl (omega (arith, passing-notify q e, passing-notify r e), refl))) (λ a _. absurd (omega arith));
@@ -98,7 +100,9 @@ module _ (s : Settings) (rs : List Record) (r : Record) (last now : ℕ) (later 
           node = λ _. notified-node .0;
           effect = given q (forward-same s p q (record { pieces-same = refl; left-same = refl; right-same = refl }) refl (onward-unreturned s p ahead)
               (entering-unreturned s q refl (rd .no-giving ahead) refl) refl refl refl);
-          fits = inr (live-kin s r q last now later lv k (lv .exists) (omega arith) (omega arith) (λ _ a. absurd (omega arith)) (λ _ a. absurd (omega arith)) (omega (arith, whole)) (λ f. absurd (omega arith)) t1-past);
+          fits = fit-readable s q now
+              (readable-returning s q now g (asked-same s r q last now rd k later refl refl refl refl) (any-grip-most s r last rd) (any-grip-leaf s r last rd) refl (λ z. omega arith) (omega arith) (omega arith) (omega (arith, whole))
+              (λ a. absurd (omega (arith, grip))) (rd .active .giving-begun) (λ z. first-gripped q (λ y. omega (arith, grip)) (ap (gripOf q) (sym (rd .no-giving ahead)) ∙ z))) (λ a. omega arith);
           time = timely-returning s rs nobody r now q refl;
         }
 
@@ -108,16 +112,19 @@ module _ (s : Settings) (rs : List Record) (r : Record) (last now : ℕ) (later 
       all-passed = omega (arith, passing-notify r e, level-pos n)
 
       -- "else inner to 7"
-      inner-keeps : Keeps s rs r x w (addDmax 1 w) (toPhase 7 p) now
+      inner-keeps : level n ≢ s .levels → Keeps s rs r x w (addDmax 1 w) (toPhase 7 p) now
       unfolding pieces pieceAt
-      inner-keeps =
+      inner-keeps inner =
           let q = toPhase 7 p in
           let k = kin r q refl refl refl refl in
           let at = stage-current q (r .current) refl in
           record {
             node = λ _. notified-node .0;
             effect = given q (forward-same s p q (record { pieces-same = refl; left-same = refl; right-same = refl }) refl (onward-unreturned s p ahead) (onward-unreturned s q (λ f. omega arith)) refl refl refl);
-            fits = inr (live-kin s r q last now later lv k (lv .exists) (omega arith) (omega arith) (λ _ _. lv .claimed (omega arith) (omega arith)) (λ _ _. whole) (omega (arith, whole)) (λ f. absurd (omega arith)) t1-past);
+            fits = record {
+              readable = readable-wait s q now g (asked-same s r q last now rd k later refl refl refl refl) (rd .no-outcome ahead) (rd .no-giving ahead) grip (omega (arith, whole)) refl inner refl;
+              all-noticed = λ _ _. whole;
+            };
             time = onward s rs nobody r now q k refl ahead (λ f. omega arith) (λ _ _. inl (omega arith, omega arith, refl)) (λ a _. absurd (omega arith))
                 (λ l a. absurd (omega (arith, checked-none s q (r .current) (λ f. omega arith) (λ f. omega arith))))
                 (inl (passing-none q (λ f. omega arith) (λ f. omega arith) (λ f. omega arith))) (λ _ _. inr (inl (all-passed, in-time)));
@@ -129,7 +136,7 @@ module _ (s : Settings) (rs : List Record) (r : Record) (last now : ℕ) (later 
       leaf-keeps leaf =
           let q = toPhase 9 p in
           let k = kin r q refl refl refl refl in
-          taken-keeps s rs r p last now later lv kin-p refl ahead (lv .claimed (omega arith) (omega arith)) whole t1-past x w (addDmax 1 w) (λ _. notified-node .0) given
+          taken-keeps s rs r (suc (r .place)) last now later g rd ahead grip whole x w (addDmax 1 w) (λ _. notified-node .0) given
           (onward s rs nobody r now q k refl ahead (λ f. omega arith) (λ _ a. absurd (omega arith)) (λ _ _. inr (inr leaf)) (λ l _. inr (inr leaf))
           (inl (passing-none q (λ f. omega arith) (λ f. omega arith) (λ f. omega arith))) (λ _ _. inr (inl (all-passed, in-time))))
 
@@ -140,7 +147,7 @@ module _ (s : Settings) (rs : List Record) (r : Record) (last now : ℕ) (later 
         (λ _. late-keeps)
         (λ t. let in-time = nleb→lt (s .wait) (now - r .t1) t in
         on-choose (λ q. Keeps s rs r x w (addDmax 1 w) q now) (isLeaf s n) (taken s p) (toPhase 7 p)
-        (λ y. leaf-keeps in-time (eqb→eq (level n) (s .levels) y)) (λ _. inner-keeps in-time))
+        (λ y. leaf-keeps in-time (eqb→eq (level n) (s .levels) y)) (λ y. inner-keeps in-time (neqb→ne (level n) (s .levels) y)))
 
   pub notify-keeps : Keeps s rs r x w (addDmax 1 w) (noticeGiven s r now) now
   unfolding noticeGiven

@@ -1,6 +1,7 @@
 -- Laws: from what a call changes in the fields of a record to what it changes of how far the record's pieces have come. Assumes nothing.
 use mathlib.Core.Path.{_≡_, refl, sym, ap, subst, _∙_}
 use mathlib.Core.Logic.{_≢_, _⊎_, inl, inr, ⊎-elim}
+use mathlib.Core.Bool.{false}
 use mathlib.Core.List.{List}
 use Prim.Native.Nat.{ℕ, suc, _-_, _≤_, _<_}
 use native.Mathlib.Omega.{arith}
@@ -8,12 +9,13 @@ use lib.ListN.{length, getD}
 use Rattle.base.specs.laws.ChoiceLaws.{by-lt, by-eq}
 use Rattle.tree.specs.rules.Tree.{climb, level}
 use Rattle.tree.specs.laws.Check.{checkCount, checkNode}
-use Rattle.tree.specs.rules.Lists.{notifyList}
 use Rattle.lock.specs.declared.Record.{Record}
 use Rattle.lock.specs.declared.Settings.{Settings}
 use Rattle.lock.specs.rules.Records.{pieces, pieceAt, currentPiece}
 use Rattle.lock.specs.claim.Owned.{owns, ownsNotice}
-use Rattle.lock.specs.claim.Fit.{Live}
+use Rattle.lock.specs.laws.Ready.{Ready}
+use Rattle.lock.specs.laws.OwnTests.{notBegun}
+use Rattle.lock.specs.laws.WhenReadable.{asked}
 use Rattle.lock.specs.claim.Forward.{Kin}
 use Rattle.lock.specs.claim.Stage.{phaseAt, passing, checkedTo, stage-before, stage-returning, stage-current, stage-after, stage-cases, passing-climb, passing-none, checked-all, checked-none, checked-stage}
 use Rattle.lock.specs.claim.Timed.{Timely}
@@ -22,24 +24,17 @@ kin-piece : (r q : Record) → Kin r q → (i : ℕ) → pieceAt q i ≡ pieceAt
 unfolding pieceAt
 kin-piece r q k i = ap (λ l. getD l i 0) (k .pieces-same)
 
--- ---- a record that fits its phase still does
+-- ---- what every phase asks, of a record with r's window and pieces
 
-module _ (s : Settings) (r q : Record) (last now : ℕ) (later : last ≤ now) (v : Live s r last) (k : Kin r q) where
-  pub live-kin : q .current < length (pieces r) → 1 ≤ q .phase → q .phase ≤ 10 → (6 ≤ q .phase → q .phase ≤ 9 → q .grip ≡ 3)
-      → (7 ≤ q .phase → q .phase ≤ 9 → q .notices ≡ length (notifyList (s .distance) (currentPiece q)))
-      → q .notices ≤ length (notifyList (s .distance) (currentPiece q)) → (q .phase ≡ 9 → length (pieces r) ≤ suc (q .current)) → q .t1 ≤ now → Live s q now
-  live-kin e a b c d f g h = record {
-    window = rw (k .left-same, k .right-same) (v .window);
-    cover = rw (k .pieces-same, k .left-same, k .right-same) (v .cover);
-    exists = rw (k .pieces-same) e;
-    some = a;
-    most = b;
-    claimed = c;
-    all-noticed = d;
-    listed = f;
-    whole = λ z. rw (k .pieces-same) (g z);
-    t1-past = h;
-  }
+module _ (s : Settings) (r q : Record) (last now : ℕ) (rd : Ready s r last) (k : Kin r q) where
+  pub asked-kin : q .current < length (pieces r) → q .ticket ≤ 32767 → q .t1 ≤ now → q .t0 ≤ now → notBegun s q now ≡ false
+  asked-kin c t a b =
+      asked s q now (rw (k .left-same, k .right-same) (rd .active .window)) (rw (k .pieces-same, k .left-same, k .right-same) (rd .active .cover)) (rw (k .pieces-same) c) t a b
+
+  -- with r's current piece, ticket and noted times
+  pub asked-same : last ≤ now → q .current ≡ r .current → q .ticket ≡ r .ticket → q .t1 ≡ r .t1 → q .t0 ≡ r .t0 → notBegun s q now ≡ false
+  asked-same later c t a b =
+      asked-kin (omega (arith, rd .active .exists)) (omega (arith, rd .active .ticket-most)) (omega (arith, rd .active .t1-past)) (omega (arith, rd .active .t0-past))
 
 -- ---- how far it has come
 

@@ -20,7 +20,8 @@ use Rattle.lock.specs.rules.Records.{pieces, pieceAt, currentPiece, idle
 use Rattle.lock.specs.laws.Pieces.{grip-before, grip-current, notices-before, notices-current}
 use Rattle.lock.specs.laws.Active.{Settled}
 use Rattle.lock.specs.claim.Owned.{returned, gripped, noticed, owns, outstanding, ownsNotice, reaches-yes, returned-none, gripped-kept, noticed-begun}
-use Rattle.lock.specs.claim.Fit.{Live, Fit, owns-here, bounded-piece, live-apart, live-noticed}
+use Rattle.lock.specs.laws.Ready.{Ready}
+use Rattle.lock.specs.claim.Fit.{Fit, owns-here, bounded-piece, ready-apart, ready-noticed, on-fit}
 
 -- the phase that piece i is in: 9 for a piece before the current one, 0 for one that is not begun; a record that returns is in 10 with all that it began
 unfoldable pub phaseAt : Record → ℕ → ℕ
@@ -123,38 +124,37 @@ module _ (s : Settings) (r : Record) (last : ℕ) where
   unfolding pieceAt
   piece-level g v i =
       let root : pieceAt r i ≡ 0 → level (pieceAt r i) ≤ s .levels = λ e. omega (arith, level-root (pieceAt r i) (omega arith), g .levels-some) in
-      ⊎-elim
+      on-fit s r last v g
       (λ e. root (ap (λ x. pieceAt x i) e ∙ idle-piece (r .outcome) i))
-      (λ l. by-lt i (length (pieces r)) (λ b. live-apart s r last l .node i b .inside) (λ b. root (getD-past (pieces r) i 0 b)))
-      v
+      (λ l. by-lt i (length (pieces r)) (λ b. ready-apart s r last l .node i b .inside) (λ b. root (getD-past (pieces r) i 0 b)))
 
-  pub stage-live : Fit s r last → (i : ℕ) → 1 ≤ phaseAt r i → Live s r last
-  stage-live v i b = ⊎-elim (λ e. absurd (omega (arith, ap (λ x. phaseAt x i) e, idle-stage (r .outcome) i))) (λ l. l) v
+  pub stage-ready : Settled s → Fit s r last → (i : ℕ) → 1 ≤ phaseAt r i → Ready s r last
+  stage-ready g v i b = on-fit s r last v g (λ e. absurd (omega (arith, ap (λ x. phaseAt x i) e, idle-stage (r .outcome) i))) (λ l. l)
 
-  module _ (v : Live s r last) where
+  module _ (v : Ready s r last) where
     -- a claimed piece has Occ, or its bits
     pub stage-owns : (i : ℕ) → 6 ≤ phaseAt r i → phaseAt r i ≤ 9 → owns s 3 (pieceAt r i) r ≡ 1
     stage-owns i a b =
-        let c : i < length (pieces r) = omega (arith, stage-begun r i (omega arith), v .exists) in
+        let c : i < length (pieces r) = omega (arith, stage-begun r i (omega arith), v .active .exists) in
         let grip : gripped s r i ≡ 3 = ⊎-elim
         (λ p. gripped-kept s r i (returned-none s r i (p .1)) ∙ grip-before r i (p .0))
         (λ p. gripped-kept s r i (returned-none s r i (λ e. omega (arith, p .1))) ∙ grip-current r i (p .0) ∙ v .claimed (omega (arith, p .1)) (omega (arith, p .1)))
         (stage-cases r i (omega arith) b) in
-        owns-here s r (live-apart s r last v) (pieceAt r i) i 3 c refl ∙ reaches-yes 3 (gripped s r i) (omega arith)
+        owns-here s r (ready-apart s r last v) (pieceAt r i) i 3 c refl ∙ reaches-yes 3 (gripped s r i) (omega arith)
 
     -- a piece that is past its notices has all of them out
-    pub stage-noticed : Settled s → (i : ℕ) → 7 ≤ phaseAt r i → phaseAt r i ≤ 9
+    pub stage-noticed : Settled s → Fit s r last → (i : ℕ) → 7 ≤ phaseAt r i → phaseAt r i ≤ 9
         → (k : ℕ) → k < notifyCount (s .distance) (level (pieceAt r i)) → 1 ≤ ownsNotice s (notifyNode (s .distance) (pieceAt r i) k) r
     unfolding ownsNotice outstanding
-    stage-noticed g i a b k l =
+    stage-noticed g fit i a b k l =
         let m = s .distance in
         let p = pieceAt r i in
         let begun = stage-begun r i (omega arith) in
-        let c : i < length (pieces r) = omega (arith, begun, v .exists) in
-        let y = bounded-piece s r (live-apart s r last v) g (live-noticed s r last v) i c in
+        let c : i < length (pieces r) = omega (arith, begun, v .active .exists) in
+        let y = bounded-piece s r (ready-apart s r last v) g (ready-noticed s r last v) i c in
         let all : noticed s r i ≡ length (notifyList m p) = noticed-begun s r i begun ∙ ⊎-elim
         (λ z. notices-before s r i (z .0))
-        (λ z. notices-current s r i (omega (arith, z .0)) ∙ v .all-noticed (omega (arith, z .1)) (omega (arith, z .1)) ∙ ap (λ (j : ℕ). length (notifyList m (pieceAt r j))) (sym (z .0)))
+        (λ z. notices-current s r i (omega (arith, z .0)) ∙ fit .all-noticed (omega (arith, z .1)) (omega (arith, z .1)) ∙ ap (λ (j : ℕ). length (notifyList m (pieceAt r j))) (sym (z .0)))
         (stage-cases r i (omega arith) b) in
         let none : returned s r i ≡ 0 = returned-none s r i (⊎-elim (λ z. z .1) (λ z e. omega (arith, z .1)) (stage-cases r i (omega arith) b)) in
         let n = notifyNode m p k in

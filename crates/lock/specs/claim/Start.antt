@@ -1,9 +1,9 @@
 -- Laws: what an accepted opening leaves has the invariant. Assumes nothing.
 use mathlib.Core.Path.{_≡_, refl, sym, ap, subst, _∙_}
-use mathlib.Core.Logic.{inl}
 use Prim.Native.Nat.{ℕ, zero, suc, _+_, _%_}
 use native.Mathlib.Omega.{arith}
 use lib.ListN.{length, getD, replicate, length-replicate}
+use Rattle.base.specs.laws.ChoiceLaws.{choose-eq}
 use Rattle.base.specs.laws.Sum.{sumBy, sum-zero, getD-fresh}
 use Rattle.base.specs.laws.Tickets.{none-yet}
 use Rattle.word.specs.rules.Word.{field, bit}
@@ -11,10 +11,11 @@ use Rattle.word.specs.laws.Bits.{bit-zero}
 use Rattle.tree.specs.rules.Tree.{leaf}
 use Rattle.lock.specs.declared.Record.{Record}
 use Rattle.lock.specs.declared.Settings.{Settings}
-use Rattle.lock.specs.rules.Records.{wordAt, idleWith}
-use Rattle.lock.specs.rules.Table.{State, recordAt, openingNumber, opened}
+use Rattle.lock.specs.rules.Records.{wordAt}
+use Rattle.lock.specs.rules.Table.{State, recordAt, openingNumber, opened, opening}
 use Rattle.lock.specs.laws.Accepted.{opened-accepted}
 use Rattle.lock.specs.claim.Owned.{owns, ownsUnit, ownsNotice}
+use Rattle.lock.specs.claim.Fit.{Fit, idle-fit}
 use Rattle.lock.specs.claim.Stage.{idle-stage}
 use Rattle.lock.specs.claim.InnerWords.{nobody, ticketOf, InnerWord}
 use Rattle.lock.specs.claim.Timed.{Timed}
@@ -60,9 +61,13 @@ module _ (s : Settings) where
         settled = a .0;
         count = length-replicate (length (st .words)) 0 ∙ a .1;
         few = rw (length-replicate k nobody) (a .2);
-        fit = λ c. inl (sym (free c) ∙ ap (λ x. idleWith (x .outcome)) (free c));
+        fit = λ c. subst (λ x. Fit s x 0) (free c) (idle-fit s 0 0 (omega arith));
         inner = λ n _ _. subst (λ (w : ℕ). InnerWord s (replicate k nobody) n w) (word n) (zero-kept n k);
         small = λ n _ _. omega (arith, word n);
         bits = λ u _. sym (ap (bit (u % 64)) (word (leaf (s .levels) u))) ∙ bit-zero (u % 64) ∙ sym (none (ownsUnit s u) k (empty-unit s nobody nobody-empty u));
         timed = λ c d _. subst (λ x. Timed s x (getD (replicate k nobody) d nobody) 0) (free c) (subst (λ y. Timed s nobody y 0) (free d) (idle-timed 0));
       }
+
+pub opening-invariant : (s : Settings) (lent : State) → opening s lent .number ≡ 0 → Invariant s (opening s lent .state)
+unfolding opening
+opening-invariant s lent e = subst (Invariant s) (sym (choose-eq (opening s lent .number) 0 (opened lent) lent e)) (opened-invariant s lent e)

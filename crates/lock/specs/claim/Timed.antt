@@ -15,8 +15,8 @@ use Rattle.lock.specs.declared.Settings.{Settings}
 use Rattle.lock.specs.rules.Records.{pieceAt, currentPiece}
 use Rattle.lock.specs.laws.Active.{Settled}
 use Rattle.lock.specs.claim.Owned.{owns, ownsNotice}
-use Rattle.lock.specs.claim.Fit.{Fit}
-use Rattle.lock.specs.claim.Stage.{phaseAt, passing, checkedTo, stage-current, checked-stage, piece-level, stage-live, stage-owns, stage-noticed}
+use Rattle.lock.specs.claim.Fit.{Fit, fit-past}
+use Rattle.lock.specs.claim.Stage.{phaseAt, passing, checkedTo, stage-current, checked-stage, piece-level, stage-ready, stage-owns, stage-noticed}
 use Rattle.lock.specs.claim.Times.{NotedBefore, Overdue, claim-noted, wait-overdue, overdue-stays, overdue-late}
 
 -- the current piece of b is below a, and has found a clear
@@ -70,7 +70,7 @@ module _ (s : Settings) (g : Settled s) (rs : List Record) (nobody r q : Record)
 
   -- ---- the caller above another client b
 
-  module _ (b : Record) (fit : Fit s b last) (past : b .t1 ≤ last) (among : (n : ℕ) → ((d : ℕ) → ownsNotice s n (getD rs d nobody) ≡ 0) → ownsNotice s n b ≡ 0) (v : Timed s r b last) where
+  module _ (b : Record) (fit : Fit s b last) (among : (n : ℕ) → ((d : ℕ) → ownsNotice s n (getD rs d nobody) ≡ 0) → ownsNotice s n b ≡ 0) (v : Timed s r b last) where
     low : (j : ℕ) → level (pieceAt b j) ≤ s .levels
     low = piece-level s b last g fit
 
@@ -78,7 +78,7 @@ module _ (s : Settings) (g : Settled s) (rs : List Record) (nobody r q : Record)
     above-claims x y p = ⊎-elim
         (λ o. subst (NotedBefore (b .t1)) (sym (o .2)) (v .claims (o .0) (o .1) (subst (λ (n : ℕ). Passed n b) (o .3) p)))
         (λ o. ⊎-elim
-        (λ e. subst (NotedBefore (b .t1)) (sym e) (claim-noted (b .t1) last now past later))
+        (λ e. subst (NotedBefore (b .t1)) (sym e) (claim-noted (b .t1) last now (fit-past s b last fit g) later))
         (λ e. absurd (nothing-below (currentPiece q) (currentPiece b) (low (b .current)) e (p .above))) o)
         (m .claims x y)
 
@@ -102,7 +102,7 @@ module _ (s : Settings) (g : Settled s) (rs : List Record) (nobody r q : Record)
         ⊎-elim
         (λ old. v .checks i j k l old y z same o f)
         (λ other. ⊎-elim
-        (λ none. let noticed = stage-noticed s b last (stage-live s b last fit j (omega arith)) g j y z l o in
+        (λ none. let noticed = stage-noticed s b last (stage-ready s b last g fit j (omega arith)) g fit j y z l o in
         let zero : ownsNotice s (checkNode (pieceAt r i) k) b ≡ 0 = among _ none in
         omega (arith, noticed, ap (λ (n : ℕ). ownsNotice s n b) f))
         (λ leaf. nothing-below (pieceAt q i) (pieceAt b j) (low j) leaf p) other)
@@ -129,7 +129,7 @@ module _ (s : Settings) (g : Settled s) (rs : List Record) (nobody r q : Record)
           | yes e ↦
               let steps : level (currentPiece r) - level n ≡ suc (passing r) = omega arith in
               let is : climb (suc (passing r)) (currentPiece r) ≡ n = ap (λ (d : ℕ). climb d (currentPiece r)) (sym steps) ∙ up .meets in
-              absurd (omega (arith, stage-owns s a last (stage-live s a last fit i (omega arith)) i x y, ap (λ (d : ℕ). owns s 3 d a) is, among _ (o .2)))
+              absurd (omega (arith, stage-owns s a last (stage-ready s a last g fit i (omega arith)) i x y, ap (λ (d : ℕ). owns s 3 d a) is, among _ (o .2)))
           | no d ↦
               let c : level (currentPiece r) ≤ level n + passing r = omega (arith, p .clear, o .0) in
               (record { above = up; clear = c }, ⊎-elim (λ t. t) (λ z. absurd (omega (arith, up .higher))) (o .1))

@@ -23,7 +23,7 @@ use Rattle.base.specs.laws.TestLaws.{both-false}
 use Rattle.lock.specs.laws.ActiveLaws.{settled}
 
 -- a chain that names no cause: its first test is false, and the rest names none
-test-passed : (b : Bool) (k : ℕ) (ts : Tests) → 0 < k → firstCause ((b, k) ∷ ts) ≡ 0 → (b ≡ false) × (firstCause ts ≡ 0)
+pub test-passed : (b : Bool) (k : ℕ) (ts : Tests) → 0 < k → firstCause ((b, k) ∷ ts) ≡ 0 → (b ≡ false) × (firstCause ts ≡ 0)
 unfolding firstCause choose
 test-passed true k ts some e = absurd (omega arith)
 test-passed false k ts some e = (refl, e)

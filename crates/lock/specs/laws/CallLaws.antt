@@ -1,12 +1,14 @@
 -- Laws of the calls by value: the first cause of a chain of tests, and what each way out of the code meets. Assumes nothing.
 use mathlib.Core.Path.{_≡_, refl, sym, ap, subst, _∙_}
+use mathlib.Core.Logic.{_≢_, _⊎_, ⊎-elim}
 use mathlib.Core.Bool.{Bool, true, false, not}
 use mathlib.Core.List.{[], _∷_, _++_}
 use Prim.Native.Nat.{ℕ}
 use native.Mathlib.Omega.{arith}
 use borrow.Author.Tests.{eq-eqb, ne-eqb, eqb-true, eqb-false, not-true, not-false}
+use lib.Dec.{T}
 use Rattle.base.specs.rules.Choice.{choose}
-use Rattle.base.specs.laws.ChoiceLaws.{choose-eq, choose-ne}
+use Rattle.base.specs.laws.ChoiceLaws.{on-choose, choose-eq, choose-ne}
 use Rattle.tree.specs.rules.Tree.{wordCount}
 use Rattle.lock.specs.declared.Record.{Record}
 use Rattle.lock.specs.declared.Settings.{Settings}
@@ -22,6 +24,19 @@ cause-hit b k ts e = ap (λ (x : Bool). choose x k (firstCause ts)) e
 pub cause-skip : (b : Bool) (k : ℕ) (ts : Tests) → b ≡ false → firstCause ((b, k) ∷ ts) ≡ firstCause ts
 unfolding firstCause choose
 cause-skip b k ts e = ap (λ (x : Bool). choose x k (firstCause ts)) e
+
+-- every test of the chain has another number than x, or is false
+unfoldable pub NotNamed : ℕ → Tests → Type 0
+NotNamed x [] = Unit
+NotNamed x (test ∷ tests) = ((test .1 ≢ x) ⊎ (test .0 ≡ false)) × NotNamed x tests
+
+pub never-named : (x : ℕ) (ts : Tests) → x ≢ 0 → NotNamed x ts → firstCause ts ≢ x
+unfolding NotNamed firstCause
+never-named x [] d v = λ e. d (sym e)
+never-named x (test ∷ tests) d v =
+    let rest = never-named x tests d (v .1) in
+    on-choose (λ (k : ℕ). k ≢ x) (test .0) (test .1) (firstCause tests)
+    (λ t. ⊎-elim (λ other. other) (λ false-now. absurd (subst T false-now t)) (v .0)) (λ _. rest)
 
 -- 1 and 2 come first
 module _ (s : Settings) (count : ℕ) (ts : Tests) where

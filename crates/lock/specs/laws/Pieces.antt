@@ -1,11 +1,11 @@
 -- Laws of a record's pieces, grips and notices, as the code meets them. Assumes nothing.
-use mathlib.Core.Path.{_≡_, refl, ap, _∙_}
+use mathlib.Core.Path.{_≡_, refl, sym, ap, _∙_}
 use mathlib.Core.List.{[], _∷_}
 use Prim.Native.Nat.{ℕ, _≤_, _<_}
 use native.Mathlib.Omega.{arith}
-use lib.Dec.{eqb}
+use lib.Dec.{eqb, eqb→eq}
 use lib.ListN.{length, getD}
-use Rattle.base.specs.laws.ChoiceLaws.{on-choose, choose-eq, choose-ne, choose-lt, choose-ge}
+use Rattle.base.specs.laws.ChoiceLaws.{on-choose, choose-eq, choose-ne, choose-lt, choose-ge, by-lt}
 use Rattle.tree.specs.rules.Lists.{notifyList}
 use Rattle.lock.specs.declared.Record.{Record}
 use Rattle.lock.specs.declared.Settings.{Settings}
@@ -35,6 +35,11 @@ module _ (r : Record) where
   piece-second =
       on-choose (λ c. 1 < length c → getD c 1 0 ≡ r .second) (eqb (r .second) 0) (r .first ∷ []) (r .first ∷ r .second ∷ []) (λ _ b. absurd (omega arith)) (λ _ b. refl)
 
+  -- "0 for none"
+  pub second-is : r .second ≡ getD (pieces r) 1 0
+  unfolding pieces
+  second-is = on-choose (λ c. r .second ≡ getD c 1 0) (eqb (r .second) 0) (r .first ∷ []) (r .first ∷ r .second ∷ []) (λ t. eqb→eq (r .second) 0 t) (λ _. refl)
+
   pub few-pieces : length (pieces r) ≤ 2
   unfolding pieces
   few-pieces = on-choose (λ c. length c ≤ 2) (eqb (r .second) 0) (r .first ∷ []) (r .first ∷ r .second ∷ []) (λ _. omega arith) (λ _. omega arith)
@@ -51,6 +56,10 @@ module _ (r : Record) where
     pub grip-after : r .current < i → gripOf r i ≡ 0
     unfolding gripOf
     grip-after b = choose-ge i (r .current) 3 _ (omega arith) ∙ choose-ne i (r .current) (r .grip) 0 (λ e. omega arith)
+
+  -- with a grip on the current piece there is one on the first
+  pub first-gripped : (r .grip ≡ 0 → ⊥) → gripOf r 0 ≡ 0 → ⊥
+  first-gripped d e = by-lt 0 (r .current) (λ b. omega (arith, grip-before 0 b)) (λ b. d (sym (grip-current 0 (omega arith)) ∙ e))
 
 module _ (s : Settings) (r : Record) (i : ℕ) where
   pub notices-before : i < r .current → noticesOf s r i ≡ length (notifyList (s .distance) (pieceAt r i))

@@ -2,42 +2,45 @@
 use mathlib.Core.Path.{_≡_, sym, ap, _∙_}
 use mathlib.Core.Logic.{_≢_, _⊎_, inl, inr, ⊎-elim}
 use mathlib.Core.Bool.{Bool, true, false, not, _&&_}
-use Prim.Native.Nat.{ℕ, _≤_, _<_}
+use Prim.Native.Nat.{ℕ, suc, _≤_, _<_}
 use native.Mathlib.Omega.{arith}
-use borrow.Author.Tests.{ltb-false, eqb-false, eqb-true, not-false, lt-ltb, eq-eqb, ne-eqb}
+use borrow.Author.Tests.{ltb-false, eqb-false, lt-ltb, eq-eqb, ne-eqb}
 use lib.Dec.{eqb, ltb}
 use lib.ListN.{length}
 use Rattle.base.specs.rules.Choice.{choose}
 use Rattle.base.specs.laws.ChoiceLaws.{choose-eq, choose-ne, by-lt, by-eq}
+use Rattle.base.specs.laws.TestLaws.{both-false}
 use Rattle.tree.specs.rules.Tree.{level}
 use Rattle.tree.specs.rules.Lists.{notifyList}
 use Rattle.lock.specs.declared.Record.{Record}
 use Rattle.lock.specs.declared.Settings.{Settings}
 use Rattle.lock.specs.rules.Records.{Phase, phaseOf, pieces, currentPiece, isLeaf, gripOf}
 use Rattle.lock.specs.laws.Phases.{at-ticket, at-turn, at-climb, at-blocked, at-claim, at-notify, at-wait, at-check, at-returning}
-use Rattle.lock.specs.rules.Unreadable.{nonzero, differ, noticesWrong, phaseElsewhere, lacksGrip, gripLacking, givingWrong, unreadable}
+use Rattle.lock.specs.rules.Unreadable.{nonzero, differ, numberTooLarge, noticesWrong, phaseElsewhere, heldEarly, outcomeWrong, lacksGrip, gripLacking, givingWrong, unreadable}
 use Rattle.lock.specs.laws.Active.{Settled, Active}
-use Rattle.base.specs.laws.TestLaws.{both-false}
+use Rattle.lock.specs.laws.ReadableLaws.{same-number, grip-taken}
 use Rattle.lock.specs.laws.ActiveLaws.{Passed, passed, active}
 
 pub record Ready (s : Settings) (r : Record) (last : ℕ) : Type 0 where
   pub active : Active s r last
+  pub some : 1 ≤ r .phase
   pub grip-ticket : r .phase ≡ 1 → r .grip ≡ 0
   pub grip-turn : r .phase ≡ 2 → r .grip ≡ 1
   pub grip-leaf : 3 ≤ r .phase → r .phase ≤ 5 → level (currentPiece r) ≡ s .levels → r .grip ≡ 0
   pub grip-inner : 3 ≤ r .phase → r .phase ≤ 5 → level (currentPiece r) ≢ s .levels → r .grip ≡ 2
+  pub claimed : 6 ≤ r .phase → r .phase ≤ 9 → r .grip ≡ 3
   pub grip-most : r .phase ≡ 10 → r .grip ≤ 3
   pub grip-leaf-returning : r .phase ≡ 10 → level (currentPiece r) ≡ s .levels → (r .grip ≡ 0) ⊎ (r .grip ≡ 3)
   pub inner : (r .phase ≡ 1) ⊎ ((r .phase ≡ 2) ⊎ ((r .phase ≡ 7) ⊎ (r .phase ≡ 8))) → level (currentPiece r) ≢ s .levels
   pub below : (r .phase ≡ 3) ⊎ ((r .phase ≡ 4) ⊎ (r .phase ≡ 6)) → currentPiece r ≢ 1
   pub no-notices : r .grip < 3 → r .notices ≡ 0
   pub notices-place : r .phase ≡ 6 → r .notices ≡ r .place
+  pub whole : r .phase ≡ 9 → length (pieces r) ≤ suc (r .current)
+  pub outcome-most : r .outcome ≤ 3
+  pub no-outcome : r .phase ≢ 10 → r .outcome ≡ 0
+  pub outcome-some : r .phase ≡ 10 → r .outcome ≢ 0
   pub no-giving : r .phase ≢ 10 → r .giving ≡ 0
   pub giving-gripped : r .phase ≡ 10 → gripOf r (r .giving) ≢ 0
-
--- a test that is false of two numbers that differ says that they do not
-same : (m n : ℕ) → differ m n ≡ false → m ≡ n
-same m n e = eqb-true m n (not-false (eqb m n) e)
 
 -- the second of two joined tests, where the first is true
 and-second : (a b : Bool) → a ≡ true → (a && b) ≡ false → b ≡ false
@@ -62,15 +65,15 @@ module _ (s : Settings) (r : Record) (last : ℕ) (k : Passed s r last) where
   climbing : 3 ≤ r .phase → r .phase ≤ 5 → ((level (currentPiece r) ≡ s .levels → r .grip ≡ 0) × (level (currentPiece r) ≢ s .levels → r .grip ≡ 2))
   unfolding lacksGrip
   climbing a b =
-      by-eq (r .phase) 3 (λ e. climbing-grip (same (r .grip) _ (lacks _ (at-climb (r .phase) e)))) (λ d.
-      by-eq (r .phase) 4 (λ e. climbing-grip (same (r .grip) _ (lacks _ (at-blocked (r .phase) e)))) (λ f.
-      climbing-grip (same (r .grip) _ (lacks _ (at-claim (r .phase) (omega arith))))))
+      by-eq (r .phase) 3 (λ e. climbing-grip (same-number (r .grip) _ (lacks _ (at-climb (r .phase) e)))) (λ d.
+      by-eq (r .phase) 4 (λ e. climbing-grip (same-number (r .grip) _ (lacks _ (at-blocked (r .phase) e)))) (λ f.
+      climbing-grip (same-number (r .grip) _ (lacks _ (at-claim (r .phase) (omega arith))))))
 
   leaf-returning : r .phase ≡ 10 → level (currentPiece r) ≡ s .levels → (r .grip ≡ 0) ⊎ (r .grip ≡ 3)
   unfolding lacksGrip isLeaf
   leaf-returning e f =
       let both : (differ (r .grip) 0 && differ (r .grip) 3) ≡ false = sym (choose-eq (level (currentPiece r)) (s .levels) _ (ltb 3 (r .grip)) f) ∙ lacks _ (at-returning (r .phase) e) in
-      by-eq (r .grip) 0 inl (λ d. inr (same (r .grip) 3 (and-second (differ (r .grip) 0) _ (ap not (ne-eqb (r .grip) 0 d)) both)))
+      by-eq (r .grip) 0 inl (λ d. inr (same-number (r .grip) 3 (and-second (differ (r .grip) 0) _ (ap not (ne-eqb (r .grip) 0 d)) both)))
 
   most-returning : r .phase ≡ 10 → r .grip ≤ 3
   unfolding lacksGrip isLeaf
@@ -89,14 +92,16 @@ module _ (s : Settings) (r : Record) (last : ℕ) (k : Passed s r last) where
   unfolding givingWrong
   giving-test = both-false (ltb (r .current) (r .giving)) _ (k .giving) .1
 
-  pub ready-passed : Active s r last → Ready s r last
-  unfolding phaseElsewhere lacksGrip
-  ready-passed a = record {
+  ready-passed : r .phase ≢ 0 → Active s r last → Ready s r last
+  unfolding numberTooLarge phaseElsewhere heldEarly outcomeWrong lacksGrip
+  ready-passed z a = record {
     active = a;
-    grip-ticket = λ e. same (r .grip) 0 (lacks _ (at-ticket (r .phase) e));
-    grip-turn = λ e. same (r .grip) 1 (lacks _ (at-turn (r .phase) e));
+    some = omega arith;
+    grip-ticket = λ e. same-number (r .grip) 0 (lacks _ (at-ticket (r .phase) e));
+    grip-turn = λ e. same-number (r .grip) 1 (lacks _ (at-turn (r .phase) e));
     grip-leaf = λ x y f. climbing x y .0 f;
     grip-inner = λ x y d. climbing x y .1 d;
+    claimed = λ x y. same-number (r .grip) 3 (grip-taken (isLeaf s (currentPiece r)) (r .grip) (r .phase) x (omega arith) ∙ k .grip);
     grip-most = most-returning;
     grip-leaf-returning = leaf-returning;
     inner = λ o. not-leaf (⊎-elim (λ e. elsewhere _ (at-ticket (r .phase) e)) (λ o. ⊎-elim (λ e. elsewhere _ (at-turn (r .phase) e))
@@ -106,10 +111,37 @@ module _ (s : Settings) (r : Record) (last : ℕ) (k : Passed s r last) where
     no-notices = λ b. by-lt 0 (r .notices)
         (λ l. absurd (omega (arith, ltb-false (r .grip) 3 (and-second (nonzero (r .notices)) (ltb (r .grip) 3) (lt-ltb 0 (r .notices) l) (notice-tests .0)))))
         (λ l. omega arith);
-    notices-place = λ e. same (r .notices) (r .place) (and-second (eqb (r .phase) 6) _ (eq-eqb (r .phase) 6 e) (notice-tests .1));
+    notices-place = λ e. same-number (r .notices) (r .place) (and-second (eqb (r .phase) 6) _ (eq-eqb (r .phase) 6 e) (notice-tests .1));
+    whole = λ e. ltb-false (suc (r .current)) (length (pieces r)) (and-second (eqb (r .phase) 9) _ (eq-eqb (r .phase) 9 e) (k .held));
+    outcome-most = ltb-false 3 (r .outcome) (both-false (ltb 10 (r .phase)) (ltb 3 (r .outcome)) (k .numbers) .1);
+    no-outcome = λ d. omega (arith, ltb-false 0 (r .outcome) (sym (choose-ne (r .phase) 10 (eqb (r .outcome) 0) _ d) ∙ k .outcome));
+    outcome-some = λ e. eqb-false (r .outcome) 0 (sym (choose-eq (r .phase) 10 _ (nonzero (r .outcome)) e) ∙ k .outcome);
     no-giving = λ d. omega (arith, ltb-false 0 (r .giving) (sym (choose-ne (r .phase) 10 (eqb (gripOf r (r .giving)) 0) _ d) ∙ giving-test));
     giving-gripped = λ e. eqb-false (gripOf r (r .giving)) 0 (sym (choose-eq (r .phase) 10 _ (nonzero (r .giving)) e) ∙ giving-test);
   }
 
 pub ready : (s : Settings) (r : Record) (last : ℕ) → Settled s → unreadable s r last ≡ false → r .phase ≢ 0 → Ready s r last
-ready s r last v u d = ready-passed s r last (passed s r last u d) (active s r last v u d)
+ready s r last v u d = ready-passed s r last (passed s r last u d) d (active s r last v u d)
+
+-- ---- the grip in any phase
+
+module _ (s : Settings) (r : Record) (last : ℕ) (v : Ready s r last) where
+  abbrev n : ℕ
+  n = currentPiece r
+
+  asking-inner : r .phase < 3 → level n ≢ s .levels
+  asking-inner b = v .inner (by-eq (r .phase) 1 inl (λ d. inr (inl (omega (arith, v .some)))))
+
+  pub any-grip-leaf : level n ≡ s .levels → (r .grip ≡ 0) ⊎ (r .grip ≡ 3)
+  any-grip-leaf e =
+      by-lt (r .phase) 3 (λ b. absurd (asking-inner b e)) (λ b.
+      by-lt (r .phase) 6 (λ c. inl (v .grip-leaf b (omega arith) e)) (λ c.
+      by-lt (r .phase) 10 (λ d. inr (v .claimed c (omega arith))) (λ d. v .grip-leaf-returning (omega (arith, v .active .phase-most)) e)))
+
+  pub any-grip-most : r .grip ≤ 3
+  any-grip-most =
+      by-eq (level n) (s .levels) (λ e. ⊎-elim (λ z. omega arith) (λ z. omega arith) (any-grip-leaf e)) (λ d.
+      by-lt (r .phase) 3
+      (λ b. by-eq (r .phase) 1 (λ e. omega (arith, v .grip-ticket e)) (λ f. omega (arith, v .some, v .grip-turn (omega (arith, v .some)))))
+      (λ b. by-lt (r .phase) 6 (λ c. omega (arith, v .grip-inner b (omega arith) d))
+      (λ c. by-lt (r .phase) 10 (λ f. omega (arith, v .claimed c (omega arith))) (λ f. v .grip-most (omega (arith, v .active .phase-most))))))

@@ -2,6 +2,7 @@
 -- Assumes nothing.
 use mathlib.Core.Path.{_≡_}
 use mathlib.Core.Logic.{_⊎_}
+use mathlib.Core.Bool.{false}
 use mathlib.Core.List.{List, [], _∷_, _++_}
 use Prim.Native.Nat.{ℕ, _≤_, _<_}
 use lib.ListN.{length}
@@ -9,6 +10,7 @@ use Rattle.word.specs.rules.Word.{exp, occ, tcnt, tmax, dcnt, dmax}
 use Rattle.tree.specs.rules.Tree.{level, Node}
 use Rattle.lock.specs.declared.Settings.{Settings}
 use Rattle.lock.specs.rules.Records.{wordAt}
+use Rattle.lock.specs.rules.Unreadable.{unreadable}
 use Rattle.lock.specs.rules.Table.{State, Call, request, step, release, cancel, clientOf, recordAt, call}
 
 -- ---- "A history is a list of calls"
@@ -127,3 +129,9 @@ SingleHolding h = (c d l r k q : ℕ) → (c ≡ d → ⊥) → Holds h c l r �
 abbrev pub Demand3 : Settings → State → List Call → Type 0
 Demand3 s st ks =
     SingleHolding (events s st ks) × (((c : ℕ) → c < length (st .records) → Idle (events s st ks) c) → Clean s (run s st ks .words))
+
+-- ---- cause 6, "client's record unreadable"
+
+-- every record of the table is readable: none is "unreadable" in the sense of cause 6
+abbrev pub AllReadable : Settings → State → Type 0
+AllReadable s st = (c : ℕ) → unreadable s (recordAt st c) (st .clock) ≡ false

@@ -2,14 +2,9 @@
 use mathlib.Core.Path.{sym, ap, _∙_}
 use mathlib.Core.Bool.{Bool, _||_}
 use native.Mathlib.Omega.{arith}
-use borrow.Author.Tests.{leb-false}
 use lib.Dec.{ltb}
-use lib.ListN.{length}
-use Rattle.base.specs.laws.TestLaws.{both-false}
-use Rattle.lock.specs.rules.Records.{pieces}
-use Rattle.lock.specs.rules.Unreadable.{notCovered, noCurrent, ticketTooLarge, timeAhead}
-use Rattle.lock.specs.laws.ActiveLaws.{begun}
-use Rattle.lock.specs.laws.OwnTests.{notBegun, ownWrong, unreadable-parts, unreadable-idle}
+use Rattle.lock.specs.laws.OwnTests.{ownWrong, unreadable-parts, unreadable-idle}
+use Rattle.lock.specs.laws.WhenReadable.{asked-begun}
 use borrow.Author.Needs.{needs}
 use Rattle.lock.proofs.Record.unreadable.Statement.{statement}
 use Rattle.lock.proofs.Record.unreadable.Tie as tie
@@ -29,14 +24,11 @@ returns-2 c =
     sym (unreadable-parts (c .before .before .before .before .args .settings) (c .before .before .before .before .args .self) (c .before .before .before .before .args .last) (c .before .before .if1 .left) ∙ ap (λ (b : Bool). b || ownWrong (c .before .before .before .before .args .settings) (c .before .before .before .before .args .self)) (sym (c .before .not-begun .ensures) ∙ c .if2 .taken))
 
 own-wrong-requires : tie.Need-own-wrong-requires
-unfolding notBegun noCurrent
 own-wrong-requires c κs =
-    let s = c .before .before .before .before .args .settings in
-    let r = c .before .before .before .before .args .self in
-    let t = both-false _ (timeAhead r (c .before .before .before .before .args .last)) (sym (c .before .not-begun .ensures) ∙ c .if2 .left) in
-    let k = both-false _ (ticketTooLarge r) (t .0) in
-    let n = both-false (notCovered s r) (noCurrent r) (k .0) in
-    (begun s r (c .before .before .before .before .pre) (n .0) (leb-false (length (pieces r)) (r .current) (n .1)), omega (arith, c .before .before .if1 .left))
+    let a = c .before .before .before .before .args in (
+      asked-begun (a .settings) (a .self) (a .last) (c .before .before .before .before .pre) (sym (c .before .not-begun .ensures) ∙ c .if2 .left),
+      omega (arith, c .before .before .if1 .left),
+    )
 
 returns-3 : tie.Need-returns-3
 returns-3 c =

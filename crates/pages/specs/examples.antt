@@ -1,0 +1,2 @@
+pub mod IsolationExample
+pub mod PagesExample

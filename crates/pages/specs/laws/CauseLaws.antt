@@ -1,0 +1,73 @@
+-- Laws of the causes that the pages find by counts alone: what each way out of the code meets, and what a run's page has passed. Assumes nothing.
+use mathlib.Core.Path.{_≡_, sym, ap, _∙_}
+use mathlib.Core.Bool.{true, false, not}
+use mathlib.Core.List.{[], _∷_}
+use Prim.Native.Nat.{ℕ, _≤_, _<_}
+use native.Mathlib.Omega.{arith}
+use borrow.Author.Tests.{eq-eqb, ne-eqb, le-leb, lt-leb, leb-false}
+use lib.Dec.{leb}
+use Rattle.lock.specs.declared.Settings.{Settings}
+use Rattle.lock.specs.rules.Unreadable.{differ}
+use Rattle.lock.specs.rules.Calls.{firstCause, settingsOutside, clientsOutside, clientTests}
+use Rattle.lock.specs.laws.Active.{Settled}
+use Rattle.lock.specs.laws.ActiveLaws.{settled}
+use Rattle.lock.specs.laws.CallLaws.{cause-hit, cause-skip}
+use Rattle.lock.specs.laws.Accepted.{test-passed}
+use Rattle.pages.specs.laws.Causes.{plannersCause, runCause}
+
+-- ---- planners: 1, 2, 3
+
+module _ (s : Settings) (rows records : ℕ) where
+  pub planners-settings : settingsOutside s ≡ true → 1 ≡ plannersCause s rows records
+  unfolding plannersCause
+  planners-settings e = sym (cause-hit (settingsOutside s) 1 _ e)
+
+  module _ (e : settingsOutside s ≡ false) where
+    pub planners-rows : (rows ≡ records → ⊥) → 2 ≡ plannersCause s rows records
+    unfolding plannersCause
+    planners-rows d = sym (cause-skip (settingsOutside s) 1 _ e ∙ cause-hit (differ rows records) 2 _ (ap not (ne-eqb rows records d)))
+
+    module _ (f : rows ≡ records) where
+      behind-rows : plannersCause s rows records ≡ firstCause ((clientsOutside records, 3) ∷ [])
+      unfolding plannersCause
+      behind-rows = cause-skip (settingsOutside s) 1 _ e ∙ cause-skip (differ rows records) 2 _ (ap not (eq-eqb rows records f))
+
+      pub planners-clients : clientsOutside records ≡ true → 3 ≡ plannersCause s rows records
+      planners-clients g = sym (behind-rows ∙ cause-hit (clientsOutside records) 3 [] g)
+
+      pub planners-passed : clientsOutside records ≡ false → 0 ≡ plannersCause s rows records
+      unfolding firstCause
+      planners-passed g = sym (behind-rows ∙ cause-skip (clientsOutside records) 3 [] g)
+
+-- ---- a run: 1, 3, 4
+
+module _ (s : Settings) (records client : ℕ) where
+  pub run-settings : settingsOutside s ≡ true → 1 ≡ runCause s records client
+  unfolding runCause
+  run-settings e = sym (cause-hit (settingsOutside s) 1 _ e)
+
+  module _ (e : settingsOutside s ≡ false) where
+    pub run-clients : clientsOutside records ≡ true → 3 ≡ runCause s records client
+    unfolding runCause clientTests
+    run-clients f = sym (cause-skip (settingsOutside s) 1 _ e ∙ cause-hit (clientsOutside records) 3 _ f)
+
+    module _ (f : clientsOutside records ≡ false) where
+      behind-clients : runCause s records client ≡ firstCause ((leb records client, 4) ∷ [])
+      unfolding runCause clientTests
+      behind-clients = cause-skip (settingsOutside s) 1 _ e ∙ cause-skip (clientsOutside records) 3 _ f
+
+      pub run-client : records ≤ client → 4 ≡ runCause s records client
+      run-client h = sym (behind-clients ∙ cause-hit (leb records client) 4 [] (le-leb records client h))
+
+      pub run-passed : client < records → 0 ≡ runCause s records client
+      unfolding firstCause
+      run-passed h = sym (behind-clients ∙ cause-skip (leb records client) 4 [] (lt-leb records client h))
+
+  -- none of them: the settings are within their ranges, and the client is in the table
+  pub run-tested : runCause s records client ≡ 0 → Settled s × (client < records)
+  unfolding runCause clientTests
+  run-tested z =
+      let a = test-passed (settingsOutside s) 1 ((clientsOutside records, 3) ∷ (leb records client, 4) ∷ []) (omega arith) z in
+      let b = test-passed (clientsOutside records) 3 ((leb records client, 4) ∷ []) (omega arith) (a .1) in
+      let c = test-passed (leb records client) 4 [] (omega arith) (b .1) in
+      (settled s (a .0), leb-false records client (c .0))

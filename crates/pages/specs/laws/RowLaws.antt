@@ -1,0 +1,61 @@
+-- Laws of the rows: what the row of a readable record is, and that each record is readable where none is unreadable. Assumes nothing.
+use mathlib.Core.Path.{_≡_, sym, ap, _∙_}
+use mathlib.Core.Bool.{false}
+use mathlib.Core.List.{List, [], _∷_}
+use Prim.Native.Nat.{ℕ, zero, suc, _<_}
+use native.Mathlib.Nat.{not-suc-le-zero, le-of-suc-le-suc}
+use borrow.Author.Tests.{lt-leb, le-ltb}
+use lib.ListN.{length, getD}
+use Rattle.base.specs.laws.TestLaws.{both-false}
+use Rattle.base.specs.laws.ChoiceLaws.{choose-eq, choose-ne}
+use Rattle.tree.specs.rules.Tree.{units}
+use Rattle.cover.specs.declared.Answer.{Answer}
+use Rattle.cover.specs.rules.Cover.{total}
+use Rattle.cover.specs.rules.Answer.{levelsOutside, windowOutside, accepted, answer}
+use Rattle.cover.specs.laws.Lowest.{Window}
+use Rattle.cover.specs.laws.Code.{window-covered}
+use Rattle.lock.specs.declared.Record.{Record}
+use Rattle.lock.specs.declared.Settings.{Settings}
+use Rattle.lock.specs.rules.Records.{pieces}
+use Rattle.lock.specs.rules.Unreadable.{unreadable}
+use Rattle.lock.specs.laws.Active.{Settled}
+use Rattle.lock.specs.laws.ActiveLaws.{active}
+use Rattle.pages.specs.rules.Pages.{rowOf, anyUnreadable}
+
+-- ---- the row of a record
+
+pub row-idle : (s : Settings) (r : Record) → r .phase ≡ 0 → record { phase = 0; left = 0; right = 0; first = 0; second = 0; over = 0 } ≡ rowOf s r
+unfolding rowOf
+row-idle s r z = sym (choose-eq (r .phase) 0 _ _ z)
+
+levels-are : (s : Settings) → Settled s → levelsOutside (s .levels) ≡ false
+unfolding levelsOutside
+levels-are s v = rw (le-ltb (s .levels) 2 (v .levels-some), le-ltb 12 (s .levels) (v .levels-most))
+
+window-is : (h l r : ℕ) → Window h l r → windowOutside h l r ≡ false
+unfolding windowOutside
+window-is h l r w = rw (lt-leb r l (w .some), le-ltb (units h) r (w .fits))
+
+module _ (s : Settings) (r : Record) (last : ℕ) (v : Settled s) (u : unreadable s r last ≡ false) (d : r .phase ≡ 0 → ⊥) where
+  -- the over-cover of a window's cover is that of the record's pieces, since these are its cover
+  over-is : answer (s .levels) (r .left) (r .right) .over ≡ total (s .levels) (r .left) (r .right) (pieces r)
+  unfolding accepted
+  over-is =
+      let known = active s r last v u d in
+      ap (λ (a : Answer). a .over) (sym (window-covered (s .levels) (r .left) (r .right) (levels-are s v) (window-is _ _ _ (known .window))))
+      ∙ ap (total (s .levels) (r .left) (r .right)) (sym (known .cover))
+
+  pub row-active : (a : Answer) → a ≡ answer (s .levels) (r .left) (r .right)
+      → record { phase = r .phase; left = r .left; right = r .right; first = r .first; second = r .second; over = a .over } ≡ rowOf s r
+  unfolding rowOf
+  row-active a e =
+      ap (λ (n : ℕ). record { phase = r .phase; left = r .left; right = r .right; first = r .first; second = r .second; over = n }) (ap (λ (x : Answer). x .over) e ∙ over-is)
+      ∙ sym (choose-ne (r .phase) 0 _ _ d)
+
+-- ---- none of the records is unreadable
+
+pub each-readable : (s : Settings) (rs : List Record) (last : ℕ) → anyUnreadable s rs last ≡ false → (i : ℕ) (d : Record) → i < length rs → unreadable s (getD rs i d) last ≡ false
+unfolding anyUnreadable
+each-readable s [] last e i d b = absurd (not-suc-le-zero b)
+each-readable s (r ∷ rs) last e zero d b = both-false (unreadable s r last) _ e .0
+each-readable s (r ∷ rs) last e (suc i) d b = each-readable s rs last (both-false (unreadable s r last) _ e .1) i d (le-of-suc-le-suc b)

@@ -1,0 +1,50 @@
+-- To be believed: document 02, request 2.1: what `rangepages` prints of a schedule, byte by byte (ASCII). Assumes nothing.
+use mathlib.Core.List.{List, [], _∷_, _++_}
+use Prim.Native.Nat.{ℕ, suc}
+use Rattle.lock.specs.declared.Record.{Record}
+use Rattle.lock.specs.declared.Settings.{Settings}
+use Rattle.pages.specs.declared.Row.{Row}
+use Rattle.pages.specs.rules.Pages.{rowOf, heldCount}
+use Rattle.schedule.specs.rules.Format.{settingsIn}
+use Rattle.schedule.specs.rules.Running.{afterCalls}
+use Rattle.schedule.specs.rules.Refusal.{unlessRefused}
+use Rattle.schedule.specs.rules.Text.{text, decimal, spaced, PutInto}
+
+-- ---- "a line for each client, number and row": the row's phase, edges, pieces and over-cover
+
+unfoldable pub rowText : ℕ → Row → List ℕ
+rowText client w =
+    decimal client ++ (spaced (w .phase) ++ (spaced (w .left) ++ (spaced (w .right) ++ (spaced (w .first) ++ (spaced (w .second) ++ (spaced (w .over) ++ text "\n"))))))
+
+unfoldable pub rowLine : Settings → ℕ → Record → List ℕ
+rowLine s client r = rowText client (rowOf s r)
+
+-- ---- "then one for each, number, record and count, in the papers' order": the record's fields in document 01's order
+
+unfoldable pub recordLine : ℕ → ℕ → Record → List ℕ
+recordLine held client r =
+    decimal client ++ (spaced (r .phase) ++ (spaced (r .outcome) ++ (spaced (r .left) ++ (spaced (r .right) ++ (spaced (r .first) ++ (spaced (r .second) ++ (spaced (r .current)
+    ++ (spaced (r .giving) ++ (spaced (r .grip) ++ (spaced (r .ticket) ++ (spaced (r .place) ++ (spaced (r .notices) ++ (spaced (r .t1) ++ (spaced (r .t0)
+    ++ (spaced held ++ text "\n")))))))))))))))
+
+-- ---- the two pages
+
+-- a line for each record of the list, the first of which is the client's
+unfoldable pub lineEach : (ℕ → Record → List ℕ) → ℕ → List Record → List ℕ
+lineEach line client [] = []
+lineEach line client (r ∷ rs) = line client r ++ lineEach line (suc client) rs
+
+unfoldable pub pagesText : Settings → List Record → List ℕ
+pagesText s records = lineEach (rowLine s) 0 records ++ lineEach (recordLine (heldCount records)) 0 records
+
+-- "reads or refuses a schedule as `rangelog` does. It prints only, after the last call, .."
+unfoldable pub pagesOf : List ℕ → List ℕ
+pagesOf bytes = unlessRefused bytes (pagesText (settingsIn bytes) (afterCalls bytes .records))
+
+-- both pages of every table fit here: it has at most 64 clients, and their lines have at most 147 and 336 bytes
+abbrev pub room : ℕ
+room = 32000
+
+-- the pages in lent bytes
+abbrev pub Paged : List ℕ → List ℕ → List ℕ → ℕ → Type 0
+Paged bytes lent after count = PutInto room (pagesOf bytes) lent after count

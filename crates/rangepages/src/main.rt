@@ -1,0 +1,29 @@
+// Reads a schedule from standard input, at most 65,536 bytes, makes its calls, and writes the planners' page and each run's page to standard output, and nothing else. If
+// the one cannot be read or the other cannot be written, it says so on standard error: a program in Rattle has no exit status.
+ghost use mathlib.Core.Path.{_≡_};
+ghost use lib.ListN.{length};
+
+mod lines;
+mod paging;
+
+// Room for both pages.
+fn page_room() -> [u8; 32000]
+    ensures { λ r. ⌜ 32000 ≡ length r ⌝ }
+{
+    [0; 32000]
+}
+
+fn main() {
+    let mut file = reading::file_room();
+    let input = reading::read_input(&mut file);
+    if input.failed {
+        os::fail(b"rangepages: standard input could not be read");
+        return;
+    }
+    let count = input.count;
+    let mut text = page_room();
+    let length = paging::put_pages(&file[..count], &mut text);
+    if !io::write_all(libc::STDOUT_FILENO, &text[..length]) {
+        os::fail(b"rangepages: standard output could not be written, and the pages are not whole");
+    }
+}
