@@ -33,7 +33,7 @@ SCHEDULE = $(BUILT)/schedule
 PROGRAMS = target/bin/rangelog target/bin/rangepages
 # The proved parts of the library: each archive has the exported functions of its crate.
 PROVED = target/staticlib/libtable.a target/staticlib/libpages.a
-PAGES_FOR_MAN = $(wildcard man/*.1)
+MANUALS = $(wildcard man/*.1)
 
 # Folders too, whose times tell of files that are gone.
 CRATES := crates.txt $(shell find crates)
@@ -86,13 +86,13 @@ install: all
 	sed -e 's|@PREFIX@|$(PREFIX)|; s|@LIBDIR@|$(LIBDIR)|; s|@INCLUDEDIR@|$(INCLUDEDIR)|; s|@DATADIR@|$(DATADIR)|; s|@VERSION@|$(VERSION)|' \
 	    packaging/nolthewyr.pc.in > $(DESTDIR)$(PKGCONFIGDIR)/nolthewyr.pc
 	install -m 644 include/nolthewyr.rs python/nolthewyr.py $(DESTDIR)$(DATADIR)
-	install -m 644 $(PAGES_FOR_MAN) $(DESTDIR)$(MANDIR)
+	install -m 644 $(MANUALS) $(DESTDIR)$(MANDIR)
 
 uninstall:
 	rm -f $(addprefix $(DESTDIR)$(BINDIR)/,$(notdir $(PROGRAMS) $(SCHEDULE)))
 	rm -f $(addprefix $(DESTDIR)$(LIBDIR)/libnolthewyr.,a so so.$(SERIES) so.$(VERSION))
 	rm -f $(DESTDIR)$(INCLUDEDIR)/nolthewyr.h $(DESTDIR)$(PKGCONFIGDIR)/nolthewyr.pc
-	rm -f $(addprefix $(DESTDIR)$(MANDIR)/,$(notdir $(PAGES_FOR_MAN)))
+	rm -f $(addprefix $(DESTDIR)$(MANDIR)/,$(notdir $(MANUALS)))
 	rm -f $(addprefix $(DESTDIR)$(DATADIR)/nolthewyr.,rs py)
 	rm -rf $(DESTDIR)$(DATADIR)/__pycache__
 	rmdir $(DESTDIR)$(DATADIR) || true

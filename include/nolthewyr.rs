@@ -184,7 +184,7 @@ impl Table {
 }
 
 fn accepted(number: u64) -> Result<(), Cause> {
-    if number == Cause::ACCEPTED.0 { Ok(()) } else { Err(Cause(number)) }
+    (number == Cause::ACCEPTED.0).then_some(()).ok_or(Cause(number))
 }
 
 /// The nodes that a request for [left, right) would take.
