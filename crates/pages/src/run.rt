@@ -1,7 +1,5 @@
 // A forecast run's page.
 ghost use mathlib.Core.Path.{_≡_};
-ghost use mathlib.Core.Bool.{true, false};
-ghost use Rattle.lock.specs.rules.Unreadable.{unreadable};
 ghost use Rattle.lock.specs.laws.Active.{Settled};
 ghost use Rattle.pages.specs.rules.Pages.{runPage};
 ghost use Rattle.pages.specs.laws.RunLaws.{refusedPage, ownPage};

@@ -23,7 +23,7 @@ use Rattle.pages.specs.declared.Row.{Row}
 use Rattle.pages.specs.rules.Pages.{rowOf, anyUnreadable, page, plannersPage, heldCount, ownRecord, runPage}
 use Rattle.pages.specs.laws.CauseLaws.{planners-passed, run-passed}
 use Rattle.pages.specs.laws.PlannersLaws.{planners-takes}
-use Rattle.pages.specs.laws.RunLaws.{acceptedPage, ownPage, run-takes}
+use Rattle.pages.specs.laws.RunLaws.{refusedPage, acceptedPage, ownPage, run-takes}
 
 none-unreadable : (s : Settings) (rs : List Record) (last : ℕ) → ((c : ℕ) → unreadable s (ownRecord rs c) last ≡ false) → anyUnreadable s rs last ≡ false
 unfolding anyUnreadable
@@ -69,4 +69,4 @@ module _ (s : Settings) (lent : State) (e : opening s lent .number ≡ 0) (ks : 
   unfolding ownPage choose
   run-given c b =
       sym (run-takes s (after .records) (after .clock) c (sym (run-passed s (length (after .records)) c (tested .0) clients-right b)))
-      ∙ ap (λ (x : Bool). choose x _ (acceptedPage (ownRecord (after .records) c) (heldCount (after .records)))) (readable c)
+      ∙ ap (λ (x : Bool). choose x (refusedPage 6) (acceptedPage (ownRecord (after .records) c) (heldCount (after .records)))) (readable c)
