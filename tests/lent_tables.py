@@ -10,6 +10,7 @@ from model import tree
 from model.record import IDLE, Record, Settings
 from readable_cases import HELD, LAST, SETTINGS
 from record_states import State, any_clock, any_number, any_settings, built, perturbed
+from vector_cases import all_states
 
 HISTORIES = 60
 CALLS = 80
@@ -66,6 +67,12 @@ def of_any_content():
             yield lent(settings, hurt, client, last)
             yield lent(settings, hurt, place, last)
             yield lent(settings, [damaged(rng, settings, record, last) for record in records], client, last)
+
+
+def of_expected_answers():
+    """The tables of tests/vectors, for the client that is called there."""
+    for state in all_states():
+        yield lent(state.settings, state.records, state.call.client, state.last)
 
 
 # The causes of each page in the order of testing; after the last of them has been taken away it is accepted.

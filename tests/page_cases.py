@@ -126,6 +126,7 @@ def same_page():
 TABLES = {
     "in the middle of histories": lent_tables.in_histories,
     "of tables of any content": lent_tables.of_any_content,
+    "of the tables in tests/vectors": lent_tables.of_expected_answers,
     "with settings outside their ranges": lent_tables.settings_outside,
     "of any number of clients, rows and client": lent_tables.clients_and_rows,
     "of 32,767 clients and of 32,768": lent_tables.of_most_clients,
