@@ -53,8 +53,8 @@ class Clients:
                 print(f"planners see client {client}: {phase_text(row.phase)}, [{row.left}, {row.right}) and {row.over} units beyond")
 
     def let_pass(self, client, pause):
-        """A client that runs by itself sleeps here. In this program client 0 ends its work meanwhile. How many clients hold their windows is all
-        that a client may know of the others."""
+        """A client that runs by itself sleeps here. In this program client 0 ends its work meanwhile. How many clients hold their windows
+        is all that a client may know of the others."""
         self.now += pause
         print(f"client {client} has paused until {self.now}; clients that hold: {self.table.run_page(client).held}")
         if self.table.record(0).phase == Phase.HELD and self.now >= WORK:

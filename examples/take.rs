@@ -70,8 +70,8 @@ impl Clients {
         Ok(())
     }
 
-    /// A client that runs by itself sleeps here. In this program client 0 ends its work meanwhile. How many clients hold their windows is all
-    /// that a client may know of the others.
+    /// A client that runs by itself sleeps here. In this program client 0 ends its work meanwhile. How many clients hold their windows is
+    /// all that a client may know of the others.
     fn let_pass(&mut self, client: usize, pause: u64) -> Result<(), Cause> {
         self.now += pause;
         println!("client {client} has paused until {}; clients that hold: {}", self.now, self.table.run_page(client)?.held);

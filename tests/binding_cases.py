@@ -95,8 +95,8 @@ def pages_by_model(lock, client):
 
 
 class History:
-    """A random history made by the model: its settings and clients, its calls, and the number, clock and record after each; and now and then
-    the pages."""
+    """A random history made by the model: its settings and clients, its calls, and the number, clock and record after each; and now and
+    then the pages."""
 
     def __init__(self, seed):
         rng = Random(f"binding {seed}")

@@ -118,8 +118,9 @@ def another_series():
 
 def printed_of_case(program):
     """What an installed program prints of the whole case."""
+    taken = {"env": environment(), "cwd": folder().name, "capture_output": True, "text": True}
     with open(CASE.with_suffix(".bin"), "rb") as case_file:
-        return subprocess.run([prefix() / "bin" / program], stdin=case_file, env=environment(), cwd=folder().name, capture_output=True, text=True).stdout
+        return subprocess.run([prefix() / "bin" / program], stdin=case_file, **taken).stdout
 
 
 def programs():

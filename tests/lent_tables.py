@@ -123,9 +123,11 @@ def of_most_clients():
 
 
 def others_unreadable():
-    """Clients in phase 9 whose records say nothing else that can be: they are counted by the phase alone. Own record as it should be."""
+    """Clients in phase 9, and beside it, whose records say nothing else that can be: they are counted by the phase alone. The client's own
+    record is readable or not."""
     filled = Record(9, *range(2, len(Record._fields) + 1))
-    for others in ([filled], [filled, filled], [HELD, filled, IDLE], [Record(phase=9), filled._replace(phase=10), filled._replace(phase=2 ** 32 + 9)]):
+    beside = [filled._replace(phase=phase) for phase in (8, 10, 2 ** 32 + 9, TOP)]
+    for others in ([filled], [filled, filled], [HELD, filled, IDLE], [Record(phase=9), *beside]):
         for own in (HELD, IDLE, IDLE._replace(outcome=3), filled):
             yield lent(SETTINGS, [own, *others], 0, LAST)
             yield lent(SETTINGS, [*others, own], len(others), LAST)

@@ -142,4 +142,7 @@ CASES = {
     "nothing is said where nothing fails": good_descriptors,
     "how far a file is read": bytes_read,
 }
-SUITES = {f"{program.name}, {name}": lambda cases=cases, program=program: cases(program) for program in PROGRAMS for name, cases in CASES.items()}
+SUITES = {
+    f"{program.name}, {name}": lambda cases=cases, program=program: cases(program)
+    for program in PROGRAMS for name, cases in CASES.items()
+}

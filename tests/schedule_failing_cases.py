@@ -21,6 +21,7 @@ MEMORY = 2 ** 29
 FULL = "schedule: standard output could not be written: No space left on device\n"
 CLOSED = "schedule: standard output could not be written: it is closed\n"
 NO_INPUT = "schedule: standard input could not be read: it is closed\n"
+WRONG = "one of the two is wrong; keep the file and report it"
 
 # A shell command, with `schedule` for the program; its exit status, and what it says.
 COMMANDS = {
@@ -58,8 +59,8 @@ COMMANDS = {
     "no log of a refused schedule": ("echo tree 7 m 1 wait 5 clients 2 | RANGELOG=true schedule run --log", 3,
                                      "schedule: what rangelog printed is not whole: it has 0 lines, and the model's has 1\n"),
     "a log of a refused schedule": ("echo tree 7 m 1 wait 5 clients 2 | RANGELOG='echo tree 7 m 1 wait 5 clients 2' schedule run", 3,
-                                    "schedule: line 1 that rangelog printed is `tree 7 m 1 wait 5 clients 2`, and the model says `refused 11`: "
-                                    "one of the two is wrong; keep the file and report it\n"),
+                                    "schedule: line 1 that rangelog printed is `tree 7 m 1 wait 5 clients 2`, and the model says "
+                                    f"`refused 11`: {WRONG}\n"),
     "no command for rangelog": ("RANGELOG=\"'\" schedule run whole-case.txt", 3,
                                 "schedule: RANGELOG in the environment is no command: No closing quotation\n"),
     "a refused schedule, pages": ("echo tree 2 m 1 wait 5 clients 0 | schedule pages", 1, "refused 3: no clients: correct the settings\n"),
@@ -67,7 +68,7 @@ COMMANDS = {
                            "schedule: /no/rangepages could not be run: No such file or directory\n"),
     "rangelog in place of rangepages": ("RANGEPAGES='cat whole-case.log' schedule pages whole-case.txt", 3,
                                         "schedule: line 1 that rangepages printed is `tree 2 m 1 wait 5 clients 2`, and the model says "
-                                        "`0 0 0 0 0 0 0`: one of the two is wrong; keep the file and report it\n"),
+                                        f"`0 0 0 0 0 0 0`: {WRONG}\n"),
     "no pages": ("RANGEPAGES=true schedule pages whole-case.txt", 3,
                  "schedule: what rangepages printed is not whole: it has 0 lines, and the model's has 4\n"),
     "no command for rangepages": ("RANGEPAGES=\"'\" schedule pages whole-case.txt", 3,
@@ -107,12 +108,11 @@ CHANGED_LOGS = {
     "a line more": (LOG + LOG[-20:], "what rangelog printed is not whole: it has 16 lines, and the model's has 15"),
     "cut in its last line": (LOG[:-3], "what rangelog printed is not whole: it ends within its line 15, `"
                              + LOG[:-3][-80:].replace("\n", "\\n") + "`"),
-    "a refusal": ("refused 3\n", "line 1 that rangelog printed is `refused 3`, and the model says `tree 2 m 1 wait 5 clients 2`: one of the two is wrong; "
-                  "keep the file and report it"),
+    "a refusal": ("refused 3\n", f"line 1 that rangelog printed is `refused 3`, and the model says `tree 2 m 1 wait 5 clients 2`: {WRONG}"),
     "another phase": (LOG.replace("7 step 0 0 9", "7 step 0 0 8"),
-                      "line 9 that rangelog printed is `7 step 0 0 8 10 20`, and the model says `7 step 0 0 9 10 20`: one of the two is wrong; keep the file and report it"),
+                      f"line 9 that rangelog printed is `7 step 0 0 8 10 20`, and the model says `7 step 0 0 9 10 20`: {WRONG}"),
     "another header": (LOG.replace("wait 5", "wait 6"), "line 1 that rangelog printed is `tree 2 m 1 wait 6 clients 2`, and the model says "
-                       "`tree 2 m 1 wait 5 clients 2`: one of the two is wrong; keep the file and report it"),
+                       f"`tree 2 m 1 wait 5 clients 2`: {WRONG}"),
 }
 
 

@@ -1,5 +1,5 @@
-"""Cases for `tools/schedule pages`: both pages in words, held to the records that the model leaves, the whole case as docs/SCHEDULES.md shows it,
-and pages that are not whole or not the model's."""
+"""Cases for `tools/schedule pages`: both pages in words, held to the records that the model leaves, the whole case as docs/SCHEDULES.md
+shows it, and pages that are not whole or not the model's."""
 
 from itertools import zip_longest
 from pathlib import Path
@@ -10,11 +10,12 @@ from library import ROOT
 from model import cover, pages, schedule
 from model.record import Record
 from random_schedules import drawn
+from schedule_failing_cases import WRONG
 from schedule_run_cases import OUTCOMES, PHASES, run_by_model
 from schedule_tool import started
 from scheduling.page_report import MEANING, page_report
 
-NAMES["report of pages"] = ("seed",), ("planners' lines unlike", "runs' lines unlike", "lines beside them unlike")
+NAMES["report of pages"] = ("seed",), ("lines", "lines unlike")
 NAMES["line of the pages"] = ("line",), ("as expected",)
 NAMES["pages of a schedule"] = ("place in the list of files",), ("exit status", "lines", "said why")
 NAMES["changed pages"] = ("place in the list of changes",), ("exit status", "said as expected", "bytes written")
@@ -49,24 +50,28 @@ def run_words(client, record, held):
     return [str(client), str(phase), PHASES[phase], str(outcome), *said, *map(str, others), str(held)]
 
 
-def unlike(lines, expected):
-    return sum(line is None or line.split() != words for line, words in zip_longest(lines, expected))
+# The lines above and between the two tables.
+ABOVE = ["The planners' page".split(), ["client", "phase", "window", "nodes", "over-cover"]]
+BETWEEN = [MEANING.split(), [], "The runs' pages: each run gets its own line, and no other".split(),
+           ["run", *Record._fields, "clients", "that", "hold"]]
+
+
+def expected_words(read):
+    """The words of each line of a schedule's pages."""
+    records = last_records(read)
+    held = sum(record.phase == 9 for record in records)
+    planners = [planners_words(read.settings, client, record) for client, record in enumerate(records)]
+    return ABOVE + planners + BETWEEN + [run_words(client, record, held) for client, record in enumerate(records)]
 
 
 def reports():
     """Random schedules: a line for each client in both tables, under the names of the fields."""
     for seed in range(SEEDS):
         data = drawn("contended" if seed % 3 else "well-formed", seed)
-        read, printed = schedule.decode(data), pages.pages(data).splitlines()
-        lines, records = list(page_report(printed)), last_records(read)
-        held, clients = sum(record.phase == 9 for record in records), read.clients
-        planners = [planners_words(read.settings, client, record) for client, record in enumerate(records)]
-        runs = [run_words(client, record, held) for client, record in enumerate(records)]
-        beside = [lines[0], *(line.split() for line in lines[1:2]), lines[2 + clients], *lines[3 + clients:5 + clients], lines[5 + clients].split()]
-        expected = ["The planners' page", ["client", "phase", "window", "nodes", "over-cover"], f"  {MEANING}", "",
-                    "The runs' pages: each run gets its own line, and no other", ["run", *Record._fields, "clients", "that", "hold"]]
-        answer = unlike(lines[2:2 + clients], planners), unlike(lines[6 + clients:], runs), int(beside != expected)
-        yield case("report of pages", [seed], (0, 0, 0)), answer
+        lines = [line.split() for line in page_report(pages.pages(data).splitlines())]
+        expected = expected_words(schedule.decode(data))
+        unlike = sum(found != words for found, words in zip_longest(lines, expected))
+        yield case("report of pages", [seed], (len(expected), 0)), (len(lines), unlike)
 
 
 def whole_case_pages():
@@ -92,12 +97,12 @@ def statuses():
     for place, data in enumerate(drawn(kind, seed) for kind in ("contended", "refused", "damaged") for seed in range(8)):
         printed, ran = pages.pages(data).splitlines(), started("pages", data=data)
         refused = printed[0].startswith("refused")
-        lines = 0 if refused else len(printed) + 6
-        yield case("pages of a schedule", [place], (int(refused), lines, int(refused))), (ran.status, ran.written.count(b"\n"), int(ran.said != ""))
+        lines = 0 if refused else len(printed) + len(ABOVE) + len(BETWEEN)
+        answer = ran.status, ran.written.count(b"\n"), int(ran.said != "")
+        yield case("pages of a schedule", [place], (int(refused), lines, int(refused))), answer
 
 
 PRINTED = WHOLE.with_suffix(".pages").read_text()
-WRONG = "one of the two is wrong; keep the file and report it"
 
 # What a program in place of rangepages makes of the pages of the whole case, and what is said of that.
 CHANGED = {
@@ -106,8 +111,8 @@ CHANGED = {
                              + PRINTED[:-2][-80:].replace("\n", "\\n") + "`"),
     "another over-cover": (PRINTED.replace("1 9 0 256 1 0 0\n", "1 9 0 256 1 0 1\n"),
                            f"line 2 that rangepages printed is `1 9 0 256 1 0 1`, and the model says `1 9 0 256 1 0 0`: {WRONG}"),
-    "another count": (PRINTED.replace("3 1\n", "3 2\n"), "line 4 that rangepages printed is `1 9 0 0 256 1 0 0 0 3 0 0 0 0 3 2`, and the model says "
-                      f"`1 9 0 0 256 1 0 0 0 3 0 0 0 0 3 1`: {WRONG}"),
+    "another count": (PRINTED.replace("3 1\n", "3 2\n"), "line 4 that rangepages printed is `1 9 0 0 256 1 0 0 0 3 0 0 0 0 3 2`, "
+                      f"and the model says `1 9 0 0 256 1 0 0 0 3 0 0 0 0 3 1`: {WRONG}"),
 }
 
 

@@ -22,5 +22,6 @@ class Ran(NamedTuple):
 def started(*arguments, data=b"", stdout=subprocess.PIPE, **environment):
     """Runs the program with these bytes on standard input; RANGELOG and RANGEPAGES are the commands that it runs in place of the compiled
     programs."""
-    ran = subprocess.run([TOOL, *arguments], input=data, stdout=stdout, stderr=subprocess.PIPE, env=os.environ | environment, timeout=4 * SECONDS)
+    taken = {"stdout": stdout, "stderr": subprocess.PIPE, "env": os.environ | environment, "timeout": 4 * SECONDS}
+    ran = subprocess.run([TOOL, *arguments], input=data, **taken)
     return Ran(ran.returncode, ran.stdout or b"", ran.stderr.decode())

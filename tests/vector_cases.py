@@ -22,7 +22,7 @@ SCHEDULES = 40
 SETTINGS = 6
 
 NAMES["state"] = ("place", "kind", "by"), ("number", "clock", "records unlike", "words unlike")
-NAMES["expected answers"] = ("place",), ("found",)
+NAMES["expected answers"] = ("place",), ("files or states found", "names missing or too many")
 
 
 class State(NamedTuple):
@@ -59,7 +59,8 @@ def state_in(numbers):
     records = records_in(numbers, clients)
     kind, *asked = taken(numbers, 4)
     number, clock = taken(numbers, 2)
-    return State(settings, words, records, last, Call(KINDS[kind], *asked), number, clock, taken(numbers, len(words)), records_in(numbers, clients))
+    after = taken(numbers, len(words)), records_in(numbers, clients)
+    return State(settings, words, records, last, Call(KINDS[kind], *asked), number, clock, *after)
 
 
 def all_states():
@@ -90,9 +91,9 @@ def by_compiled(state):
 
 
 def states():
-    """Each call gives the number and leaves the clock, the records and the words that are expected, by the model and by the compiled call."""
+    """Each call gives the number and leaves the clock, the records and the words that are expected, by the model and compiled."""
     found = all_states()
-    yield case("expected answers", [0], STATES), len(found)
+    yield case("expected answers", [0], (STATES, 0)), (len(found), 0)
     for place, state in enumerate(found):
         for by, answer in enumerate((by_model(state), by_compiled(state))):
             yield case("state", [place, KINDS.index(state.call.kind), by], (state.number, state.clock, 0, 0)), answer
@@ -101,10 +102,10 @@ def states():
 def schedules(program):
     """Of each schedule the model and the program print what is expected."""
     folder = VECTORS / "schedules"
-    names = [f"{place:02}" for place in range(SCHEDULES)]
+    names = {f"{place:02}" for place in range(SCHEDULES)}
     for place, ending in enumerate((".bin", program.ending)):
-        there = sorted(path.stem for path in folder.glob(f"*{ending}"))
-        yield case("expected answers", [1 + place], SCHEDULES), sum(name in names for name in there) - sum(name not in names for name in there)
+        there = {path.stem for path in folder.glob(f"*{ending}")}
+        yield case("expected answers", [1 + place], (SCHEDULES, 0)), (len(there), len(there ^ names))
     for path in sorted(folder.glob("*.bin")):
         yield from program.held_to_file(path)
 

@@ -3,8 +3,8 @@
 
 def in_columns(table, to_the_right):
     """The rows of words with each column as wide as its widest entry; the columns at these places have their words at their right edge."""
-    table = list(table)
-    widths = [max(map(len, column)) for column in zip(*table)]
-    for row in table:
-        entries = (f"{word:>{width}}" if place in to_the_right else f"{word:<{width}}" for place, (word, width) in enumerate(zip(row, widths)))
-        yield "  ".join(entries).rstrip()
+    columns = []
+    for place, column in enumerate(zip(*table)):
+        width = max(map(len, column))
+        columns.append([word.rjust(width) if place in to_the_right else word.ljust(width) for word in column])
+    return ["  ".join(row).rstrip() for row in zip(*columns)]

@@ -67,8 +67,8 @@ def whole_output(program, data):
         raise Failed(f"what {program.name} printed is not whole: it ends within its line {len(lines) + 1}, {shown(text[-80:])}")
     for place, (line, by_model) in enumerate(zip(lines, expected), 1):
         if line != by_model:
-            raise Failed(f"line {place} that {program.name} printed is {shown(line)}, and the model says {shown(by_model)}: one of the two is "
-                         "wrong; keep the file and report it")
+            raise Failed(f"line {place} that {program.name} printed is {shown(line)}, and the model says {shown(by_model)}: one of the two "
+                         "is wrong; keep the file and report it")
     if len(lines) != len(expected):
         raise Failed(f"what {program.name} printed is not whole: it has {len(lines)} lines, and the model's has {len(expected)}")
     return lines
