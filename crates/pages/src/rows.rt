@@ -10,7 +10,7 @@ use crate::Row;
 use lock::Record;
 use lock::Settings;
 
-// The row of a readable record: its pieces are its window's cover, and so is their over-cover. (Of the last clock speaks the contract alone.)
+// The row of a readable record. Its pieces are its window's cover, so their over-cover is the cover's. (Of the last clock speaks the contract alone.)
 pub fn row_of(one: Record, settings: Settings, last: u64) -> Row
     requires { ⌜ Settled settings × (unreadable settings one last ≡ false) ⌝ }
     ensures { λ r. ⌜ r ≡ rowOf settings one ⌝ }
@@ -36,6 +36,7 @@ pub fn row_of(one: Record, settings: Settings, last: u64) -> Row
     }
 }
 
+// A row for each record, in their order.
 pub fn fill_rows(records: &[Record], rows: &mut [Row], settings: Settings, last: u64)
     requires { ⌜ Settled settings × (length (now rows) ≡ length (now records)) × (anyUnreadable settings (now records) last ≡ false) ⌝ }
     ensures { λ r. ⌜ now (rows .exit) ≡ map (rowOf settings) (now (records .entry)) ⌝ }
