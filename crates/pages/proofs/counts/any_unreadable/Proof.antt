@@ -59,10 +59,10 @@ use Rattle.lock.proofs.Record.unreadable as callee
 use Rattle.lock.proofs.Record.unreadable.Symbol as callee-def
 use Rattle.lock.proofs.Record.unreadable.Met as callee-thm
 use Rattle.table.proofs.Rows.{R, RG, word, bytes}
-use Rattle.table.proofs.Walk.{fits-index, tests, whiles, Turned, first-of, after, inside, env}
+use Rattle.table.proofs.Walk.{fits-index, tests, whiles, Turned, first-of, after, inside, env, Upto, Nearer, Nearer-wf}
 use Rattle.pages.specs.rules.Pages.{anyUnreadable}
 use Rattle.pages.specs.laws.CountLaws.{any-next}
-use Rattle.pages.proofs.Shared.{Upto, Nearer, Nearer-wf, Borrowed, and-borrowed, elem, record-out, record-back, returned}
+use Rattle.pages.proofs.Shared.{Borrowed, and-borrowed, elem, record-out, record-back, returned}
 use Rattle.pages.proofs.counts.any_unreadable.Key.{name as #this}
 use Rattle.pages.proofs.counts.any_unreadable as this
 use Rattle.pages.proofs.counts.any_unreadable.Statement as stated

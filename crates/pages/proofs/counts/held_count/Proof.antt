@@ -50,13 +50,11 @@ use Rattle.lock.specs.declared.Record.{Record}
 use Rattle.lock.specs.rules.Records.{idleWith}
 use Rattle.lock.proofs.Record as Rec
 use Rattle.lock.proofs.Record.Laws as Rec′
-use Rattle.lock.proofs.Settings as G
-use Rattle.lock.proofs.Settings.Laws as G′
 use Rattle.table.proofs.Rows.{R, word, bytes}
-use Rattle.table.proofs.Walk.{fits-index, tests, whiles, Turned, first-of, after, inside, env}
+use Rattle.table.proofs.Walk.{fits-index, tests, whiles, Turned, first-of, after, inside, env, Upto, Nearer, Nearer-wf}
 use Rattle.pages.specs.rules.Pages.{inPhase9, heldCount}
 use Rattle.pages.specs.laws.CountLaws.{phase-9-most, held-most, held-next}
-use Rattle.pages.proofs.Shared.{Upto, Nearer, Nearer-wf, Borrowed, and-borrowed, elem, record-out, record-back, returned}
+use Rattle.pages.proofs.Shared.{Borrowed, and-borrowed, elem, record-out, record-back, returned}
 use Rattle.pages.proofs.counts.in_phase_9 as callee
 use Rattle.pages.proofs.counts.in_phase_9.Symbol as callee-def
 use Rattle.pages.proofs.counts.in_phase_9.Met as callee-thm

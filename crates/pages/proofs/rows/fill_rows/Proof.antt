@@ -53,13 +53,13 @@ use Rattle.lock.proofs.Record.Laws as Rec′
 use Rattle.lock.proofs.Settings as G
 use Rattle.lock.proofs.Settings.Laws as G′
 use Rattle.table.proofs.Rows.{R, RG, word, bytes}
-use Rattle.table.proofs.Walk.{fits-index, gives-up, tests, whiles, Turned, first-of, after, inside, env}
+use Rattle.table.proofs.Walk.{fits-index, gives-up, tests, whiles, Turned, first-of, after, inside, env, Upto, Nearer, Nearer-wf}
 use Rattle.pages.specs.declared.Row.{Row}
 use Rattle.pages.specs.rules.Pages.{rowOf, anyUnreadable}
 use Rattle.pages.specs.laws.RowLaws.{each-readable}
 use Rattle.pages.proofs.Lent.{RW, row-bytes, shared, lent, passed, vals, spelt, told, stayed, all-go}
 use Rattle.pages.proofs.Mapped.{mapped, mapped-length, mapped-none, mapped-next, mapped-all}
-use Rattle.pages.proofs.Shared.{Upto, Nearer, Nearer-wf, Borrowed, elem, record-out, record-back}
+use Rattle.pages.proofs.Shared.{Borrowed, elem, record-out, record-back}
 use Rattle.pages.proofs.Row as Ro
 use Rattle.pages.proofs.Row.Laws as Ro′
 use Rattle.pages.proofs.rows.row_of as row-of

@@ -1,11 +1,9 @@
 -- `rangepages::paging::held_in` meets its contract. Assumes nothing.
 use borrow.Author.Needs.{needs}
-use mathlib.Core.Path.{_≡_, refl, ap, _∙_}
-use Prim.Native.Nat.{ℕ, _-_, _≤_, _+_}
+use mathlib.Core.Path.{_≡_, refl, ap, _∙_, ap₂}
+use Prim.Native.Nat.{ℕ, _-_, _≤_, _+_, zero-le}
 use native.Mathlib.Omega.{arith}
 use lib.ListN.{take}
-use mathlib.Core.Path.{ap₂}
-use Prim.Native.Nat.{zero-le}
 use Rattle.lock.specs.rules.Records.{idleWith}
 use Rattle.pages.specs.rules.Pages.{inPhase9, heldCount}
 use Rattle.pages.specs.laws.CountLaws.{held-next}

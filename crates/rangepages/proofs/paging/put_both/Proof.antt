@@ -21,18 +21,28 @@ held-in-requires c κs =
 
 put-rows-requires : tie.Need-put-rows-requires
 put-rows-requires c κs =
-    (full _ (c .before .before .before .before .before .before .pre .0) (c .before .before .before .run-schedule .result) (c .before .before .before .run-schedule .ensures .0) (c .before .before .before .run-schedule .ensures .1 .1), (settled _ (c .before .before .before .before .before .before .pre .0) _ (c .before .before .settings-in .ensures), (readable _ (c .before .before .before .before .before .before .pre .0) (c .before .before .before .run-schedule .result) (c .before .before .before .run-schedule .ensures .0) (c .before .before .before .run-schedule .ensures .1 .0) _ (c .before .before .settings-in .ensures), c .before .before .before .before .before .before .pre .1)))
+    let pre = c .before .before .before .before .before .before .pre in
+    let run = c .before .before .before .run-schedule in
+    let settings = c .before .before .settings-in .ensures in
+    (full _ (pre .0) (run .result) (run .ensures .0) (run .ensures .1 .1), (settled _ (pre .0) _ settings, (readable _ (pre .0) (run .result) (run .ensures .0) (run .ensures .1 .0) _ settings, pre .1)))
 
 put-records-requires : tie.Need-put-records-requires
 put-records-requires c κs =
-    (full _ (c .before .before .before .before .before .before .before .before .before .before .pre .0) (c .before .before .before .before .before .before .before .run-schedule .result) (c .before .before .before .before .before .before .before .run-schedule .ensures .0) (c .before .before .before .before .before .before .before .run-schedule .ensures .1 .1), omega (arith, c .before .before .before .put-rows .ensures .1, c .before .before .before .put-rows .ensures .0 .same, full _ (c .before .before .before .before .before .before .before .before .before .before .pre .0) (c .before .before .before .before .before .before .before .run-schedule .result) (c .before .before .before .before .before .before .before .run-schedule .ensures .0) (c .before .before .before .before .before .before .before .run-schedule .ensures .1 .1) .few, c .before .before .before .before .before .before .before .before .before .before .pre .1))
+    let pre = c .before .before .before .before .before .before .before .before .before .before .pre in
+    let run = c .before .before .before .before .before .before .before .run-schedule in
+    let rows = c .before .before .before .put-rows .ensures in
+    let whole = full _ (pre .0) (run .result) (run .ensures .0) (run .ensures .1 .1) in
+    (whole, omega (arith, rows .1, rows .0 .same, whole .few, pre .1))
 
 same-length : tie.Need-same-length
 same-length c = search needs
 
 returns : tie.Need-returns
 returns c =
-    (pages-whole _ (c .before .before .before .before .before .before .before .before .before .before .before .before .before .pre .0) _ (c .before .before .before .before .before .before .before .before .before .settings-in .ensures) (c .before .before .before .before .before .before .before .before .before .before .run-schedule .result) (c .before .before .before .before .before .before .before .before .before .before .run-schedule .ensures .0) _ (c .before .before .before .before .before .before .before .before .held-in .ensures) _ _ _ _ _ (c .before .before .before .before .before .before .put-rows .ensures .0) (c .before .before .put-records .ensures), omega (arith, c .before .before .put-records .ensures .room, c .before .before .put-records .ensures .same))
+    let run = c .before .before .before .before .before .before .before .before .before .before .run-schedule in
+    let rows = c .before .before .before .before .before .before .put-rows .ensures in
+    let records = c .before .before .put-records .ensures in
+    (pages-whole _ (c .before .before .before .before .before .before .before .before .before .before .before .before .before .pre .0) _ (c .before .before .before .before .before .before .before .before .before .settings-in .ensures) (run .result) (run .ensures .0) _ (c .before .before .before .before .before .before .before .before .held-in .ensures) _ _ _ _ _ (rows .0) records, omega (arith, records .room, records .same))
 
 pub put-both-spec : {M : Type 1} → statement M
 put-both-spec =

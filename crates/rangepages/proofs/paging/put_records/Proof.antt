@@ -1,12 +1,11 @@
 -- `rangepages::paging::put_records` meets its contract. Assumes nothing.
 use borrow.Author.Needs.{needs}
 use mathlib.Core.Path.{_≡_, refl, ap, _∙_}
-use Prim.Native.Nat.{_-_, _≤_, _+_, _*_}
+use Prim.Native.Nat.{_-_, _≤_, _+_, _*_, zero-le}
 use native.Mathlib.Omega.{arith}
 use lib.ListN.{length, take}
 use Rattle.rangepages.specs.rules.Printed.{recordLine}
 use Rattle.schedule.specs.laws.Appended.{restated}
-use Prim.Native.Nat.{zero-le}
 use Rattle.lock.specs.rules.Records.{idleWith}
 use Rattle.schedule.specs.rules.Running.{recordsOf}
 use Rattle.rangepages.specs.laws.Lines.{Lined, lined-none, lined-more, lined-all}

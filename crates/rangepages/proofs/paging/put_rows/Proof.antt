@@ -1,11 +1,10 @@
 -- `rangepages::paging::put_rows` meets its contract. Assumes nothing.
 use borrow.Author.Needs.{needs}
 use mathlib.Core.Path.{_≡_, refl, ap, _∙_}
-use Prim.Native.Nat.{_-_, _≤_, _*_}
+use Prim.Native.Nat.{_-_, _≤_, _*_, zero-le}
 use native.Mathlib.Omega.{arith}
 use lib.ListN.{length, take}
 use Rattle.schedule.specs.laws.Appended.{restated}
-use Prim.Native.Nat.{zero-le}
 use Rattle.lock.specs.declared.Record.{Record}
 use Rattle.lock.specs.rules.Records.{idleWith}
 use Rattle.lock.specs.rules.Unreadable.{unreadable}

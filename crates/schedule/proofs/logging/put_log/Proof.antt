@@ -46,7 +46,16 @@ same-length c = search needs
 
 returns : tie.Need-returns
 returns c =
-    (log-run _ (c .before .before .before .before .before .before .before .before .before .before .before .before .before .pre .0) _ _ (c .before .before .before .before .before .before .before .before .before .before .settings-in .ensures) (ap (λ (r : Run). r .clients) (c .before .before .before .before .before .fresh-run .ensures) ∙ c .before .before .before .before .before .before .before .before .before .clients-in .ensures) _ (begun _ _ _ (c .before .before .before .before .before .before .before .before .before .before .settings-in .ensures) (c .before .before .before .before .before .before .before .before .before .clients-in .ensures) (omega (arith, c .before .before .before .before .before .before .before .before .before .clients-in .ensures, well-formed _ (file-passes _ (c .before .before .before .before .before .before .before .before .before .before .before .before .before .pre .0)) .clients)) _ (c .before .before .before .before .before .fresh-run .ensures) _ (tree-words _ _ (c .before .before .before .before .before .before .before .zero-words .ensures) (c .before .before .before .before .before .before .before .before .word-count .ensures .1) ∙ ap (λ (n : ℕ). replicate n 0) (c .before .before .before .before .before .before .before .before .word-count .ensures .0))) _ (c .before .before .before .put-lines .ensures .0), c .before .before .before .put-lines .ensures .1)
+    let settings = c .before .before .before .before .before .before .before .before .before .before .settings-in .ensures in
+    let clients = c .before .before .before .before .before .before .before .before .before .clients-in .ensures in
+    let fresh = c .before .before .before .before .before .fresh-run .ensures in
+    let count = c .before .before .before .before .before .before .before .before .word-count .ensures in
+    let z = c .before .before .before .before .before .before .before .before .before .before .before .before .before .pre .0 in
+    let few = well-formed _ (file-passes _ z) .clients in
+    let zeros = tree-words _ _ (c .before .before .before .before .before .before .before .zero-words .ensures) (count .1) ∙ ap (λ (n : ℕ). replicate n 0) (count .0) in
+    let first = begun _ _ _ settings clients (omega (arith, clients, few)) _ fresh _ zeros in
+    let put = c .before .before .before .put-lines .ensures in
+    (log-run _ z _ _ settings (ap (λ (r : Run). r .clients) fresh ∙ clients) _ first _ (put .0), put .1)
 
 pub put-log-spec : {M : Type 1} → statement M
 put-log-spec =

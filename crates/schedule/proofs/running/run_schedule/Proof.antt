@@ -43,7 +43,15 @@ make-calls-requires c κs =
 
 returns : tie.Need-returns
 returns c =
-    let made = all-made _ _ _ (c .before .before .before .before .before .before .before .settings-in .ensures) (c .before .before .before .before .before .before .clients-in .ensures) _ _ (begun _ _ _ (c .before .before .before .before .before .before .before .settings-in .ensures) (c .before .before .before .before .before .before .clients-in .ensures) (omega (arith, c .before .before .before .before .before .before .clients-in .ensures, well-formed _ (file-passes _ (c .before .before .before .before .before .before .before .before .before .pre)) .clients)) _ (c .before .before .fresh-run .ensures) _ (tree-words _ _ (c .before .before .before .before .zero-words .ensures) (c .before .before .before .before .before .word-count .ensures .1) ∙ ap (λ (n : ℕ). replicate n 0) (c .before .before .before .before .before .word-count .ensures .0))) (c .before .make-calls .ensures .0) in (ap (λ (st : State). st .records) made, (ap (λ (st : State). st .clock) made, c .before .make-calls .ensures .1 ∙ ap (λ (r : Run). r .clients) (c .before .before .fresh-run .ensures) ∙ c .before .before .before .before .before .before .clients-in .ensures))
+    let settings = c .before .before .before .before .before .before .before .settings-in .ensures in
+    let clients = c .before .before .before .before .before .before .clients-in .ensures in
+    let fresh = c .before .before .fresh-run .ensures in
+    let count = c .before .before .before .before .before .word-count .ensures in
+    let few = well-formed _ (file-passes _ (c .before .before .before .before .before .before .before .before .before .pre)) .clients in
+    let zeros = tree-words _ _ (c .before .before .before .before .zero-words .ensures) (count .1) ∙ ap (λ (n : ℕ). replicate n 0) (count .0) in
+    let first = begun _ _ _ settings clients (omega (arith, clients, few)) _ fresh _ zeros in
+    let made = all-made _ _ _ settings clients _ _ first (c .before .make-calls .ensures .0) in
+    (ap (λ (st : State). st .records) made, (ap (λ (st : State). st .clock) made, c .before .make-calls .ensures .1 ∙ ap (λ (r : Run). r .clients) fresh ∙ clients))
 
 pub run-schedule-spec : {M : Type 1} → statement M
 run-schedule-spec =
