@@ -1,4 +1,4 @@
-# The library nolthewyr and the programs rangelog and schedule.
+# The library nolthewyr and the programs rangelog, rangepages and schedule.
 #
 #     make                                            proves and builds everything into target/
 #     make install PREFIX=/somewhere [DESTDIR=/root]  installs it; PREFIX is /usr/local if not said
@@ -30,14 +30,17 @@ BUILT = target/build
 LIBRARY = $(BUILT)/libnolthewyr.a
 SHARED = $(BUILT)/libnolthewyr.so
 SCHEDULE = $(BUILT)/schedule
-RANGELOG = target/bin/rangelog
+PROGRAMS = target/bin/rangelog target/bin/rangepages
+# The proved parts of the library: each archive has the exported functions of its crate.
+PROVED = target/staticlib/libtable.a target/staticlib/libpages.a
+MANUALS = $(wildcard man/*.1)
 
 # Folders too, whose times tell of files that are gone.
 CRATES := crates.txt $(shell find crates)
 SCHEDULING = tools/scheduling
 PACKED = packaging/__main__.py $(wildcard $(SCHEDULING)/*.py) $(wildcard model/*.py)
 
-all: $(RANGELOG) $(LIBRARY) $(SHARED) $(SCHEDULE)
+all: $(PROGRAMS) $(LIBRARY) $(SHARED) $(SCHEDULE)
 
 # Rattle writes into one target/, so that it is never called twice at once.
 .NOTPARALLEL:
@@ -58,9 +61,8 @@ $(BUILT)/texts.o: library/texts.c include/nolthewyr.h
 	mkdir -p $(BUILT)
 	$(CC) $(CHECKED) $(CFLAGS) -fPIC -I include -c $< -o $@
 
-$(LIBRARY): target/staticlib/libtable.a $(BUILT)/texts.o
-	cp $< $@
-	$(AR) rs $@ $(BUILT)/texts.o
+$(LIBRARY): $(PROVED) $(BUILT)/texts.o
+	printf '%s\n' 'create $@' $(PROVED:%='addlib %') 'addmod $(BUILT)/texts.o' save end | $(AR) -M
 
 $(SHARED): $(LIBRARY)
 	$(CC) $(LDFLAGS) -shared -Wl,-soname,libnolthewyr.so.$(SERIES),--no-undefined -o $@ -Wl,--whole-archive $< -Wl,--no-whole-archive
@@ -75,7 +77,7 @@ $(SCHEDULE): $(PACKED)
 
 install: all
 	install -d $(addprefix $(DESTDIR),$(BINDIR) $(LIBDIR) $(INCLUDEDIR) $(PKGCONFIGDIR) $(DATADIR) $(MANDIR))
-	install -m 755 $(RANGELOG) $(SCHEDULE) $(DESTDIR)$(BINDIR)
+	install -m 755 $(PROGRAMS) $(SCHEDULE) $(DESTDIR)$(BINDIR)
 	install -m 644 $(LIBRARY) $(DESTDIR)$(LIBDIR)
 	install -m 755 $(SHARED) $(DESTDIR)$(LIBDIR)/libnolthewyr.so.$(VERSION)
 	ln -sf libnolthewyr.so.$(VERSION) $(DESTDIR)$(LIBDIR)/libnolthewyr.so.$(SERIES)
@@ -84,13 +86,13 @@ install: all
 	sed -e 's|@PREFIX@|$(PREFIX)|; s|@LIBDIR@|$(LIBDIR)|; s|@INCLUDEDIR@|$(INCLUDEDIR)|; s|@DATADIR@|$(DATADIR)|; s|@VERSION@|$(VERSION)|' \
 	    packaging/nolthewyr.pc.in > $(DESTDIR)$(PKGCONFIGDIR)/nolthewyr.pc
 	install -m 644 include/nolthewyr.rs python/nolthewyr.py $(DESTDIR)$(DATADIR)
-	install -m 644 man/rangelog.1 man/schedule.1 $(DESTDIR)$(MANDIR)
+	install -m 644 $(MANUALS) $(DESTDIR)$(MANDIR)
 
 uninstall:
-	rm -f $(addprefix $(DESTDIR)$(BINDIR)/,rangelog schedule)
+	rm -f $(addprefix $(DESTDIR)$(BINDIR)/,$(notdir $(PROGRAMS) $(SCHEDULE)))
 	rm -f $(addprefix $(DESTDIR)$(LIBDIR)/libnolthewyr.,a so so.$(SERIES) so.$(VERSION))
 	rm -f $(DESTDIR)$(INCLUDEDIR)/nolthewyr.h $(DESTDIR)$(PKGCONFIGDIR)/nolthewyr.pc
-	rm -f $(addprefix $(DESTDIR)$(MANDIR)/,rangelog.1 schedule.1)
+	rm -f $(addprefix $(DESTDIR)$(MANDIR)/,$(notdir $(MANUALS)))
 	rm -f $(addprefix $(DESTDIR)$(DATADIR)/nolthewyr.,rs py)
 	rm -rf $(DESTDIR)$(DATADIR)/__pycache__
 	rmdir $(DESTDIR)$(DATADIR) || true

@@ -66,11 +66,30 @@ static void release(uint64_t client)
     step_until_idle(client);
 }
 
+/* How many clients hold their windows: all that a client may know of the others. */
+static uint64_t holding(uint64_t client)
+{
+    nolthewyr_run_page_answer page = nolthewyr_run_page(records, CLIENTS, settings, client, last);
+    accepted(page.number);
+    return page.held;
+}
+
+/* What planners see of every client that is not idle: its phase and window, and how many units are locked beyond the window. */
+static void show_planners(void)
+{
+    nolthewyr_row rows[CLIENTS];
+    accepted(nolthewyr_planners_page(records, CLIENTS, rows, CLIENTS, settings, last));
+    for (int client = 0; client < CLIENTS; client++)
+        if (rows[client].phase != NOLTHEWYR_PHASE_IDLE)
+            printf("planners see client %d: %s, [%" PRIu64 ", %" PRIu64 ") and %" PRIu64 " units beyond\n", client,
+                   nolthewyr_phase_text(rows[client].phase), rows[client].left, rows[client].right, rows[client].over);
+}
+
 /* A client that runs by itself sleeps here. In this program client 0 ends its work meanwhile. */
 static void let_pass(uint64_t client, uint64_t pause)
 {
     now += pause;
-    printf("client %" PRIu64 " has paused until %" PRIu64 "\n", client, now);
+    printf("client %" PRIu64 " has paused until %" PRIu64 "; clients that hold: %" PRIu64 "\n", client, now, holding(client));
     if (records[0].phase == NOLTHEWYR_PHASE_HELD && now >= WORK)
         release(0);
 }
@@ -104,6 +123,7 @@ int main(int argc, char **argv)
     accepted(nolthewyr_open(records, CLIENTS, words, count, settings));
     take(0, 10, 20);
     take(1, 15, 30);
+    show_planners();
     release(1);
     free(words);
     return EXIT_SUCCESS;

@@ -3,7 +3,7 @@ take.py [LEVELS]: the tree has 3 levels, or as many as are said."""
 
 import sys
 
-from nolthewyr import Phase, Refused, Settings, Table, outcome_text
+from nolthewyr import Phase, Refused, Settings, Table, outcome_text, phase_text
 
 # Longer than a claim takes: from its first climb to its last notice at most 23 steps.
 WAIT = 30
@@ -46,10 +46,17 @@ class Clients:
         self.table.release(client)
         self.step_until_idle(client)
 
+    def show_planners(self):
+        """What planners see of every client that is not idle: its phase and window, and how many units are locked beyond the window."""
+        for client, row in enumerate(self.table.planners_page()):
+            if row.phase != Phase.IDLE:
+                print(f"planners see client {client}: {phase_text(row.phase)}, [{row.left}, {row.right}) and {row.over} units beyond")
+
     def let_pass(self, client, pause):
-        """A client that runs by itself sleeps here. In this program client 0 ends its work meanwhile."""
+        """A client that runs by itself sleeps here. In this program client 0 ends its work meanwhile. How many clients hold their windows
+        is all that a client may know of the others."""
         self.now += pause
-        print(f"client {client} has paused until {self.now}")
+        print(f"client {client} has paused until {self.now}; clients that hold: {self.table.run_page(client).held}")
         if self.table.record(0).phase == Phase.HELD and self.now >= WORK:
             self.release(0)
 
@@ -74,6 +81,7 @@ def run(table):
     clients = Clients(table)
     clients.take(0, 10, 20)
     clients.take(1, 15, 30)
+    clients.show_planners()
     clients.release(1)
 
 

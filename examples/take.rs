@@ -62,10 +62,19 @@ impl Clients {
         self.step_until_idle(client)
     }
 
-    /// A client that runs by itself sleeps here. In this program client 0 ends its work meanwhile.
+    /// What planners see of every client that is not idle: its phase and window, and how many units are locked beyond the window.
+    fn show_planners(&self) -> Result<(), Cause> {
+        for (client, row) in self.table.planners_page()?.iter().enumerate().filter(|(_, row)| row.phase != Phase::IDLE) {
+            println!("planners see client {client}: {}, [{}, {}) and {} units beyond", row.phase, row.left, row.right, row.over);
+        }
+        Ok(())
+    }
+
+    /// A client that runs by itself sleeps here. In this program client 0 ends its work meanwhile. How many clients hold their windows is
+    /// all that a client may know of the others.
     fn let_pass(&mut self, client: usize, pause: u64) -> Result<(), Cause> {
         self.now += pause;
-        println!("client {client} has paused until {}", self.now);
+        println!("client {client} has paused until {}; clients that hold: {}", self.now, self.table.run_page(client)?.held);
         if self.record(0).phase == Phase::HELD && self.now >= WORK {
             self.release(0)?;
         }
@@ -98,6 +107,7 @@ fn run(levels: u64) -> Result<(), Cause> {
     let mut clients = Clients { table, now: 0, state: 88172645463325252 };
     clients.take(0, 10, 20)?;
     clients.take(1, 15, 30)?;
+    clients.show_planners()?;
     clients.release(1)
 }
 

@@ -2,7 +2,7 @@
  *
  * The library allocates nothing: the caller lends records and words. The proof of the calls assumes what Rust's references give, and
  * from C it is the caller's duty:
- * - each length is true: `records` has `clients` elements and `words` has `count`, both at aligned addresses;
+ * - each length is true: `records` has `clients` elements, and `words` or `rows` has `count`, at aligned addresses;
  * - the two arrays do not overlap;
  * - while a call runs nobody else reads or writes them, and between the calls of one table nobody else writes them.
  * All else is tested: a call with any other numbers in its arguments or in the arrays is accepted or refused by a number. */
@@ -17,8 +17,9 @@
 extern "C" {
 #endif
 
-/* The version of this header. Records grow between versions: a program goes with a library whose first two numbers are the same. */
-#define NOLTHEWYR_VERSION "0.1.0"
+/* The version of this header. Records grow between versions: a program goes with a library whose first two numbers are the same, and
+ * whose third is not lower, since the third grows with new functions. */
+#define NOLTHEWYR_VERSION "0.1.1"
 
 /* Where a client is. It holds its window exactly while its phase is 9. */
 enum nolthewyr_phase {
@@ -106,6 +107,24 @@ typedef struct nolthewyr_cover_answer {
     uint64_t over;
 } nolthewyr_cover_answer;
 
+/* What planners see of a client: its phase, its window [left, right), the nodes of it (second 0 for none), and how many units these have
+ * beyond it; all 0 for an idle client. */
+typedef struct nolthewyr_row {
+    uint64_t phase;
+    uint64_t left;
+    uint64_t right;
+    uint64_t first;
+    uint64_t second;
+    uint64_t over;
+} nolthewyr_row;
+
+/* What a forecast run sees: the number, its own record, and how many clients are in phase 9; the last two all 0 in a refused answer. */
+typedef struct nolthewyr_run_page_answer {
+    uint64_t number;
+    nolthewyr_record own;
+    uint64_t held;
+} nolthewyr_run_page_answer;
+
 /* How many words a tree of so many levels has, (4^levels - 1) / 3; 0 for levels that no tree has. */
 uint64_t nolthewyr_word_count(uint64_t levels);
 
@@ -128,10 +147,20 @@ nolthewyr_answer nolthewyr_release(nolthewyr_record *records, size_t clients, ui
 nolthewyr_answer nolthewyr_cancel(nolthewyr_record *records, size_t clients, uint64_t *words, size_t count,
                                   nolthewyr_settings settings, nolthewyr_call call);
 
+/* The planners' page: fills a row for each client. `last` is the clock that the last call answered. Tests the settings (1), that there is
+ * one row a client (2), the count of clients (3), and that every record is readable (6); a refused page leaves all rows as they were. */
+uint64_t nolthewyr_planners_page(const nolthewyr_record *records, size_t clients, nolthewyr_row *rows, size_t count,
+                                 nolthewyr_settings settings, uint64_t last);
+
+/* A forecast run's page: what it may see of the table, its own record and how many clients hold their windows. Tests the settings (1), the
+ * count of clients (3), the client (4), and that its own record is readable (6). */
+nolthewyr_run_page_answer nolthewyr_run_page(const nolthewyr_record *records, size_t clients, nolthewyr_settings settings,
+                                             uint64_t client, uint64_t last);
+
 /* The nodes that a request for [left, right) would take. Tests the levels, then the window. */
 nolthewyr_cover_answer nolthewyr_cover(uint64_t levels, uint64_t left, uint64_t right);
 
-/* A number in plain words. Each has a text, an unknown one too. Causes 10 and 11 are those of the program rangelog. */
+/* A number in plain words. Each has a text, an unknown one too. Causes 10 and 11 are those of the programs rangelog and rangepages. */
 const char *nolthewyr_phase_text(uint64_t number);
 const char *nolthewyr_outcome_text(uint64_t number);
 const char *nolthewyr_cause_text(uint64_t number);

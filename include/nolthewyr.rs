@@ -86,6 +86,25 @@ pub struct CoverAnswer {
     pub over: u64,
 }
 
+#[repr(C)]
+#[derive(Clone, Copy, Debug, Default, PartialEq)]
+pub struct Row {
+    pub phase: Phase,
+    pub left: u64,
+    pub right: u64,
+    pub first: u64,
+    pub second: u64,
+    pub over: u64,
+}
+
+#[repr(C)]
+#[derive(Clone, Copy, Debug, PartialEq)]
+pub struct RunPageAnswer {
+    pub number: u64,
+    pub own: Record,
+    pub held: u64,
+}
+
 /// More clients than a table has.
 const TOO_MANY_CLIENTS: usize = 32_768;
 
@@ -132,6 +151,19 @@ impl Table {
         self.make(cancel, client, 0, 0)
     }
 
+    /// The planners' page: a row for each client.
+    pub fn planners_page(&self) -> Result<Vec<Row>, Cause> {
+        let mut rows = vec![Row::default(); self.records.len()];
+        accepted(planners_page(&self.records, &mut rows, self.settings, self.clock))?;
+        Ok(rows)
+    }
+
+    /// The page of a client that is a forecast run: what it may see of the table.
+    pub fn run_page(&self, client: usize) -> Result<RunPageAnswer, Cause> {
+        let page = run_page(&self.records, self.settings, client as u64, self.clock);
+        accepted(page.number).map(|()| page)
+    }
+
     /// The client's record, if there is such a client.
     pub fn record(&self, client: usize) -> Option<&Record> {
         self.records.get(client)
@@ -152,10 +184,7 @@ impl Table {
 }
 
 fn accepted(number: u64) -> Result<(), Cause> {
-    match Cause(number) {
-        Cause::ACCEPTED => Ok(()),
-        cause => Err(cause),
-    }
+    (number == Cause::ACCEPTED.0).then_some(()).ok_or(Cause(number))
 }
 
 /// The nodes that a request for [left, right) would take.
@@ -165,9 +194,7 @@ pub fn cover(levels: u64, left: u64, right: u64) -> Result<CoverAnswer, Cause> {
 }
 
 /// How many words a tree of so many levels has; 0 for levels that no tree has.
-pub fn word_count(levels: u64) -> u64 {
-    nolthewyr_word_count(levels)
-}
+pub use self::nolthewyr_word_count as word_count;
 
 /// The version of the library.
 pub fn version() -> &'static str {
@@ -179,27 +206,28 @@ fn library_text(text: *const c_char) -> &'static str {
     unsafe { CStr::from_ptr(text) }.to_str().unwrap_or_default()
 }
 
-// The slices of these functions give what the proof assumes: lengths that are true, records and words that do not overlap, and nobody
-// else who reads or writes them meanwhile.
+// The slices of these functions give what the proof assumes: lengths that are true, records that overlap neither words nor rows, and
+// nobody else who reads or writes them meanwhile.
 
 pub fn open(records: &mut [Record], words: &mut [u64], settings: Settings) -> u64 {
     unsafe { nolthewyr_open(records.as_mut_ptr(), records.len(), words.as_mut_ptr(), words.len(), settings) }
 }
 
-pub fn request(records: &mut [Record], words: &mut [u64], settings: Settings, call: Call) -> Answer {
-    unsafe { nolthewyr_request(records.as_mut_ptr(), records.len(), words.as_mut_ptr(), words.len(), settings, call) }
+macro_rules! on_table {
+    ($($name:ident by $linked:ident),+) => {$(
+        pub fn $name(records: &mut [Record], words: &mut [u64], settings: Settings, call: Call) -> Answer {
+            unsafe { $linked(records.as_mut_ptr(), records.len(), words.as_mut_ptr(), words.len(), settings, call) }
+        }
+    )+};
+}
+on_table!(request by nolthewyr_request, step by nolthewyr_step, release by nolthewyr_release, cancel by nolthewyr_cancel);
+
+pub fn planners_page(records: &[Record], rows: &mut [Row], settings: Settings, last: u64) -> u64 {
+    unsafe { nolthewyr_planners_page(records.as_ptr(), records.len(), rows.as_mut_ptr(), rows.len(), settings, last) }
 }
 
-pub fn step(records: &mut [Record], words: &mut [u64], settings: Settings, call: Call) -> Answer {
-    unsafe { nolthewyr_step(records.as_mut_ptr(), records.len(), words.as_mut_ptr(), words.len(), settings, call) }
-}
-
-pub fn release(records: &mut [Record], words: &mut [u64], settings: Settings, call: Call) -> Answer {
-    unsafe { nolthewyr_release(records.as_mut_ptr(), records.len(), words.as_mut_ptr(), words.len(), settings, call) }
-}
-
-pub fn cancel(records: &mut [Record], words: &mut [u64], settings: Settings, call: Call) -> Answer {
-    unsafe { nolthewyr_cancel(records.as_mut_ptr(), records.len(), words.as_mut_ptr(), words.len(), settings, call) }
+pub fn run_page(records: &[Record], settings: Settings, client: u64, last: u64) -> RunPageAnswer {
+    unsafe { nolthewyr_run_page(records.as_ptr(), records.len(), settings, client, last) }
 }
 
 // Those that take no lent memory may be called with any numbers.
@@ -210,6 +238,8 @@ unsafe extern "C" {
     pub fn nolthewyr_step(records: *mut Record, clients: usize, words: *mut u64, count: usize, settings: Settings, call: Call) -> Answer;
     pub fn nolthewyr_release(records: *mut Record, clients: usize, words: *mut u64, count: usize, settings: Settings, call: Call) -> Answer;
     pub fn nolthewyr_cancel(records: *mut Record, clients: usize, words: *mut u64, count: usize, settings: Settings, call: Call) -> Answer;
+    pub fn nolthewyr_planners_page(records: *const Record, clients: usize, rows: *mut Row, count: usize, settings: Settings, last: u64) -> u64;
+    pub fn nolthewyr_run_page(records: *const Record, clients: usize, settings: Settings, client: u64, last: u64) -> RunPageAnswer;
     pub safe fn nolthewyr_cover(levels: u64, left: u64, right: u64) -> CoverAnswer;
     pub safe fn nolthewyr_word_count(levels: u64) -> u64;
     pub safe fn nolthewyr_phase_text(number: u64) -> *const c_char;

@@ -25,11 +25,11 @@ static const char *const outcomes[] = {
     [NOLTHEWYR_OUTCOME_CANCELLED] = "cancelled",
 };
 
-/* 10 and 11 have no name: only rangelog gives them. */
+/* 10 and 11 have no name: only rangelog and rangepages give them. */
 static const char *const causes[] = {
     [NOLTHEWYR_CAUSE_ACCEPTED] = "accepted",
     [NOLTHEWYR_CAUSE_SETTINGS] = "levels not 2 to 12, distance not 1 to 4, or wait not 1 to 4294967295",
-    [NOLTHEWYR_CAUSE_WORD_COUNT] = "word count not the tree's, (4^levels - 1) / 3",
+    [NOLTHEWYR_CAUSE_WORD_COUNT] = "word count not the tree's, (4^levels - 1) / 3, or rows other than one a client",
     [NOLTHEWYR_CAUSE_CLIENT_COUNT] = "no clients, or over 32767",
     [NOLTHEWYR_CAUSE_CLIENT] = "client not below the table's count",
     [NOLTHEWYR_CAUSE_CLOCK] = "step clock below the last clock",
@@ -38,7 +38,7 @@ static const char *const causes[] = {
     [NOLTHEWYR_CAUSE_PHASE] = "request when not idle, release when not held, or cancel when idle, held or returning",
     [NOLTHEWYR_CAUSE_CLEAR_BIT] = "returning leaf finds a wanted bit clear",
     "not a schedule",
-    "over 6 levels or over 64 clients, the limits of rangelog",
+    "over 6 levels or over 64 clients, the limits of rangelog and rangepages",
 };
 
 static const char *text(const char *const *texts, size_t count, uint64_t number, const char *unknown)

@@ -22,9 +22,14 @@ class Answer(NamedTuple):
     record: Record
 
 
+def settings_outside(settings):
+    """H, m or T outside its range."""
+    return settings.levels not in tree.LEVELS or settings.distance not in tree.DISTANCES or settings.wait not in WAITS
+
+
 def settings_or_words_refused(settings, words):
     """1: H, m or T outside its range. 2: word count not the tree's. Otherwise 0."""
-    if settings.levels not in tree.LEVELS or settings.distance not in tree.DISTANCES or settings.wait not in WAITS:
+    if settings_outside(settings):
         return 1
     return 0 if len(words) == tree.node_count(settings.levels) else 2
 

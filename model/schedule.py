@@ -146,24 +146,29 @@ def line(place, made, record):
     return f"{place} {kind} {client} {made.number} {record.phase} {record.left} {record.right}\n"
 
 
-def lines(schedule, words, records):
+def lines(schedule, opened):
     """The header line, and a line for each call of the history that starts from an opening."""
-    opened = Opened(schedule.settings, words, records)
     yield header_line(schedule)
     for place, call in enumerate(schedule.calls):
         made = opened.make(call)
-        yield line(place, made, record_after(made, records))
+        yield line(place, made, record_after(made, opened.records))
 
 
-def log(data):
-    """The log of a file. A refused opening prints its number likewise."""
+def printed(data, lines_of):
+    """What a program prints that reads a schedule: the lines that it makes of the schedule and its opened table, or `refused` and the
+    number alone. A refused opening prints its number likewise."""
     schedule = decode(data)
     if isinstance(schedule, int):
         return refused(schedule)
     words, records = [0] * tree.node_count(schedule.settings.levels), [IDLE] * schedule.clients
     if number := table.opening(schedule.settings, words, records, 0).number:
         return refused(number)
-    return "".join(lines(schedule, words, records))
+    return "".join(lines_of(schedule, Opened(schedule.settings, words, records)))
+
+
+def log(data):
+    """The log of a file."""
+    return printed(data, lines)
 
 
 if __name__ == "__main__":

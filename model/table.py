@@ -17,11 +17,16 @@ class Answer(NamedTuple):
     clock: int
 
 
+def clients_outside(records):
+    """No clients, or over 32,767."""
+    return not 1 <= len(records) <= MOST_CLIENTS
+
+
 def lent_refused(settings, words, records):
     """1, 2, and 3: no clients, or over 32,767."""
     if number := settings_or_words_refused(settings, words):
         return number
-    return 0 if 1 <= len(records) <= MOST_CLIENTS else 3
+    return 3 if clients_outside(records) else 0
 
 
 def opening(settings, words, records, last):

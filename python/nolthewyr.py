@@ -4,6 +4,8 @@
     table.request(0, 10, 20)            # client, left edge, right edge
     table.step(0, clock)                # again and again, until it gives Phase.HELD
     table.release(0)                    # and steps until it is Phase.IDLE
+    table.planners_page()               # a row for each client: phase, window, nodes and over-cover
+    table.run_page(0)                   # what client 0 may see: its own record, and how many clients hold
 
 A refused call raises `Refused`. examples/take.py has the whole of it, with what to do if the window cannot be had.
 
@@ -83,10 +85,25 @@ class CoverAnswer(Numbers):
     _fields_ = numbers("number first second over")
 
 
+class Row(Numbers):
+    """What planners see of a client: its phase, its window [left, right), the nodes of it (second 0 for none) and how many units these have
+    beyond it; all 0 for an idle client."""
+
+    _fields_ = numbers("phase left right first second over")
+
+
+class RunPageAnswer(Structure):
+    """What a forecast run sees: its own record, and how many clients hold their windows."""
+
+    _fields_ = [("number", c_uint64), ("own", Record), ("held", c_uint64)]
+
+
 LENT = POINTER(Record), c_size_t, POINTER(c_uint64), c_size_t, Settings
 FUNCTIONS = {
     "open": (LENT, c_uint64),
     **{name: ((*LENT, Call), Answer) for name in ("request", "step", "release", "cancel")},
+    "planners_page": ((POINTER(Record), c_size_t, POINTER(Row), c_size_t, Settings, c_uint64), c_uint64),
+    "run_page": ((POINTER(Record), c_size_t, Settings, c_uint64, c_uint64), RunPageAnswer),
     "cover": ((c_uint64, c_uint64, c_uint64), CoverAnswer),
     "word_count": ((c_uint64,), c_uint64),
     **{f"{name}_text": ((c_uint64,), c_char_p) for name in ("phase", "outcome", "cause")},
@@ -161,6 +178,20 @@ class Table:
     def cancel(self, client):
         """Gives up a window that is not yet held. What the client has of it, it gives back by steps until it is idle."""
         return self._make(library().nolthewyr_cancel, client)
+
+    def planners_page(self):
+        """The planners' page: a row for each client."""
+        rows = (Row * len(self._records))()
+        with self._lock:
+            number = library().nolthewyr_planners_page(self._records, len(self._records), rows, len(rows), self._settings, self._clock)
+        accepted(Answer(number, 0))
+        return list(rows)
+
+    def run_page(self, client):
+        """The page of a client that is a forecast run: what it may see of the table."""
+        with self._lock:
+            page = library().nolthewyr_run_page(self._records, len(self._records), self._settings, fitting(client), self._clock)
+        return accepted(page)
 
     def record(self, client):
         """A copy of the client's record, or None if there is no such client."""

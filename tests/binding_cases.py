@@ -1,5 +1,6 @@
 """Cases for the tables that own their memory, in Python and in Rust: openings that must be refused whatever their numbers, random
-histories held to the model call by call, covers and word counts, and what the Python file does with numbers that do not fit."""
+histories held to the model call by call and page by page, covers and word counts, and what the Python file does with numbers that do not
+fit."""
 
 import subprocess
 from functools import lru_cache
@@ -11,12 +12,12 @@ from compiled_table import library, nolthewyr
 from histories import TOP, Driver
 from library import ROOT, SECONDS, command, made
 from linking_cases import ENUMERATIONS, RUST, UNKNOWN
-from model import cover, tree
+from model import cover, pages, tree
 from model.history import Opened
 from model.record import IDLE, Settings
 
 NAMES["opening of a table"] = ("language", "levels", "distance", "wait", "clients"), ("number",)
-NAMES["call on a table"] = ("language", "history", "call"), ("number", "clock", "fields unlike")
+NAMES["call on a table"] = ("language", "history", "call"), ("number", "clock, or of a page the run's number", "fields unlike")
 NAMES["asked of the levels"] = ("language", "levels", "left", "right"), ("number", "first", "second", "over-cover")
 NAMES["word count"] = ("language", "levels"), ("words",)
 NAMES["text in Rust"] = ("enumeration", "number"), ("that of the library",)
@@ -25,6 +26,8 @@ NAMES["table in Python"] = ("claim",), ("holds",)
 
 BUILT = ROOT / "target" / "tests"
 EDITIONS = "2021", "2024"
+# After which share of the calls the pages are looked at.
+PAGES = 0.1
 
 # Levels, distance, wait and clients, and the number: the first cause in the order of testing.
 OPENINGS = {
@@ -82,8 +85,18 @@ def openings():
         yield case("opening of a table", [1, *asked], expected), by_rust
 
 
+def pages_by_model(lock, client):
+    """The numbers of both pages, the count and the client's record if its page is accepted, and all rows."""
+    rows = [pages.Row()] * len(lock.records)
+    number = pages.planners_page(lock.settings, lock.records, rows, lock.clock)
+    page = pages.run_page(lock.settings, lock.records, client, lock.clock)
+    own = () if page.number else (page.held, *page.own)
+    return number, page.number, *own, *(field for row in rows for field in row)
+
+
 class History:
-    """A random history made by the model: its settings and clients, its calls, and the number, clock and record after each."""
+    """A random history made by the model: its settings and clients, its calls, and the number, clock and record after each; and now and
+    then the pages."""
 
     def __init__(self, seed):
         rng = Random(f"binding {seed}")
@@ -99,14 +112,27 @@ class History:
             number = lock.make(call).number
             record = lock.records[call.client] if call.client < self.clients else ()
             self.answers.append((number, lock.clock, *record))
+            if rng.random() < PAGES:
+                self.calls.append(("pages", call.client))
+                self.answers.append(pages_by_model(lock, call.client))
+
+
+def python_pages(table, client):
+    """Both pages of a table in Python."""
+    numbers = refused(table.planners_page), refused(table.run_page, client)
+    page = None if numbers[1] else table.run_page(client)
+    return *numbers, *((page.held, *page.own) if page else ()), *(field for row in table.planners_page() for field in row)
 
 
 def python_answers(history):
-    """What a table in Python gives for every call: the number, the clock, and the client's record if there is one."""
+    """What a table in Python gives for every call: the number, the clock, and the client's record if there is one; or the pages."""
     table = nolthewyr.Table(nolthewyr.Settings(*history.settings), history.clients)
     for name, client, *others in history.calls:
-        number = refused(getattr(table, name), client, *others)
-        yield number, table.clock, *(table.record(client) or ())
+        if name == "pages":
+            yield python_pages(table, client)
+        else:
+            number = refused(getattr(table, name), client, *others)
+            yield number, table.clock, *(table.record(client) or ())
 
 
 def rust_answers(history, edition):
@@ -121,7 +147,7 @@ def compared(place, seed, history, answers):
 
 
 def calls_of_histories():
-    """Ten random histories in Python and in both editions of Rust: each call gives what the model gives."""
+    """Ten random histories in Python and in both editions of Rust: each call and each page gives what the model gives."""
     library()
     for seed in range(10):
         history = History(seed)
@@ -176,6 +202,7 @@ def numbers_that_do_not_fit():
         calls = [
             lambda: table.request(outside, 10, 20), lambda: table.request(0, outside, 20), lambda: table.request(0, 10, outside),
             lambda: table.step(outside, 1), lambda: table.step(0, outside), lambda: table.release(outside), lambda: table.cancel(outside),
+            lambda: table.run_page(outside),
             lambda: nolthewyr.cover(outside, 10, 20), lambda: nolthewyr.cover(2, outside, 20), lambda: nolthewyr.word_count(outside),
             lambda: nolthewyr.Settings(2, outside, 5), lambda: nolthewyr.Settings(levels=outside), lambda: nolthewyr.cause_text(outside),
             lambda: nolthewyr.Table(nolthewyr.Settings(2, 1, 5), outside),
@@ -186,13 +213,14 @@ def numbers_that_do_not_fit():
 
 
 def owned_memory():
-    """What a caller does to the settings it opened with, or to a record it was given, does not reach the table, and a call waits until
-    another thread's is made."""
+    """What a caller does to the settings it opened with, or to a record or a page it was given, does not reach the table, and a call waits
+    until another thread's is made."""
     library()
     settings = nolthewyr.Settings(2, 1, 5)
     table = nolthewyr.Table(settings, 1)
     table.request(0, 10, 20)
     settings.levels, table.record(0).phase = 3, 9
+    table.run_page(0).own.phase = table.planners_page()[0].phase = 9
     stepping = Thread(target=table.step, args=(0, 1))
     with table._lock:
         stepping.start()
@@ -206,7 +234,7 @@ def owned_memory():
 
 SUITES = {
     "bindings, an opening is refused by its number on little memory": openings,
-    "bindings, calls of random histories in Python and in Rust": calls_of_histories,
+    "bindings, calls and pages of random histories in Python and in Rust": calls_of_histories,
     "bindings, covers and word counts": asked_of_levels,
     "bindings, texts in Rust are the library's": texts_in_rust,
     "bindings, a number of over 64 bits is refused in Python": numbers_that_do_not_fit,

@@ -1,18 +1,19 @@
-"""Programs broken on purpose: the model with one sentence of "The schedule program" read wrongly, or one rule of the lock
-broken. The files must find each of them out."""
+"""Programs broken on purpose: the model with one sentence of "The schedule program" or of request 2.1 read wrongly, or one rule of the
+lock broken. The files must find each of them out."""
 
 from contextlib import contextmanager
 from struct import Struct
 from unittest.mock import patch
 
+import broken_pages
 import broken_rules
 from model import schedule
 from model.history import KINDS, Call
 from model.record import IDLE, Settings
 from model.schedule import CALL, HEADER, Schedule, header_of
 
-entries_of, line, log, record_after, zero_fields = (
-    schedule.entries_of, schedule.line, schedule.log, schedule.record_after, schedule.zero_fields)
+entries_of, line, printed, record_after, zero_fields = (
+    schedule.entries_of, schedule.line, schedule.printed, schedule.record_after, schedule.zero_fields)
 
 
 def eleven_before_ten(data):
@@ -36,10 +37,10 @@ def opening_before_eleven(data):
     return number or (11 if schedule.refused_by_11(header) else well_read(data, header))
 
 
-def three_before_one(data):
+def three_before_one(data, lines_of):
     """No clients tested before H, m and T."""
     read = schedule.decode(data)
-    return schedule.refused(3) if isinstance(read, Schedule) and read.clients == 0 else log(data)
+    return schedule.refused(3) if isinstance(read, Schedule) and read.clients == 0 else printed(data, lines_of)
 
 
 def calls_wrapped(bits):
@@ -94,14 +95,14 @@ def last_client_if_refused_by_4(made, records):
     return records[-1] if made.number == 4 else record_after(made, records)
 
 
-def last_line_without_end(data):
-    return log(data).rstrip("\n")
+def last_line_without_end(data, lines_of):
+    return printed(data, lines_of).rstrip("\n")
 
 
-def header_line_before_refusal(data):
+def header_line_before_refusal(data, lines_of):
     """The header line also where the opening is refused."""
-    read = schedule.decode(data)
-    return (schedule.header_line(read) if isinstance(read, Schedule) and log(data).startswith("refused") else "") + log(data)
+    read, text = schedule.decode(data), printed(data, lines_of)
+    return (schedule.header_line(read) if isinstance(read, Schedule) and text.startswith("refused") else "") + text
 
 
 def in_place(name, value):
@@ -116,10 +117,10 @@ def wrapped_sum(bits):
             yield
 
 
-PROGRAMS = {
+READING = {
     "11 tested before 10": in_place("decode", eleven_before_ten),
     "a refused opening before 11": in_place("decode", opening_before_eleven),
-    "no clients tested before H, m and T": in_place("log", three_before_one),
+    "no clients tested before H, m and T": in_place("printed", three_before_one),
     "65,535 bytes at most": in_place("LONGEST", 65535),
     "65,537 bytes at most": in_place("LONGEST", 65537),
     "an offset of 15 taken": in_place("offset_below_16", lambda header: header.offset < 15),
@@ -140,25 +141,32 @@ PROGRAMS = {
     "65 clients taken": in_place("MOST_CLIENTS", 65),
     "a big-endian header": in_place("HEADER", Struct(">HHIHHI")),
     "big-endian calls": in_place("CALL", Struct(">BBHIQQ")),
+    "the last line without its end": in_place("printed", last_line_without_end),
+    "the header line before a refused opening": in_place("printed", header_line_before_refusal),
+}
+
+LOGS = {
     "edges exchanged": in_place("line", edges_exchanged),
     "calls numbered from 1": in_place("line", lambda place, made, record: line(place + 1, made, record)),
     "zeros after every refused call": in_place("record_after", zeros_if_refused),
     "a record shown where 4 refuses": in_place("record_after", last_client_if_refused_by_4),
-    "the last line without its end": in_place("log", last_line_without_end),
-    "the header line before a refused opening": in_place("log", header_line_before_refusal),
     "the header line without the clients": in_place("header_line", lambda s: "tree {} m {} wait {}\n".format(*s.settings)),
 }
 
 
 @contextmanager
 def broken(name):
-    """The model's log is that of the broken program while this lasts."""
-    if name in PROGRAMS:
-        with PROGRAMS[name]():
-            yield
-    else:
+    """The model prints what the broken program does while this lasts."""
+    if name in broken_rules.RULES:
         with broken_rules.broken(name):
             yield
+    else:
+        with {**READING, **LOGS, **broken_pages.RULES, **broken_pages.PRINTED}[name]():
+            yield
 
 
-NAMES_OF_BROKEN = [*PROGRAMS, *broken_rules.RULES]
+# The broken programs that each program's files must find out.
+BROKEN = {
+    "rangelog": [*READING, *LOGS, *broken_rules.RULES],
+    "rangepages": [*READING, *broken_pages.PRINTED, *broken_pages.IN_HISTORIES, *broken_rules.RULES],
+}

@@ -8,6 +8,8 @@ from functools import lru_cache
 
 from library import ROOT, made
 from model.history import KINDS, Made
+from model.pages import Row, RunPage
+from model.record import Record
 from model.table import Answer
 
 sys.path.insert(0, str(ROOT / "python"))
@@ -46,6 +48,18 @@ class Table:
         made = Made(call, number, phase)
         self.history.append(made)
         return made
+
+    def planners_page(self, rows, count, last):
+        """Lends these rows, of which the page is told the first `count`: its number, and all of them after it."""
+        lent = (nolthewyr.Row * len(rows))(*(tuple(row) for row in rows))
+        records, clients, _, _, settings = self.lent
+        number = library().nolthewyr_planners_page(records, clients, lent, count, settings, last)
+        return number, [Row(*row) for row in lent]
+
+    def run_page(self, client, last):
+        records, clients, _, _, settings = self.lent
+        page = library().nolthewyr_run_page(records, clients, settings, client, last)
+        return RunPage(page.number, Record(*page.own), page.held)
 
     def unlike(self, words, records):
         """How many records and how many words are not these."""

@@ -5,13 +5,13 @@ import subprocess
 from pathlib import Path
 from tempfile import TemporaryDirectory
 
-import rangelog
 from compare import NAMES, case
 from library import ROOT, SECONDS
+from programs import PROGRAMS
 
 DOCUMENTS = "README.md", "docs/SCHEDULES.md", "docs/WAITING.md"
 LINKED = "tools", "schedules", "target", "python", "bench"
-COMMAND = re.compile(r"^    ((?:tools/schedule|target/bin/rangelog) [^#\n]*?) *(?:#.*)?$", re.MULTILINE)
+COMMAND = re.compile(r"^    ((?:tools/schedule|target/bin/range\w+) [^#\n]*?) *(?:#.*)?$", re.MULTILINE)
 
 NAMES["command in a document"] = ("document", "place"), ("exit status", "bytes on standard error")
 NAMES["page of the whole case"] = (), ("as docs/whole-case.html",)
@@ -38,7 +38,8 @@ def folder_for(parent, name):
 
 def documented():
     """Every command of every document."""
-    rangelog.program()
+    for program in PROGRAMS:
+        program.command()
     with TemporaryDirectory() as parent:
         for number, document in enumerate(DOCUMENTS):
             folder = folder_for(parent, document)

@@ -8,7 +8,7 @@ from io import StringIO
 
 from compiled_table import library
 from library import ROOT
-from model import tree
+from model import pages, tree
 from model.history import Call, Opened
 from model.record import IDLE, Settings
 
@@ -42,6 +42,14 @@ class ModelTable:
 
     def record(self, client):
         return self.lock.records[client]
+
+    def planners_page(self):
+        rows = [pages.Row()] * len(self.lock.records)
+        pages.planners_page(self.lock.settings, self.lock.records, rows, self.lock.clock)
+        return rows
+
+    def run_page(self, client):
+        return pages.run_page(self.lock.settings, self.lock.records, client, self.lock.clock)
 
 
 @lru_cache(maxsize=None)

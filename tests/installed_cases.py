@@ -24,6 +24,7 @@ NAMES["page"] = ("page",), ("warnings", "words unlike the program's")
 LEVELS = 3, 12
 DOCUMENT = ROOT / "docs" / "LINKING.md"
 CASE = ROOT / "schedules" / "whole-case"
+PROGRAMS = "rangelog", "rangepages", "schedule"
 
 
 def compared(name, before, expected, found):
@@ -63,8 +64,8 @@ def expected_files():
     [version] = asked("--modversion")
     shared = [f"lib/libnolthewyr.so{ending}" for ending in ("", f".{nolthewyr.SERIES}", f".{version}")]
     return {
-        "bin/rangelog", "bin/schedule", "include/nolthewyr.h", "lib/libnolthewyr.a", *shared, "lib/pkgconfig/nolthewyr.pc",
-        "share/man/man1/rangelog.1", "share/man/man1/schedule.1", "share/nolthewyr/nolthewyr.py", "share/nolthewyr/nolthewyr.rs",
+        *(f"bin/{program}" for program in PROGRAMS), *(f"share/man/man1/{program}.1" for program in PROGRAMS), "include/nolthewyr.h",
+        "lib/libnolthewyr.a", *shared, "lib/pkgconfig/nolthewyr.pc", "share/nolthewyr/nolthewyr.py", "share/nolthewyr/nolthewyr.rs",
     }
 
 
@@ -115,17 +116,23 @@ def another_series():
     yield case("found by Python", [5], 1), int(f"{made} has version 0.2.0, and this file is for" in ran.stderr)
 
 
-def programs():
-    """schedule says how it is used and by its exit status that it failed, and finds the rangelog beside it, which writes the log of the
-    whole case."""
-    log = CASE.with_suffix(".log").read_text()
-    schedule, rangelog = prefix() / "bin" / "schedule", prefix() / "bin" / "rangelog"
+def printed_of_case(program):
+    """What an installed program prints of the whole case."""
+    taken = {"env": environment(), "cwd": folder().name, "capture_output": True, "text": True}
     with open(CASE.with_suffix(".bin"), "rb") as case_file:
-        logged = subprocess.run([rangelog], stdin=case_file, env=environment(), cwd=folder().name, capture_output=True, text=True)
+        return subprocess.run([prefix() / "bin" / program], stdin=case_file, **taken).stdout
+
+
+def programs():
+    """schedule says how it is used and by its exit status that it failed, and finds the rangelog and the rangepages beside it, which print
+    the log and the pages of the whole case."""
+    log, schedule = CASE.with_suffix(".log").read_text(), prefix() / "bin" / "schedule"
     claims = [
         run(schedule, "--help").startswith("usage: schedule"),
-        logged.stdout == log,
+        printed_of_case("rangelog") == log,
+        printed_of_case("rangepages") == CASE.with_suffix(".pages").read_text(),
         run(schedule, "run", "--log", CASE.with_suffix(".txt"), PATH="/usr/bin:/bin") == log,
+        "1  9 held  [0, 256)" in run(schedule, "pages", CASE.with_suffix(".txt"), PATH="/usr/bin:/bin"),
         subprocess.run([schedule, "run", "no-such-file"], env=environment(), capture_output=True).returncode == 3,
     ]
     for number, holds in enumerate(claims):
@@ -137,6 +144,13 @@ def words_of_rangelog():
     library()
     named = [f"{number} {name}" for number, name in enumerate(ENUMERATIONS["phase"])]
     return named + [f"{number} {nolthewyr.cause_text(number)}" for number in (4, 5, 7, 8, 10, 11)]
+
+
+def words_of_rangepages():
+    """The names of a row's fields and of a record's, as their structs have them, and what a schedule is refused by."""
+    library()
+    fields = [f" {name} " for struct in (nolthewyr.Row, nolthewyr.Record) for name, _ in struct._fields_]
+    return fields + [f"{number} {nolthewyr.cause_text(number)}" for number in (10, 11)]
 
 
 def words_of_schedule():
@@ -155,18 +169,19 @@ def synopsis(read):
 
 
 def pages():
-    """The pages are set without a warning. That of rangelog has the words of a log; that of schedule its commands and options, and no
-    others."""
-    for number, page in enumerate(("rangelog.1", "schedule.1")):
-        source = prefix() / "share" / "man" / "man1" / page
+    """The pages are set without a warning. That of rangelog has the words of a log; that of rangepages the names of all fields; that of
+    schedule its commands and options, and no others."""
+    for number, program in enumerate(PROGRAMS):
+        source = prefix() / "share" / "man" / "man1" / f"{program}.1"
         warned = subprocess.run(["groff", "-mandoc", "-ww", "-z", source], capture_output=True, text=True, check=True).stderr
         read = " ".join(run("man", "--local-file", source, MANWIDTH="1000").split())
-        if page == "rangelog.1":
-            unlike = [word for word in words_of_rangelog() if word not in read]
-        else:
+        if program == "schedule":
             unlike = set(words_of_schedule()) ^ set(synopsis(read))
+        else:
+            words = words_of_rangelog() if program == "rangelog" else words_of_rangepages()
+            unlike = [word for word in words if word not in read]
         if unlike:
-            print(f"    {page} and the program differ in {', '.join(map(str, unlike))}")
+            print(f"    {source.name} and the program differ in {', '.join(map(str, unlike))}")
         yield case("page", [number], (0, 0)), (len(warned.splitlines()), len(unlike))
 
 

@@ -23,8 +23,10 @@ TEXTS = ROOT / "library" / "texts.c"
 # Each struct of the header, and the crate and the name that it has in the Rattle source.
 STRUCTS = {
     "settings": ("lock", "Settings"), "record": ("lock", "Record"), "call": ("lock", "Call"), "answer": ("table", "Answer"),
-    "cover_answer": ("cover", "Answer"),
+    "cover_answer": ("cover", "Answer"), "row": ("pages", "Row"), "run_page_answer": ("pages", "RunPage"),
 }
+# The crates whose exported functions are linked.
+LINKED = "table", "pages"
 
 # What the documents call each number. The names of causes are short ones for the rows of document 01's table.
 ENUMERATIONS = {
@@ -63,9 +65,14 @@ def source_fields(crate, name):
     return rattle_fields(name, (ROOT / "crates" / crate / "src" / "lib.rt").read_text())
 
 
+def struct_of(type_):
+    """A C type, a struct by the name that it has in the other languages."""
+    return title(type_.removeprefix("nolthewyr_")) if type_.startswith("nolthewyr_") else type_
+
+
 def c_fields(name):
     [body] = re.findall(rf"typedef struct nolthewyr_{name} \{{([^}}]*)\}} nolthewyr_{name};", HEADER.read_text())
-    return number_fields(((field, type_) for type_, field in re.findall(r"(\w+) (\w+);", body)), ("uint64_t",))
+    return number_fields(((field, struct_of(type_)) for type_, field in re.findall(r"(\w+) (\w+);", body)), ("uint64_t",))
 
 
 def rust_fields(name):
@@ -73,11 +80,12 @@ def rust_fields(name):
 
 
 def python_fields(name):
-    return number_fields(getattr(nolthewyr, title(name))._fields_, (nolthewyr.c_uint64,))
+    fields = ((field, type_.__name__) for field, type_ in getattr(nolthewyr, title(name))._fields_)
+    return number_fields(fields, (nolthewyr.c_uint64.__name__,))
 
 
 def declared_structs():
-    """The structs have the fields of the Rattle source in the same order, each a number of 64 bits."""
+    """The structs have the fields of the Rattle source in the same order, each a number of 64 bits or a record."""
     for place, fields_of in enumerate((c_fields, rust_fields, python_fields)):
         for number, (name, in_source) in enumerate(STRUCTS.items()):
             fields, declared = source_fields(*in_source), fields_of(name)
@@ -86,7 +94,7 @@ def declared_structs():
 
 
 def exported_by_source():
-    sources = (ROOT / "crates" / "table" / "src").glob("*.rt")
+    sources = (path for crate in LINKED for path in (ROOT / "crates" / crate / "src").glob("*.rt"))
     proved = {name for path in sources for name in re.findall(r'pub extern "C" fn (\w+)\(', path.read_text())}
     return proved | set(re.findall(r"^const char \*(\w+)\(", TEXTS.read_text(), re.MULTILINE))
 

@@ -9,7 +9,6 @@ from pathlib import Path
 from tempfile import TemporaryDirectory
 from xml.etree import ElementTree
 
-import rangelog
 from broken_pictures import BY_CALL_ONLY, EDITS
 from compare import NAMES, case
 from histories import Shape
@@ -19,6 +18,7 @@ from model.schedule import decode, encode
 from picture_checks import Expected, looked_at
 from picture_pages import HELD, Page
 from picture_schedules import FAR, STILL, Busy, at_the_edges, busy_schedule, great
+from programs import RANGELOG
 from random_schedules import drawn
 from schedule_files import WHOLE_CASE, at_call, changed, with_header
 
@@ -61,7 +61,7 @@ def page_of(asked):
 
 @lru_cache(maxsize=None)
 def pages(by):
-    rangelog.program()
+    RANGELOG.command()
     with ThreadPoolExecutor() as pool:
         return list(pool.map(page_of, [(data, by) for data in files()]))
 

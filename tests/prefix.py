@@ -9,7 +9,7 @@ from tempfile import TemporaryDirectory
 from library import ROOT, SECONDS, command
 
 # What would lead a program to other files than the installed ones.
-ASTRAY = "NOLTHEWYR_LIBRARY", "RANGELOG", "PYTHONPATH", "LD_LIBRARY_PATH", "PKG_CONFIG_PATH"
+ASTRAY = "NOLTHEWYR_LIBRARY", "RANGELOG", "RANGEPAGES", "PYTHONPATH", "LD_LIBRARY_PATH", "PKG_CONFIG_PATH"
 CHECKED_C = "gcc", "-std=c11", "-O2", "-Wall", "-Wextra", "-Wpedantic", "-Werror"
 CHECKED_RUST = "rustc", "--edition", "2021", "-O", "-D", "warnings"
 

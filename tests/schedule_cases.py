@@ -1,87 +1,93 @@
-"""Cases for the compiled `rangelog`: document 01's whole case, files at every edge of the format, and random schedules,
-each log held byte for byte to the document or to the model's log."""
+"""Cases for the compiled `rangelog` and `rangepages`: document 01's whole case, and files at every edge of the format. What each prints is
+held byte for byte to the document, to files, or to the model."""
 
 import subprocess
-from collections import Counter
-from concurrent.futures import ProcessPoolExecutor
-from functools import lru_cache
 from time import sleep
 
-import rangelog
-from broken_programs import NAMES_OF_BROKEN, broken
-from compare import NAMES, Case, case
+from broken_programs import BROKEN, broken
+from compare import NAMES, case
 from history_cases import WHOLE_CASE as WHOLE_CASE_LINES
 from library import ROOT, SECONDS
-from model import schedule
 from model.schedule import HEADER
-from random_schedules import DRAWN, drawn
+from programs import PROGRAMS, RANGELOG, RANGEPAGES, Ran
+from random_schedules import drawn
 from schedule_files import WHOLE_CASE, at_call, by_group, changed
 
 CORPUS = ROOT / "tests" / "schedules"
-SEEDS = 600
 FEW_SEEDS = 40
 
 # The header line, and a line for each call, as the document writes them.
 WHOLE_LOG = "\n".join(["tree 2 m 1 wait 5 clients 2", *WHOLE_CASE_LINES, ""]).encode()
 
-# What must be seen in the logs of the random schedules: refusals of a file, and numbers and phases of calls.
-MUST_OCCUR = [
-    *(("refused", number) for number in (0, 1, 3, 10, 11)),
-    *(("number", number) for number in (0, 4, 5, 7, 8)),
-    *(("phase", phase) for phase in range(11)),
-]
-NAMES["random schedule"] = ("kind", "seed"), rangelog.LOG
-NAMES["schedule occurs"] = ("place in the list of what must occur",), ("occurs",)
-NAMES["broken program"] = ("place in the list of broken programs",), ("found out",)
+# After the last call client 0 is idle with outcome 1, and client 1 holds the whole tree by the root, at which it claimed at clock 3.
+WHOLE_PAGES = b"""\
+0 0 0 0 0 0 0
+1 9 0 256 1 0 0
+0 0 1 0 0 0 0 0 0 0 0 0 0 0 0 1
+1 9 0 0 256 1 0 0 0 3 0 0 0 0 3 1
+"""
+WHOLE = {RANGELOG: WHOLE_LOG, RANGEPAGES: WHOLE_PAGES}
+
+NAMES["broken program"] = ("program", "place in the list of broken programs"), ("found out",)
 
 
-def model_log(data):
-    return schedule.log(data).encode()
-
-
-def whole_case():
-    """The log that the document writes down, by the model and by the program."""
-    yield rangelog.compared("model, the whole case", WHOLE_CASE, WHOLE_LOG, rangelog.Ran(model_log(WHOLE_CASE)))
-    yield rangelog.compared("the whole case", WHOLE_CASE, WHOLE_LOG, rangelog.run(WHOLE_CASE))
+def whole_case(program):
+    """What the document writes down or says, by the model and by the program."""
+    yield program.compared("model, the whole case", WHOLE_CASE, WHOLE[program], Ran(program.expected(WHOLE_CASE)))
+    yield program.compared("the whole case", WHOLE_CASE, WHOLE[program], program.run(WHOLE_CASE))
 
 
 def clock_6_in_call_7():
     """With clock 6 in call 7 its phase is 10: that line is the document's, and the lines before it are as they were."""
     data = changed(WHOLE_CASE, at_call(7, 8), 6)
     before = WHOLE_LOG.split(b"7 step")[0] + b"7 step 0 0 10 10 20\n"
-    for name, ran in (("model", rangelog.Ran(model_log(data))), ("program", rangelog.run(data))):
-        until_7 = b"".join(ran.log.splitlines(keepends=True)[:9])
-        yield rangelog.compared(f"clock 6 in call 7, {name}", data, before, ran._replace(log=until_7))
+    for name, ran in (("model", Ran(RANGELOG.expected(data))), ("program", RANGELOG.run(data))):
+        until_7 = b"".join(ran.text.splitlines(keepends=True)[:9])
+        yield RANGELOG.compared(f"clock 6 in call 7, {name}", data, before, ran._replace(text=until_7))
 
 
-def corpus():
-    """The files in tests/schedules, each beside its log: the model and the program write that log."""
+def corpus(program):
+    """The files in tests/schedules, each beside its log and its pages: the model and the program print these."""
     for path in sorted(CORPUS.glob("*.bin")):
-        data, log = path.read_bytes(), path.with_suffix(".log").read_bytes()
-        yield rangelog.compared(f"model, {path.name}", data, log, rangelog.Ran(model_log(data)))
-        yield rangelog.compared(path.name, data, log, rangelog.run(data))
+        yield from program.held_to_file(path)
 
 
-def first_line(file):
-    """The line that a file's log begins with, from what the test says of it or from the numbers of its header."""
+def clients_twice(data):
+    """The first word of each line of the pages: every client's number, and again."""
+    clients = HEADER.unpack_from(data)[3]
+    return "".join(f"{client}\n" for _ in range(2) for client in range(clients)).encode()
+
+
+def expected_in_brief(program, file):
+    """What the test itself says of a file: that it is refused, and by what; else the log's header line by the numbers of the file's
+    header, or the clients that the pages' lines are of."""
     if file.number != 0:
         return f"refused {file.number}\n".encode()
-    return "tree {} m {} wait {} clients {}\n".format(*HEADER.unpack_from(file.data)).encode()
+    if program is RANGELOG:
+        return "tree {} m {} wait {} clients {}\n".format(*HEADER.unpack_from(file.data)).encode()
+    return clients_twice(file.data)
 
 
-def group_of_files(files):
-    """Each file of a group: the model's log begins as it must and is one line if the file is refused, and the program's
-    log is the model's."""
+def in_brief(program, file, text):
+    """That part of what was printed; all of it if the file is refused."""
+    lines = text.splitlines(keepends=True)
+    if file.number != 0:
+        return text
+    return lines[0] if program is RANGELOG else b"".join(line.split()[0] + b"\n" for line in lines)
+
+
+def group_of_files(program, files):
+    """Each file of a group: the model prints what it must and one line if the file is refused, and the program prints what the model
+    does."""
     for name, file in files.items():
-        expected = model_log(file.data)
-        begins = expected if file.number != 0 else expected.splitlines(keepends=True)[0]
-        yield rangelog.compared(f"model, {name}", file.data, first_line(file), rangelog.Ran(begins))
-        yield rangelog.compared(name, file.data, expected, rangelog.run(file.data))
+        brief = in_brief(program, file, program.expected(file.data))
+        yield program.compared(f"model, {name}", file.data, expected_in_brief(program, file), Ran(brief))
+        yield program.held_to_model(name, file.data)
 
 
-def in_pieces(data, size):
+def in_pieces(program, data, size):
     """Runs the program with a file that comes in pieces of so many bytes, with a pause after each."""
-    with subprocess.Popen(rangelog.program(), stdin=subprocess.PIPE, stdout=subprocess.PIPE, cwd=rangelog.ROOT) as process:
+    with subprocess.Popen(program.command(), stdin=subprocess.PIPE, stdout=subprocess.PIPE, cwd=ROOT) as process:
         try:
             for at in range(0, len(data), size):
                 process.stdin.write(data[at:at + size])
@@ -90,65 +96,22 @@ def in_pieces(data, size):
         except BrokenPipeError:
             pass
         try:
-            log, _ = process.communicate(timeout=SECONDS)
+            text, _ = process.communicate(timeout=SECONDS)
         except subprocess.TimeoutExpired:
             process.kill()
             raise
-    return rangelog.Ran(log, max(-process.returncode, 0))
+    return Ran(text, max(-process.returncode, 0))
 
 
-def files_in_pieces():
+def files_in_pieces(program):
     """A file is the same however it comes: in pieces from a pipe, or at once from a file on the disk."""
     longest = WHOLE_CASE.ljust(65536, b"\xff")
     for data, size in [(WHOLE_CASE, size) for size in (1, 15, 16, 17, 24, 351)] + [(longest, 4096), (longest, 65535)]:
-        yield rangelog.compared(f"{len(data)} bytes in pieces of {size}", data, model_log(data), in_pieces(data, size))
-    for path in sorted((rangelog.ROOT / "schedules").glob("*.bin")):
+        yield program.compared(f"{len(data)} bytes in pieces of {size}", data, program.expected(data), in_pieces(program, data, size))
+    for path in sorted((ROOT / "schedules").glob("*.bin")):
         with path.open("rb") as file:
-            ran = rangelog.run(stdin=file)
-        yield rangelog.compared(path.name, path.read_bytes(), path.with_suffix(".log").read_bytes(), ran)
-
-
-def what_is_seen(log):
-    """Counts what a log shows: the file's refusal (0 for none), and the number and phase of each call."""
-    first, *lines = log.decode().splitlines()
-    seen = Counter({("refused", int(first.split()[1]) if first.startswith("refused") else 0): 1})
-    for line in lines:
-        number, phase = line.split()[3:5]
-        seen.update([("number", int(number)), ("phase", int(phase))])
-    return seen
-
-
-def run_drawn(kind_and_seed):
-    """The expected numbers and those of the program on one random file, and what its log shows."""
-    kind, seed = kind_and_seed
-    data = drawn(kind, seed)
-    expected, ran = model_log(data), rangelog.run(data)
-    wanted, found = rangelog.numbers(expected, ran)
-    if wanted != found:
-        rangelog.keep(f"{kind} {seed}", data, expected, ran)
-    return wanted, found, what_is_seen(expected)
-
-
-@lru_cache(maxsize=None)
-def all_drawn():
-    """What came of each random file, on all processors."""
-    rangelog.program()
-    asked = [(kind, seed) for seed in range(SEEDS) for kind in DRAWN]
-    with ProcessPoolExecutor() as pool:
-        return dict(zip(asked, pool.map(run_drawn, asked, chunksize=16)))
-
-
-def random_schedules(kind):
-    for (drawn_kind, seed), (wanted, found, _) in all_drawn().items():
-        if drawn_kind == kind:
-            yield Case("random schedule", (list(DRAWN).index(kind), seed), wanted), found
-
-
-def what_occurs():
-    """In the logs of the random schedules everything that must occur does."""
-    total = sum((seen for _, _, seen in all_drawn().values()), Counter())
-    for place, what in enumerate(MUST_OCCUR):
-        yield case("schedule occurs", [place], 1), int(total[what] > 0)
+            ran = program.run(stdin=file)
+        yield program.compared(path.name, path.read_bytes(), path.with_suffix(program.ending).read_bytes(), ran)
 
 
 def all_files():
@@ -158,30 +121,34 @@ def all_files():
     yield from (drawn("contended", seed) for seed in range(FEW_SEEDS))
 
 
-def broken_log(data):
-    """The log of a broken program, which may also fall."""
+def by_broken(program, data):
+    """What a broken program prints, which may also fall."""
     try:
-        return model_log(data)
+        return program.expected(data)
     except (ValueError, IndexError, KeyError, MemoryError):
         return b"fallen"
 
 
-def broken_programs():
-    """Of each broken program some log is not the model's."""
-    files = [(data, model_log(data)) for data in all_files()]
-    for place, name in enumerate(NAMES_OF_BROKEN):
+def broken_programs(place):
+    """Of each broken program some file shows it."""
+    program = PROGRAMS[place]
+    files = [(data, program.expected(data)) for data in all_files()]
+    for at, name in enumerate(BROKEN[program.name]):
         with broken(name):
-            found_out = any(broken_log(data) != log for data, log in files)
-        yield case("broken program", [place], 1), int(found_out)
+            found_out = any(by_broken(program, data) != text for data, text in files)
+        yield case("broken program", [place, at], 1), int(found_out)
 
 
-SUITES = {
-    "rangelog, the whole case": whole_case,
-    "rangelog, the whole case with clock 6 in call 7": clock_6_in_call_7,
-    **{f"rangelog, {group}": lambda files=files: group_of_files(files) for group, files in by_group().items()},
-    "rangelog, the files in tests/schedules": corpus,
-    "rangelog, files in pieces and on the disk": files_in_pieces,
-    **{f"rangelog, random schedules, {kind}": lambda kind=kind: random_schedules(kind) for kind in DRAWN},
-    "rangelog, every refusal, number and phase occurs in random schedules": what_occurs,
-    "rangelog, the files find each broken program out": broken_programs,
-}
+def suites_of(place):
+    """The tests of one program."""
+    program = PROGRAMS[place]
+    return {
+        f"{program.name}, the whole case": lambda: whole_case(program),
+        **{f"{program.name}, {group}": lambda files=files: group_of_files(program, files) for group, files in by_group().items()},
+        f"{program.name}, the files in tests/schedules": lambda: corpus(program),
+        f"{program.name}, files in pieces and on the disk": lambda: files_in_pieces(program),
+        f"{program.name}, the files find each broken program out": lambda: broken_programs(place),
+    }
+
+
+SUITES = {"rangelog, the whole case with clock 6 in call 7": clock_6_in_call_7, **suites_of(0), **suites_of(1)}

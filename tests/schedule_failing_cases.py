@@ -21,6 +21,7 @@ MEMORY = 2 ** 29
 FULL = "schedule: standard output could not be written: No space left on device\n"
 CLOSED = "schedule: standard output could not be written: it is closed\n"
 NO_INPUT = "schedule: standard input could not be read: it is closed\n"
+WRONG = "one of the two is wrong; keep the file and report it"
 
 # A shell command, with `schedule` for the program; its exit status, and what it says.
 COMMANDS = {
@@ -44,7 +45,7 @@ COMMANDS = {
     "a wrong text": ("echo stop | schedule run", 1,
                      "line 1: the first line wants the settings, as in `tree 2 m 1 wait 5 clients 2`; got `stop`\n"),
     "a refused schedule": ("echo tree 7 m 1 wait 5 clients 2 | schedule run", 1,
-                           "refused 11: a tree of over 6 levels, or over 64 clients: these are limits of rangelog\n"),
+                           "refused 11: a tree of over 6 levels, or over 64 clients: these are limits of rangelog and rangepages\n"),
     "no command": ("schedule", 2, "usage: schedule [-h] COMMAND ...\nschedule: error: the following arguments are required: COMMAND\n"),
     "two files": ("schedule pack whole-case.txt blocked.txt", 2,
                   "usage: schedule [-h] COMMAND ...\nschedule: error: unrecognized arguments: blocked.txt\n"),
@@ -54,14 +55,24 @@ COMMANDS = {
                                 "schedule: ls: cannot access '/no/such/file': No such file or directory\n"),
     "rangelog ends with 1": ("RANGELOG=false schedule run whole-case.txt", 3, "schedule: false ended with status 1\n"),
     "no log": ("RANGELOG=true schedule run whole-case.txt", 3,
-               "schedule: the log is not whole: it has 0 lines, and the model's has 15\n"),
+               "schedule: what rangelog printed is not whole: it has 0 lines, and the model's has 15\n"),
     "no log of a refused schedule": ("echo tree 7 m 1 wait 5 clients 2 | RANGELOG=true schedule run --log", 3,
-                                     "schedule: the log is not whole: it has 0 lines, and the model's has 1\n"),
+                                     "schedule: what rangelog printed is not whole: it has 0 lines, and the model's has 1\n"),
     "a log of a refused schedule": ("echo tree 7 m 1 wait 5 clients 2 | RANGELOG='echo tree 7 m 1 wait 5 clients 2' schedule run", 3,
-                                    "schedule: line 1 of the log is `tree 7 m 1 wait 5 clients 2`, and the model says `refused 11`: "
-                                    "one of the two is wrong; keep the file and report it\n"),
+                                    "schedule: line 1 that rangelog printed is `tree 7 m 1 wait 5 clients 2`, and the model says "
+                                    f"`refused 11`: {WRONG}\n"),
     "no command for rangelog": ("RANGELOG=\"'\" schedule run whole-case.txt", 3,
                                 "schedule: RANGELOG in the environment is no command: No closing quotation\n"),
+    "a refused schedule, pages": ("echo tree 2 m 1 wait 5 clients 0 | schedule pages", 1, "refused 3: no clients: correct the settings\n"),
+    "rangepages missing": ("RANGEPAGES=/no/rangepages schedule pages whole-case.txt", 3,
+                           "schedule: /no/rangepages could not be run: No such file or directory\n"),
+    "rangelog in place of rangepages": ("RANGEPAGES='cat whole-case.log' schedule pages whole-case.txt", 3,
+                                        "schedule: line 1 that rangepages printed is `tree 2 m 1 wait 5 clients 2`, and the model says "
+                                        f"`0 0 0 0 0 0 0`: {WRONG}\n"),
+    "no pages": ("RANGEPAGES=true schedule pages whole-case.txt", 3,
+                 "schedule: what rangepages printed is not whole: it has 0 lines, and the model's has 4\n"),
+    "no command for rangepages": ("RANGEPAGES=\"'\" schedule pages whole-case.txt", 3,
+                                  "schedule: RANGEPAGES in the environment is no command: No closing quotation\n"),
 }
 
 
@@ -93,16 +104,15 @@ def commands():
 
 # What a program in place of rangelog makes of the log of the whole case, and what is said of that.
 CHANGED_LOGS = {
-    "a line short": (LOG[:-len("13 step 1 0 9 0 256\n")], "the log is not whole: it has 14 lines, and the model's has 15"),
-    "a line more": (LOG + LOG[-20:], "the log is not whole: it has 16 lines, and the model's has 15"),
-    "cut in its last line": (LOG[:-3], "the log is not whole: it ends within its line 15, `"
+    "a line short": (LOG[:-len("13 step 1 0 9 0 256\n")], "what rangelog printed is not whole: it has 14 lines, and the model's has 15"),
+    "a line more": (LOG + LOG[-20:], "what rangelog printed is not whole: it has 16 lines, and the model's has 15"),
+    "cut in its last line": (LOG[:-3], "what rangelog printed is not whole: it ends within its line 15, `"
                              + LOG[:-3][-80:].replace("\n", "\\n") + "`"),
-    "a refusal": ("refused 3\n", "line 1 of the log is `refused 3`, and the model says `tree 2 m 1 wait 5 clients 2`: one of the two is wrong; "
-                  "keep the file and report it"),
+    "a refusal": ("refused 3\n", f"line 1 that rangelog printed is `refused 3`, and the model says `tree 2 m 1 wait 5 clients 2`: {WRONG}"),
     "another phase": (LOG.replace("7 step 0 0 9", "7 step 0 0 8"),
-                      "line 9 of the log is `7 step 0 0 8 10 20`, and the model says `7 step 0 0 9 10 20`: one of the two is wrong; keep the file and report it"),
-    "another header": (LOG.replace("wait 5", "wait 6"), "line 1 of the log is `tree 2 m 1 wait 6 clients 2`, and the model says "
-                       "`tree 2 m 1 wait 5 clients 2`: one of the two is wrong; keep the file and report it"),
+                      f"line 9 that rangelog printed is `7 step 0 0 8 10 20`, and the model says `7 step 0 0 9 10 20`: {WRONG}"),
+    "another header": (LOG.replace("wait 5", "wait 6"), "line 1 that rangelog printed is `tree 2 m 1 wait 6 clients 2`, and the model says "
+                       f"`tree 2 m 1 wait 5 clients 2`: {WRONG}"),
 }
 
 
@@ -112,7 +122,7 @@ def changed_logs():
         with TemporaryDirectory() as folder:
             path = Path(folder) / "log"
             path.write_text(log)
-            ran = started("run", data=WHOLE_TEXT, rangelog=f"cat {path}")
+            ran = started("run", data=WHOLE_TEXT, RANGELOG=f"cat {path}")
         yield told(f"log with {name}", (3, f"schedule: {said}\n", 0), (ran.status, ran.said, len(ran.written)))
 
 

@@ -19,8 +19,9 @@ class Ran(NamedTuple):
     said: str
 
 
-def started(*arguments, data=b"", rangelog=None, stdout=subprocess.PIPE):
-    """Runs the program with these bytes on standard input; `rangelog` is the command that it runs in place of the compiled program."""
-    environment = {**os.environ, **({"RANGELOG": rangelog} if rangelog else {})}
-    ran = subprocess.run([TOOL, *arguments], input=data, stdout=stdout, stderr=subprocess.PIPE, env=environment, timeout=4 * SECONDS)
+def started(*arguments, data=b"", stdout=subprocess.PIPE, **environment):
+    """Runs the program with these bytes on standard input; RANGELOG and RANGEPAGES are the commands that it runs in place of the compiled
+    programs."""
+    taken = {"stdout": stdout, "stderr": subprocess.PIPE, "env": os.environ | environment, "timeout": 4 * SECONDS}
+    ran = subprocess.run([TOOL, *arguments], input=data, **taken)
     return Ran(ran.returncode, ran.stdout or b"", ran.stderr.decode())

@@ -6,12 +6,20 @@
 //!     step CLIENT CLOCK
 //!     release CLIENT
 //!     cancel CLIENT
+//!     pages CLIENT                              the numbers of both pages, the count, the client's record, and all rows
 //!     cover LEVELS LEFT RIGHT                   the number, the nodes and the over-cover
 //!     word_count LEVELS                         the count
 //!     phase NUMBER                              its text; outcome and cause likewise
 
-use nolthewyr::{cover, word_count, Cause, CoverAnswer, Outcome, Phase, Record, Settings, Table};
+use nolthewyr::{cover, word_count, Cause, CoverAnswer, Outcome, Phase, Record, Row, Settings, Table};
 use std::io::stdin;
+
+/// The numbers of a record, in its order.
+fn fields(record: &Record) -> String {
+    let Record { phase, outcome, left, right, first, second, current, giving, grip, ticket, place, notices, t1, t0 } = *record;
+    let fields = [phase.0, outcome.0, left, right, first, second, current, giving, grip, ticket, place, notices, t1, t0];
+    fields.map(|field| field.to_string()).join(" ")
+}
 
 /// Also has what a caller finds: the phase that a call gives is that of the record.
 fn told(table: &Table, client: usize, made: Result<Phase, Cause>) -> String {
@@ -20,10 +28,21 @@ fn told(table: &Table, client: usize, made: Result<Phase, Cause>) -> String {
         return format!("{number} {}", table.clock());
     };
     assert!(made.is_err() || made == Ok(record.phase));
-    let Record { phase, outcome, left, right, first, second, current, giving, grip, ticket, place, notices, t1, t0 } = *record;
-    let fields = [phase.0, outcome.0, left, right, first, second, current, giving, grip, ticket, place, notices, t1, t0];
-    let fields = fields.map(|field| field.to_string()).join(" ");
-    format!("{number} {} {fields}", table.clock())
+    format!("{number} {} {}", table.clock(), fields(record))
+}
+
+fn pages(table: &Table, client: usize) -> String {
+    let (planners, run) = (table.planners_page(), table.run_page(client));
+    let numbers = [planners.as_ref().err(), run.as_ref().err()].map(|cause| cause.unwrap_or(&Cause::ACCEPTED).0);
+    let mut answer = format!("{} {}", numbers[0], numbers[1]);
+    if let Ok(page) = run {
+        assert!(page.number == 0 && table.record(client) == Some(&page.own));
+        answer += &format!(" {} {}", page.held, fields(&page.own));
+    }
+    for Row { phase, left, right, first, second, over } in planners.unwrap_or_default() {
+        answer += &format!(" {} {left} {right} {first} {second} {over}", phase.0);
+    }
+    answer
 }
 
 fn called(table: &mut Table, name: &str, numbers: &[u64]) -> String {
@@ -59,6 +78,7 @@ fn main() {
             }
             ("cover", &[levels, left, right]) => covered(levels, left, right),
             ("word_count", &[levels]) => word_count(levels).to_string(),
+            ("pages", &[client]) => pages(table.as_ref().expect("an open table"), client as usize),
             ("phase", &[number]) => Phase(number).to_string(),
             ("outcome", &[number]) => Outcome(number).to_string(),
             ("cause", &[number]) => Cause(number).to_string(),

@@ -6,11 +6,13 @@ import sys
 from typing import NamedTuple
 
 from model.schedule import LONGEST
-from scheduling import packed, picture, report, running
+from scheduling import packed, picture, report
 from scheduling.events import happened
+from scheduling.page_report import page_report
 from scheduling.planning import left_out, plan, plan_lines
 from scheduling.problems import Failed, Wrong
 from scheduling.refusals import foreseen
+from scheduling.running import RANGELOG, RANGEPAGES, refusal, whole_output
 from scheduling.streams import Streams, write_file
 from scheduling.text import LONGEST_TEXT, read_text
 from scheduling.wishes import read_wishes
@@ -20,7 +22,7 @@ OLDEST_PYTHON = 3, 10
 DONE, INPUT_WRONG, FAILED, INTERRUPTED = 0, 1, 3, 130
 
 DESCRIPTION = """\
-Make schedules for rangelog, run them, and see what happened.
+Make schedules for rangelog and rangepages, run them, and see what happened.
 
 The first line of a text has the settings, and each line after it is a call:
 
@@ -69,29 +71,31 @@ def do_unpack(streams, options):
     return Made(packed.unpack(streams.read(options.file, LONGEST)).encode())
 
 
-def run(data):
-    """The schedule of what was read, and the lines of its log."""
-    source, data = read_source(data)
-    return source, running.whole_log(data)
+def run(program, streams, options):
+    """The schedule of what is read, and the lines that a program prints of it, if it was not refused as a whole."""
+    source, data = read_source(streams.read(options.file, LONGEST_TEXT))
+    printed = whole_output(program, data)
+    if refused := refusal(printed):
+        raise Wrong(*refused)
+    return source, printed
 
 
 def run_and_happened(streams, options):
-    """The schedule and what happened in it, if it was not refused as a whole."""
-    source, log = run(streams.read(options.file, LONGEST_TEXT))
-    if refused := running.refusal(log):
-        raise Wrong(*refused)
+    """The schedule and what happened in it."""
+    source, log = run(RANGELOG, streams, options)
     return source, happened(source.schedule, log)
 
 
 def log_alone(data):
     """The log, also that of a file that is no schedule, with what is wrong with it beside it."""
     try:
-        _, log = run(data)
+        _, file = read_source(data)
     except Wrong as wrong:
         if not is_packed(data):
             raise
-        return Made(lines(running.whole_log(data)), wrong.messages, INPUT_WRONG)
-    refused = running.refusal(log)
+        return Made(lines(whole_output(RANGELOG, data)), wrong.messages, INPUT_WRONG)
+    log = whole_output(RANGELOG, file)
+    refused = refusal(log)
     return Made(lines(log), refused, INPUT_WRONG if refused else DONE)
 
 
@@ -99,6 +103,11 @@ def do_run(streams, options):
     if options.log:
         return log_alone(streams.read(options.file, LONGEST_TEXT))
     return Made(lines(report.report(*run_and_happened(streams, options))))
+
+
+def do_pages(streams, options):
+    _, printed = run(RANGEPAGES, streams, options)
+    return Made(lines(page_report(printed)))
 
 
 def do_plan(streams, options):
@@ -114,6 +123,7 @@ def do_picture(streams, options):
 
 COMMANDS = {
     "run": (do_run, "run a text or a file, and say what happened beside each line of the log"),
+    "pages": (do_pages, "run a text or a file, and show what planners and each forecast run see after the last call"),
     "picture": (do_picture, "run a text or a file, and draw who held which units when, as a page for a browser"),
     "plan": (do_plan, "make a text from wishes, as `run 7 wants 100 220 from 30 for 40` (client, edges, clock, ticks to hold)"),
     "pack": (do_pack, "turn a text into rangelog's file"),

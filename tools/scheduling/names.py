@@ -9,7 +9,7 @@ FILE_REFUSED = {
     1: "H below 2, m not in 1 to 4, or wait 0: correct the settings",
     3: "no clients: correct the settings",
     10: "this is no schedule",
-    11: "a tree of over 6 levels, or over 64 clients: these are limits of rangelog",
+    11: "a tree of over 6 levels, or over 64 clients: these are limits of rangelog and rangepages",
 }
 
 

@@ -2,12 +2,15 @@
 
 from collections import Counter
 
+from scheduling.columns import in_columns
 from scheduling.events import became, holdings
 from scheduling.names import HELD, OUTCOMES, PHASES, RETURNING, listed, window
 from scheduling.refusals import words_for
 from scheduling.waiting import wait_of
 
 HEADINGS = "call", "log", "clock", "what happened"
+# The columns of numbers: the line's, and the clock.
+NUMBERS = 0, 3
 
 
 def phase_in_words(event):
@@ -35,13 +38,6 @@ def rows(source, events):
     places = source.lines or range(len(source.written))
     for place, written, event in zip(places, source.written, events, strict=True):
         yield str(place), written, event.logged, str(event.clock), what_happened(source.schedule, event)
-
-
-def in_columns(table):
-    """The rows with each column as wide as its widest entry, numbers to the right."""
-    widths = [max(map(len, column)) for column in zip(*table)]
-    for line, call, log, clock, words in table:
-        yield f"{line:>{widths[0]}}  {call:<{widths[1]}}  {log:<{widths[2]}}  {clock:>{widths[3]}}  {words}".rstrip()
 
 
 def at(event):
@@ -90,7 +86,7 @@ def section(title, lines):
 
 def report(source, happened):
     """The whole report, line by line."""
-    yield from in_columns(list(rows(source, happened.events)))
+    yield from in_columns(rows(source, happened.events), NUMBERS)
     yield from section("Held", held_lines(happened.events))
     yield from section("Not idle and not holding at the end", waiting_lines(happened))
     yield from section("In all", counted_lines(happened))

@@ -1,0 +1,115 @@
+"""Request 2.1 of document 02, "One log, two readers": the page that planners get of a lent table, the page that a forecast run gets
+of it, and what the program `rangepages` prints.
+
+`python3 -m model.pages < file` writes what the model gives.
+"""
+
+import sys
+from typing import NamedTuple
+
+from model import cover
+from model import record as fields
+from model import schedule as schedules
+from model.calls import settings_outside
+from model.readable import unreadable
+from model.record import IDLE, Record
+from model.table import clients_outside
+
+
+class Row(NamedTuple):
+    """A client's phase, edges, pieces (0 for none) and over-cover."""
+
+    phase: int = 0
+    left: int = 0
+    right: int = 0
+    first: int = 0
+    second: int = 0
+    over: int = 0
+
+
+class RunPage(NamedTuple):
+    """The number (0 accepted), the run's own record, and the number of clients in phase 9."""
+
+    number: int
+    own: Record = IDLE
+    held: int = 0
+
+
+def over_cover(settings, record):
+    """How many units the record's pieces have beyond its window."""
+    return sum(cover.over_cover(settings.levels, n, record.left, record.right) for n in fields.pieces(record))
+
+
+def row(settings, record):
+    """A client's row, all zero for an idle one."""
+    if record.phase == 0:
+        return Row()
+    return Row(record.phase, record.left, record.right, record.first, record.second, over_cover(settings, record))
+
+
+def planners_refused(settings, records, rows, last):
+    """The planners' page tests 1, 2 (lent with other than one row a client), 3, and 6 for every record."""
+    if settings_outside(settings):
+        return 1
+    if len(rows) != len(records):
+        return 2
+    if clients_outside(records):
+        return 3
+    return 6 if any(unreadable(settings, record, last) for record in records) else 0
+
+
+def planners_page(settings, records, rows, last):
+    """Fills the lent rows, one for each client, and gives the number; a refused page leaves every row as it was."""
+    if number := planners_refused(settings, records, rows, last):
+        return number
+    rows[:] = [row(settings, record) for record in records]
+    return 0
+
+
+def held_count(records):
+    """The number of clients in phase 9: it goes by the phase alone, whatever else the records say."""
+    return sum(record.phase == 9 for record in records)
+
+
+def run_refused(settings, records, client, last):
+    """A run's page tests 1, 3, 4, and 6 for its own record alone."""
+    if settings_outside(settings):
+        return 1
+    if clients_outside(records):
+        return 3
+    if client >= len(records):
+        return 4
+    return 6 if unreadable(settings, records[client], last) else 0
+
+
+def run_page(settings, records, client, last):
+    """The run's own record and the number of clients in phase 9, and no more; a refused page has its number only."""
+    if number := run_refused(settings, records, client, last):
+        return RunPage(number)
+    return RunPage(0, records[client], held_count(records))
+
+
+def line(*numbers):
+    return " ".join(map(str, numbers)) + "\n"
+
+
+def lines(schedule, opened):
+    """After the last call a line for each client, number and row, then one for each, number, record and count."""
+    for call in schedule.calls:
+        opened.make(call)
+    rows = [Row()] * schedule.clients
+    planners_page(schedule.settings, opened.records, rows, opened.clock)
+    for client, found in enumerate(rows):
+        yield line(client, *found)
+    for client in range(schedule.clients):
+        page = run_page(schedule.settings, opened.records, client, opened.clock)
+        yield line(client, *page.own, page.held)
+
+
+def pages(data):
+    """What `rangepages` prints of a file, which it reads or refuses as `rangelog` does."""
+    return schedules.printed(data, lines)
+
+
+if __name__ == "__main__":
+    sys.stdout.write(pages(sys.stdin.buffer.read()))

@@ -1,0 +1,200 @@
+"""Pages broken on purpose: one sentence of request 2.1 read wrongly, in the pages of a lent table or in what `rangepages` prints of them.
+Lent tables and files must find each of them out."""
+
+from unittest.mock import patch
+
+from model import cover, pages, schedule, table, tree
+from model.calls import settings_outside
+from model.readable import unreadable
+from model.record import IDLE
+from model.record import pieces as pieces_of
+
+lines, planners_page, planners_refused, row, run_page, run_refused = (
+    pages.lines, pages.planners_page, pages.planners_refused, pages.row, pages.run_page, pages.run_refused)
+
+
+def charged_for_a_leaf(settings, record):
+    """Over-cover charged for a leaf."""
+    h, l, r = settings.levels, record.left, record.right
+    return sum(tree.size(h, n) - cover.part(h, n, l, r) for n in pieces_of(record))
+
+
+def of_first_piece(settings, record):
+    """The over-cover of the first piece alone."""
+    return cover.over_cover(settings.levels, record.first, record.left, record.right)
+
+
+def three_before_two(settings, records, rows, last):
+    """No clients, or over 32,767, tested before the count of rows."""
+    three_first = not settings_outside(settings) and table.clients_outside(records)
+    return 3 if three_first else planners_refused(settings, records, rows, last)
+
+
+def more_rows_taken(settings, records, rows, last):
+    """Rows for more than the clients there are."""
+    return planners_refused(settings, records, rows[:len(records)], last)
+
+
+def six_before_three(settings, records, rows, last):
+    """Unreadable records tested before their count."""
+    number = planners_refused(settings, records, rows, last)
+    return 6 if number == 3 and any(unreadable(settings, record, last) for record in records) else number
+
+
+def tested_without(place):
+    """The record at a place is not tested: 0 the first, -1 the last."""
+    def refused(settings, records, rows, last):
+        number = planners_refused(settings, records, rows, last)
+        if number != 6:
+            return number
+        others = [*records[:place], *records[place:][1:]]
+        return 6 if any(unreadable(settings, record, last) for record in others) else 0
+    return refused
+
+
+def first_32767_tested(settings, records, rows, last):
+    """Of a table with too many clients the first 32,767 are taken."""
+    return planners_refused(settings, records[:table.MOST_CLIENTS], rows[:table.MOST_CLIENTS], last)
+
+
+def zeroed_if_refused(settings, records, rows, last):
+    """A refused page zeroes its rows."""
+    number = planners_page(settings, records, rows, last)
+    rows[:] = rows if number == 0 else [pages.Row()] * len(rows)
+    return number
+
+
+def four_before_three(settings, records, client, last):
+    """The client tested before the count of clients."""
+    if not settings_outside(settings) and client >= len(records):
+        return 4
+    return run_refused(settings, records, client, last)
+
+
+def every_record_tested(settings, records, client, last):
+    """A run's page tests 6 for every record."""
+    number = run_refused(settings, records, client, last)
+    return number or (6 if any(unreadable(settings, record, last) for record in records) else 0)
+
+
+def own_not_tested(settings, records, client, last):
+    """A run's page does not test 6."""
+    number = run_refused(settings, records, client, last)
+    return 0 if number == 6 else number
+
+
+def count_when_refused(settings, records, client, last):
+    """A refused page has the count."""
+    return run_page(settings, records, client, last)._replace(held=pages.held_count(records))
+
+
+def record_when_refused(settings, records, client, last):
+    """A refused page has the record."""
+    return run_page(settings, records, client, last)._replace(own=records[client] if client < len(records) else IDLE)
+
+
+def readable_counted(settings, records, client, last):
+    """Of the clients in phase 9 those are counted whose records are readable."""
+    page = run_page(settings, records, client, last)
+    held = 0 if page.number else sum(record.phase == 9 and not unreadable(settings, record, last) for record in records)
+    return page._replace(held=held)
+
+
+def others_counted(settings, records, client, last):
+    """The other clients in phase 9 are counted."""
+    page = run_page(settings, records, client, last)
+    return page._replace(held=page.held - (page.own.phase == 9))
+
+
+def in_place(name, value):
+    return lambda: patch.object(pages, name, value)
+
+
+# Broken rules that the pages of a schedule show.
+IN_HISTORIES = {
+    "over-cover charged for a leaf": in_place("over_cover", charged_for_a_leaf),
+    "the over-cover of the first piece alone": in_place("over_cover", of_first_piece),
+    "no over-cover": in_place("over_cover", lambda settings, record: 0),
+    "no second piece": in_place("row", lambda settings, record: row(settings, record)._replace(second=0)),
+    "a row only for who holds": in_place("row", lambda settings, record: row(settings, record if record.phase == 9 else IDLE)),
+    "clients that give back counted": in_place("held_count", lambda records: sum(record.phase >= 9 for record in records)),
+    "other clients counted": in_place("run_page", others_counted),
+}
+
+# All of them: these need lent tables.
+RULES = IN_HISTORIES | {
+    "3 tested before 2": in_place("planners_refused", three_before_two),
+    "6 tested before 3": in_place("planners_refused", six_before_three),
+    "more rows than clients taken": in_place("planners_refused", more_rows_taken),
+    "the first record not tested": in_place("planners_refused", tested_without(0)),
+    "the last record not tested": in_place("planners_refused", tested_without(-1)),
+    "32,768 clients cut to 32,767": in_place("planners_refused", first_32767_tested),
+    "a refused page zeroes its rows": in_place("planners_page", zeroed_if_refused),
+    "4 tested before 3": in_place("run_refused", four_before_three),
+    "a run's page tests every record": in_place("run_refused", every_record_tested),
+    "a run's page does not test its record": in_place("run_refused", own_not_tested),
+    "a refused page has the count": in_place("run_page", count_when_refused),
+    "a refused page has the record": in_place("run_page", record_when_refused),
+    "readable clients counted": in_place("run_page", readable_counted),
+    "a count of 8 bits": in_place("held_count", lambda records: sum(record.phase == 9 for record in records) % 256),
+    "a count that 32,767 brings back to 0": in_place("held_count", lambda records: sum(record.phase == 9 for record in records) % 32767),
+    "the settings not tested": in_place("settings_outside", lambda settings: False),
+}
+
+
+def halves(read, opened):
+    """The planners' lines, and the runs'."""
+    printed = list(lines(read, opened))
+    return printed[:read.clients], printed[read.clients:]
+
+
+def with_header_line(read, opened):
+    yield schedule.header_line(read)
+    yield from lines(read, opened)
+
+
+def runs_first(read, opened):
+    planners, runs = halves(read, opened)
+    return runs + planners
+
+
+def client_by_client(read, opened):
+    """Each client's row with its record behind it."""
+    return (line for pair in zip(*halves(read, opened)) for line in pair)
+
+
+def words_changed(change):
+    """The words of a run's line changed: its client, the record's fields and the count."""
+    def changed(read, opened):
+        planners, runs = halves(read, opened)
+        return planners + [pages.line(*change(line.split())) for line in runs]
+    return changed
+
+
+def idle_left_out(read, opened):
+    return (line for line in lines(read, opened) if set(line.split()[1:]) != {"0"})
+
+
+def before_the_last_call(read, opened):
+    return lines(read._replace(calls=read.calls[:-1]), opened)
+
+
+def from_1(read, opened):
+    for line in lines(read, opened):
+        client, *rest = line.split()
+        yield pages.line(int(client) + 1, *rest)
+
+
+# What `rangepages` prints, broken.
+PRINTED = {
+    "a header line": in_place("lines", with_header_line),
+    "the runs' lines first": in_place("lines", runs_first),
+    "client by client": in_place("lines", client_by_client),
+    "no count": in_place("lines", words_changed(lambda words: words[:-1])),
+    "the count before the record": in_place("lines", words_changed(lambda words: [words[0], words[-1], *words[1:-1]])),
+    "t0 before t1": in_place("lines", words_changed(lambda words: [*words[:-3], words[-2], words[-3], words[-1]])),
+    "no outcome": in_place("lines", words_changed(lambda words: [*words[:2], *words[3:]])),
+    "idle clients left out": in_place("lines", idle_left_out),
+    "the last call not made": in_place("lines", before_the_last_call),
+    "clients numbered from 1": in_place("lines", from_1),
+}

@@ -1,0 +1,116 @@
+"""The expected answers in tests/vectors, which were made apart from this repository: the model and the compiled code are held to every one
+of them."""
+
+from itertools import islice
+from typing import NamedTuple
+
+from compare import NAMES, case
+from compiled_table import Table
+from library import ROOT
+from model.history import KINDS, Call
+from model.record import Record, Settings
+from programs import PROGRAMS
+from table_cases import model_answer
+
+VECTORS = ROOT / "tests" / "vectors"
+
+# How many there are: one that is missing is a failure.
+STATES = 600
+SCHEDULES = 40
+
+# In a state stand six settings, of which the last are none yet.
+SETTINGS = 6
+
+NAMES["state"] = ("place", "kind", "by"), ("number", "clock", "records unlike", "words unlike")
+NAMES["expected answers"] = ("place",), ("files or states found", "names missing or too many")
+
+
+class State(NamedTuple):
+    """A lent table, one call on it, and what it must leave."""
+
+    settings: Settings
+    words: list
+    records: list
+    last: int
+    call: Call
+    number: int
+    clock: int
+    words_after: list
+    records_after: list
+
+
+def taken(numbers, count):
+    """The next numbers, so many of them."""
+    found = list(islice(numbers, count))
+    if len(found) != count:
+        raise ValueError("the states end within one")
+    return found
+
+
+def records_in(numbers, count):
+    return [Record(*taken(numbers, len(Record._fields))) for _ in range(count)]
+
+
+def state_in(numbers):
+    """The state that the next numbers say."""
+    settings = Settings(*taken(numbers, SETTINGS)[:len(Settings._fields)])
+    words = taken(numbers, *taken(numbers, 1))
+    clients, last = taken(numbers, 2)
+    records = records_in(numbers, clients)
+    kind, *asked = taken(numbers, 4)
+    number, clock = taken(numbers, 2)
+    after = taken(numbers, len(words)), records_in(numbers, clients)
+    return State(settings, words, records, last, Call(KINDS[kind], *asked), number, clock, *after)
+
+
+def all_states():
+    """The states of the file, as far as they are whole; not more than one too many."""
+    numbers, found = map(int, (VECTORS / "states.txt").read_text().split()), []
+    while len(found) <= STATES:
+        try:
+            found.append(state_in(numbers))
+        except ValueError:
+            break
+    return found
+
+
+def unlike(mine, others):
+    return sum(one != other for one, other in zip(mine, others, strict=True))
+
+
+def by_model(state):
+    words, records = list(state.words), list(state.records)
+    answer = model_answer(state.settings, words, records, state.call, state.last)
+    return *answer, unlike(records, state.records_after), unlike(words, state.words_after)
+
+
+def by_compiled(state):
+    table = Table(state.settings, state.words, state.records)
+    answer = table.answer(state.call, state.last, KINDS.index(state.call.kind))
+    return *answer, *table.unlike(state.words_after, state.records_after)
+
+
+def states():
+    """Each call gives the number and leaves the clock, the records and the words that are expected, by the model and compiled."""
+    found = all_states()
+    yield case("expected answers", [0], (STATES, 0)), (len(found), 0)
+    for place, state in enumerate(found):
+        for by, answer in enumerate((by_model(state), by_compiled(state))):
+            yield case("state", [place, KINDS.index(state.call.kind), by], (state.number, state.clock, 0, 0)), answer
+
+
+def schedules(program):
+    """Of each schedule the model and the program print what is expected."""
+    folder = VECTORS / "schedules"
+    names = {f"{place:02}" for place in range(SCHEDULES)}
+    for place, ending in enumerate((".bin", program.ending)):
+        there = {path.stem for path in folder.glob(f"*{ending}")}
+        yield case("expected answers", [1 + place], (SCHEDULES, 0)), (len(there), len(there ^ names))
+    for path in sorted(folder.glob("*.bin")):
+        yield from program.held_to_file(path)
+
+
+SUITES = {
+    "expected answers, lent tables of any content": states,
+    **{f"expected answers, {program.name}": lambda program=program: schedules(program) for program in PROGRAMS},
+}
