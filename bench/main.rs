@@ -11,6 +11,7 @@ mod network;
 #[path = "../include/nolthewyr.rs"]
 mod nolthewyr;
 mod opening;
+mod pages;
 mod phases;
 mod random;
 mod ranges;
@@ -36,4 +37,5 @@ fn main() {
     growth::measure_clients();
     growth::measure_levels();
     opening::measure();
+    pages::measure();
 }

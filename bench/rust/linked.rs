@@ -1,8 +1,8 @@
 //! The calls by C's convention, with the signatures that the libraries `nolthewyr` and `probe` have.
 
 use super::Cover;
-use crate::nolthewyr::{Answer, Call, CoverAnswer, Record, Settings};
-use std::slice::from_raw_parts_mut;
+use crate::nolthewyr::{Answer, Call, CoverAnswer, Record, Row, RunPageAnswer, Settings};
+use std::slice::{from_raw_parts, from_raw_parts_mut};
 
 /// The lent records and words, as slices.
 ///
@@ -33,6 +33,27 @@ linked!(request, step, untested_step, release, cancel);
 pub unsafe extern "C" fn open(records: *mut Record, clients: usize, words: *mut u64, count: usize, settings: Settings) -> u64 {
     let (records, words) = lent(records, clients, words, count);
     super::open(records, words, &settings)
+}
+
+pub unsafe extern "C" fn planners_page(
+    records: *const Record,
+    clients: usize,
+    rows: *mut Row,
+    count: usize,
+    settings: Settings,
+    last: u64,
+) -> u64 {
+    super::planners_page(from_raw_parts(records, clients), from_raw_parts_mut(rows, count), &settings, last)
+}
+
+pub unsafe extern "C" fn run_page(
+    records: *const Record,
+    clients: usize,
+    settings: Settings,
+    client: u64,
+    last: u64,
+) -> RunPageAnswer {
+    super::run_page(from_raw_parts(records, clients), &settings, client, last)
 }
 
 pub unsafe extern "C" fn cover(levels: u64, l: u64, r: u64) -> CoverAnswer {

@@ -2,6 +2,7 @@
 //! says and changes the record where it stands.
 
 pub mod linked;
+mod pages;
 mod record;
 mod step;
 mod tree;
@@ -10,6 +11,7 @@ mod word;
 
 use crate::nolthewyr::{Answer, Call, Record, Settings};
 
+pub use pages::{planners_page, run_page};
 pub use tree::{nodes, Cover};
 
 const MOST_CLIENTS: usize = 32767;
@@ -32,18 +34,33 @@ fn has_levels(levels: u64) -> bool {
     (2..=12).contains(&levels)
 }
 
+/// Cause 1.
+fn test_settings(settings: &Settings) -> Result<(), Cause> {
+    let Settings { levels, distance, wait } = *settings;
+    let inside = has_levels(levels) && (1..=4).contains(&distance) && (1..=u32::MAX as u64).contains(&wait);
+    if inside {
+        Ok(())
+    } else {
+        Err(Cause::Settings)
+    }
+}
+
+/// Cause 3.
+fn test_clients(records: &[Record]) -> Result<(), Cause> {
+    if (1..=MOST_CLIENTS).contains(&records.len()) {
+        Ok(())
+    } else {
+        Err(Cause::ClientCount)
+    }
+}
+
 /// Causes 1 to 3.
 fn test_table(records: &[Record], words: &[u64], settings: &Settings) -> Result<(), Cause> {
-    let Settings { levels, distance, wait } = *settings;
-    if !has_levels(levels) || !(1..=4).contains(&distance) || !(1..=u32::MAX as u64).contains(&wait) {
-        Err(Cause::Settings)
-    } else if words.len() as u64 != nodes(levels) {
-        Err(Cause::WordCount)
-    } else if !(1..=MOST_CLIENTS).contains(&records.len()) {
-        Err(Cause::ClientCount)
-    } else {
-        Ok(())
+    test_settings(settings)?;
+    if words.len() as u64 != nodes(settings.levels) {
+        return Err(Cause::WordCount);
     }
+    test_clients(records)
 }
 
 /// Makes a call on the record of its client, after causes 1 to 4. An accepted call leaves the given clock, a refused one the last.
