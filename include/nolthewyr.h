@@ -2,9 +2,10 @@
  *
  * The library allocates nothing: the caller lends records and words. The proof of the calls assumes what Rust's references give, and
  * from C it is the caller's duty:
- * - each length is true: `records` has `clients` elements, and `words` or `rows` has `count`, at aligned addresses;
+ * - each length is true: `records` has `clients` elements, and `words` or `rows` has `count`, at aligned addresses; no pointer is null;
  * - the two arrays do not overlap;
- * - while a call runs nobody else reads or writes them, and between the calls of one table nobody else writes them.
+ * - while a call runs nobody else reads or writes them (while a page is asked for, others may read the records), and between the calls
+ *   of one table nobody else writes them.
  * All else is tested: a call with any other numbers in its arguments or in the arrays is accepted or refused by a number. */
 
 #ifndef NOLTHEWYR_H
@@ -18,7 +19,7 @@ extern "C" {
 #endif
 
 /* The version of this header. Records grow between versions: a program goes with a library whose first two numbers are the same, and
- * whose third is not lower, since the third grows with new functions. */
+ * whose third, which grows with new functions, is not lower if the program calls one of these. */
 #define NOLTHEWYR_VERSION "0.1.1"
 
 /* Where a client is. It holds its window exactly while its phase is 9. */
@@ -48,7 +49,7 @@ enum nolthewyr_outcome {
 enum nolthewyr_cause {
     NOLTHEWYR_CAUSE_ACCEPTED = 0,
     NOLTHEWYR_CAUSE_SETTINGS = 1,
-    NOLTHEWYR_CAUSE_WORD_COUNT = 2,
+    NOLTHEWYR_CAUSE_WORD_COUNT = 2, /* of a planners' page: not one row for each client */
     NOLTHEWYR_CAUSE_CLIENT_COUNT = 3,
     NOLTHEWYR_CAUSE_CLIENT = 4,
     NOLTHEWYR_CAUSE_CLOCK = 5,

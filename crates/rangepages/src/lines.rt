@@ -10,6 +10,8 @@ use schedule::put_bytes;
 use schedule::put_decimal;
 use schedule::put_spaced;
 
+// A number has at most 20 digits, and one byte stands before or behind it: seven numbers are 147 bytes, sixteen are 336.
+
 // A client's row on the planners' page.
 pub fn put_row(out: &mut [u8], at: usize, client: u64, row: Row) -> usize
     requires { ⌜ at + 147 ≤ length (now out) ⌝ }
