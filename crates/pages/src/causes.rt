@@ -2,6 +2,7 @@
 ghost use mathlib.Core.Path.{_≡_};
 ghost use Rattle.pages.specs.laws.Causes.{plannersCause, runCause};
 use lock::Settings;
+use table::clients_outside;
 
 // Causes 1, 2, "other than one row a client", and 3.
 pub fn planners_cause(settings: Settings, rows: usize, records: usize) -> u64
@@ -13,7 +14,7 @@ pub fn planners_cause(settings: Settings, rows: usize, records: usize) -> u64
     if rows != records {
         return 2;
     }
-    if (records == 0) | (32767 < records) {
+    if clients_outside(records) {
         return 3;
     }
     0
@@ -26,7 +27,7 @@ pub fn run_cause(settings: Settings, records: usize, client: u64) -> u64
     if settings.outside() {
         return 1;
     }
-    if (records == 0) | (32767 < records) {
+    if clients_outside(records) {
         return 3;
     }
     if records as u64 <= client {

@@ -7,7 +7,7 @@ use lock::Settings;
 
 // 1 for a client in phase 9, by its phase number alone.
 pub fn in_phase_9(one: Record) -> u64
-    ensures { λ n. ⌜ n ≡ inPhase9 one ⌝ }
+    ensures { λ n. ⌜ n ≡ inPhase9 (one .phase) ⌝ }
 {
     if one.phase == 9 {
         return 1;

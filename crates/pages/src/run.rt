@@ -9,7 +9,7 @@ use crate::counts;
 use lock::Record;
 use lock::Settings;
 
-// "Refused": the number, and zeros.
+// A refused page: the number, and zeros.
 fn refused_page(number: u64) -> RunPage
     ensures { λ p. ⌜ p ≡ refusedPage number ⌝ }
 {

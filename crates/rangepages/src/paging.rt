@@ -5,7 +5,7 @@ ghost use lib.ListN.{length, take};
 ghost use Rattle.io.specs.Counts.{Counts};
 ghost use Rattle.lock.specs.laws.Active.{Settled};
 ghost use Rattle.pages.specs.rules.Pages.{heldCount};
-ghost use Rattle.schedule.specs.rules.Running.{recordsOf};
+ghost use Rattle.schedule.specs.laws.RunLaws.{recordsOf};
 ghost use Rattle.schedule.specs.rules.Refusal.{refusal};
 ghost use Rattle.schedule.specs.laws.Appended.{Appended};
 ghost use Rattle.rangepages.specs.rules.Printed.{rowLine, recordLine, lineEach, room, pagesOf, Paged};
@@ -14,7 +14,7 @@ use crate::lines;
 use lock::Settings;
 use schedule::Run;
 
-// How many of the run's clients are in phase 9.
+// How many of the schedule's clients are in phase 9.
 fn held_in(run: Run) -> u64
     requires { ⌜ Full run ⌝ }
     ensures { λ n. ⌜ n ≡ heldCount (recordsOf run) ⌝ }

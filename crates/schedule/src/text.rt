@@ -1,4 +1,4 @@
-// The log's text. Each function writes its piece into the lent bytes from `at` on, and answers where the piece ends. The bytes before `at` stay.
+// What is written: numbers and words, which every program's text is made of, and the lines of the log. Each function writes its piece into the lent bytes from `at` on, and answers where the piece ends. The bytes before `at` stay.
 ghost use Prim.Native.Nat.{_+_, _≤_};
 ghost use mathlib.Core.List.{_++_};
 ghost use lib.ListN.{length};

@@ -1,10 +1,18 @@
 // The tests that stand before a client's own: causes 1 to 4.
 ghost use mathlib.Core.Path.{_≡_};
+ghost use Rattle.lock.specs.rules.Calls.{clientsOutside};
 ghost use Rattle.lock.specs.rules.Table.{openingNumber};
 ghost use Rattle.table.specs.laws.Causes.{tableCause};
 use lock::Settings;
 
-// Causes 1 to 3: settings outside their ranges, a word count that is not the tree's, "no clients, or over 32,767".
+// Cause 3: "no clients, or over 32,767".
+pub fn clients_outside(records: usize) -> bool
+    ensures { λ b. ⌜ b ≡ clientsOutside records ⌝ }
+{
+    (records == 0) | (32767 < records)
+}
+
+// Causes 1 to 3: settings outside their ranges, a word count that is not the tree's, and the clients.
 pub fn opening_cause(settings: Settings, words: usize, records: usize) -> u64
     ensures { λ n. ⌜ n ≡ openingNumber settings words records ⌝ }
 {
@@ -12,7 +20,7 @@ pub fn opening_cause(settings: Settings, words: usize, records: usize) -> u64
     if cause != 0 {
         return cause;
     }
-    if (records == 0) | (32767 < records) {
+    if clients_outside(records) {
         return 3;
     }
     0

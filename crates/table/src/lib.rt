@@ -12,6 +12,7 @@ mod by_levels;
 mod causes;
 mod zeroes;
 
+pub use causes::clients_outside;
 pub use causes::opening_cause;
 
 // What a call over the table answers: its number (0 accepted) and the clock after it.

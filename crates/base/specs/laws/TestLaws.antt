@@ -1,7 +1,15 @@
--- Laws of tests joined by `||`. Assumes nothing.
+-- Laws of tests, and of tests joined by `||`. Assumes nothing.
 use mathlib.Core.Path.{_≡_, refl, sym, ap, _∙_, subst}
-use mathlib.Core.Bool.{Bool, true, false, _||_}
+use mathlib.Core.Bool.{Bool, true, false, not, _||_}
 use lib.Dec.{T}
+
+pub test-true : (b : Bool) → T b → b ≡ true
+test-true true t = refl
+test-true false t = absurd t
+
+pub test-false : (b : Bool) → T (not b) → b ≡ false
+test-false true t = absurd t
+test-false false t = refl
 
 pub true-first : (a b : Bool) → a ≡ true → true ≡ (a || b)
 true-first a b e = ap (λ c. c || b) (sym e)

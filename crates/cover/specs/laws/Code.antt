@@ -4,7 +4,7 @@ use mathlib.Core.Bool.{Bool, true, false, not, _||_}
 use mathlib.Core.List.{List, [], _∷_}
 use Prim.Native.Nat.{ℕ, suc, _+_, _-_, _*_, _/_, _%_, _^_, _≤_, _<_}
 use native.Mathlib.Omega.{arith}
-use borrow.Author.Tests.{ltb-false, leb-false}
+use borrow.Author.Tests.{ltb-false, leb-false, le-ltb, lt-leb}
 use lib.Dec.{eqb, leb, ltb}
 use lib.ListN.{getD}
 use native.Mathlib.Nat.{mod-eq-of-lt, div-mul-le-self, div-one}
@@ -250,3 +250,12 @@ module _ (h l r : ℕ) where
   window-inside a b e =
       let t = both-false (leb r l) _ e in
       record { levels = a; most = b; some = leb-false r l (t .0); fits = ltb-false (units h) r (t .1) }
+
+  -- and the other way round
+  pub levels-right : 2 ≤ h → h ≤ 12 → levelsOutside h ≡ false
+  unfolding levelsOutside
+  levels-right a b = rw (le-ltb h 2 a, le-ltb 12 h b)
+
+  pub window-right : Window h l r → windowOutside h l r ≡ false
+  unfolding windowOutside
+  window-right w = rw (lt-leb r l (w .some), le-ltb (units h) r (w .fits))

@@ -1,14 +1,15 @@
 -- Laws: the step of phase 5 owes nothing to the invariant. Assumes nothing.
 use mathlib.Core.Path.{_≡_, refl, sym, subst}
 use mathlib.Core.Logic.{_≢_, _⊎_, inl, inr, ⊎-elim}
-use mathlib.Core.Bool.{Bool, true, false, not}
+use mathlib.Core.Bool.{true, false}
 use mathlib.Core.List.{List}
 use Prim.Native.Nat.{ℕ, _+_, _≤_, _<_}
 use native.Mathlib.Omega.{arith}
 use borrow.Author.Tests.{ne-eqb}
-use lib.Dec.{T, eqb→eq}
+use lib.Dec.{eqb→eq}
 use lib.ListN.{length}
 use Rattle.base.specs.laws.ChoiceLaws.{on-choose, neqb→ne}
+use Rattle.base.specs.laws.TestLaws.{test-true, test-false}
 use Rattle.word.specs.rules.Word.{addOcc, takeBits}
 use Rattle.word.specs.laws.Leaf.{wanted-lt}
 use Rattle.word.specs.laws.Swap.{take-failed}
@@ -36,14 +37,6 @@ use Rattle.lock.specs.claim.Forward.{kin, onward-unreturned, forward-gri
 use Rattle.lock.specs.claim.Onward.{asked-kin, asked-same, onward, onward-low}
 use Rattle.lock.specs.claim.Keeps.{Keeps, keeps-quiet}
 use Rattle.lock.specs.claim.Climbing.{climbing-fit}
-
-pub test-true : (b : Bool) → T b → b ≡ true
-test-true true t = refl
-test-true false t = absurd t
-
-pub test-false : (b : Bool) → T (not b) → b ≡ false
-test-false true t = absurd t
-test-false false t = refl
 
 module _ (s : Settings) (rs : List Record) (r : Record) (last now : ℕ) (later : last ≤ now) (g : Settled s) (rd : Ready s r last) (v : Fit s r last) (w : ℕ) (e : r .phase ≡ 5) where
   abbrev n : ℕ

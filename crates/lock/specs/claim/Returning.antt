@@ -9,6 +9,7 @@ use borrow.Author.Tests.{eq-eqb, ne-eqb}
 use lib.Dec.{eqb, ltb, eqb→eq, ltb→lt}
 use lib.ListN.{length, getD}
 use Rattle.base.specs.laws.ChoiceLaws.{on-choose, by-lt, by-eq, neqb→ne}
+use Rattle.base.specs.laws.TestLaws.{test-true}
 use Rattle.word.specs.rules.Word.{tcnt, addTcnt, addDcnt, giveBits, returnOcc}
 use Rattle.tree.specs.rules.Tree.{left, level, Node}
 use Rattle.tree.specs.rules.Lists.{notifyList}
@@ -31,7 +32,6 @@ use Rattle.lock.specs.claim.Timed.{Timely}
 use Rattle.lock.specs.claim.Forward.{kin}
 use Rattle.lock.specs.claim.Backward.{own-returned, notice-returned, notice-back, word-returned-same, turn-returned}
 use Rattle.lock.specs.claim.Onward.{asked-same, timely-returning, timely-first}
-use Rattle.lock.specs.claim.Claiming.{test-true}
 use Rattle.lock.specs.claim.Keeps.{Keeps, keeps-stay, notified-inner}
 
 module _ (s : Settings) (rs : List Record) (r : Record) (last now : ℕ) (later : last ≤ now) (g : Settled s) (rd : Ready s r last) (v : Fit s r last) (w : ℕ) (e : r .phase ≡ 10) where

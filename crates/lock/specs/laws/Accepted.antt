@@ -31,12 +31,12 @@ test-passed false k ts some e = (refl, e)
 -- ---- 1 to 4
 
 tree-tested : (s : Settings) (count : ℕ) (ts : Tests) → firstCause (treeTests s count ++ ts) ≡ 0
-    → Settled s × (count ≡ wordCount (s .levels)) × (firstCause ts ≡ 0)
+    → (settingsOutside s ≡ false) × (count ≡ wordCount (s .levels)) × (firstCause ts ≡ 0)
 unfolding treeTests
 tree-tested s count ts e =
     let a = test-passed (settingsOutside s) 1 ((differ count (wordCount (s .levels)), 2) ∷ ts) (omega arith) e in
     let b = test-passed (differ count (wordCount (s .levels))) 2 ts (omega arith) (a .1) in
-    (settled s (a .0), same-number count (wordCount (s .levels)) (b .0), b .1)
+    (a .0, same-number count (wordCount (s .levels)) (b .0), b .1)
 
 few-clients : (count : ℕ) → clientsOutside count ≡ false → count ≤ 32767
 unfolding clientsOutside
@@ -57,19 +57,25 @@ accepted s st k e =
     let b = test-passed (clientsOutside (length (st .records))) 3 ((leb (length (st .records)) (clientOf k), 4) ∷ rest) (omega arith) (a .2) in
     let c = test-passed (leb (length (st .records)) (clientOf k)) 4 rest (omega arith) (b .1) in
     record {
-      settled = a .0;
+      settled = settled s (a .0);
       count = a .1;
       few = few-clients (length (st .records)) (b .0);
       client = leb-false (length (st .records)) (clientOf k) (c .0);
       own = c .1;
     }
 
+-- what an accepted opening has tested
+pub opening-tested : (s : Settings) (words records : ℕ) → openingNumber s words records ≡ 0 → (settingsOutside s ≡ false) × (words ≡ wordCount (s .levels)) × (clientsOutside records ≡ false)
+unfolding openingNumber
+opening-tested s words records e =
+    let a = tree-tested s words ((clientsOutside records, 3) ∷ []) e in
+    (a .0, a .1, test-passed (clientsOutside records) 3 [] (omega arith) (a .2) .0)
+
 pub opened-accepted : (s : Settings) (st : State) → openingNumber s (length (st .words)) (length (st .records)) ≡ 0
     → Settled s × (length (st .words) ≡ wordCount (s .levels)) × (length (st .records) ≤ 32767)
-unfolding openingNumber
 opened-accepted s st e =
-    let a = tree-tested s (length (st .words)) ((clientsOutside (length (st .records)), 3) ∷ []) e in
-    (a .0, a .1, few-clients (length (st .records)) (test-passed (clientsOutside (length (st .records))) 3 [] (omega arith) (a .2) .0))
+    let a = opening-tested s (length (st .words)) (length (st .records)) e in
+    (settled s (a .0), a .1, few-clients (length (st .records)) (a .2))
 
 -- ---- 5 to 9, by the kind of call
 

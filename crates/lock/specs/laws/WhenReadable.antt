@@ -10,11 +10,11 @@ use lib.ListN.{length, getD}
 use Rattle.base.specs.rules.Choice.{choose}
 use Rattle.base.specs.laws.ChoiceLaws.{choose-eq, choose-ne, by-lt, by-eq}
 use Rattle.base.specs.laws.TestLaws.{both-false}
-use Rattle.tree.specs.rules.Tree.{level, units}
+use Rattle.tree.specs.rules.Tree.{level}
 use Rattle.tree.specs.rules.Lists.{ancestors, notifyList, checkList}
 use Rattle.tree.specs.laws.Ancestors.{ancestors-count}
-use Rattle.cover.specs.rules.Answer.{windowOutside}
 use Rattle.cover.specs.laws.Lowest.{Window}
+use Rattle.cover.specs.laws.Code.{window-right}
 use Rattle.lock.specs.declared.Record.{Record}
 use Rattle.lock.specs.declared.Settings.{Settings}
 use Rattle.lock.specs.rules.Records.{coverOf, pieces, pieceAt, currentPiece, isLeaf, gripOf, noticesOf, idleWith}
@@ -64,10 +64,10 @@ module _ (s : Settings) (r : Record) where
   -- ---- what every phase but idle asks
 
   covered : Window (s .levels) (r .left) (r .right) → pieces r ≡ coverOf s (r .left) (r .right) → notCovered s r ≡ false
-  unfolding notCovered windowOutside pieceAt
+  unfolding notCovered pieceAt
   covered w e =
       ap₂ _||_
-      (ap₂ _||_ (ap₂ _||_ (lt-leb (r .right) (r .left) (w .some)) (le-ltb (units (s .levels)) (r .right) (w .fits))) (alike (r .first) _ (sym (piece-first r) ∙ ap (λ c. getD c 0 0) e)))
+      (ap₂ _||_ (window-right (s .levels) (r .left) (r .right) w) (alike (r .first) _ (sym (piece-first r) ∙ ap (λ c. getD c 0 0) e)))
       (alike (r .second) _ (second-is r ∙ ap (λ c. getD c 1 0) e))
 
   module _ (last : ℕ) where

@@ -1,4 +1,5 @@
--- To be believed: document 01, section "Histories": what a history is, and from it alone when a client holds, when it is idle, and what demand 3 claims.
+-- To be believed: document 01, section "Histories": what a history is, and from it alone when a client holds, when it is idle, and what demand 3 claims; and what it is that every record is
+-- readable, by cause 6.
 -- Assumes nothing.
 use mathlib.Core.Path.{_≡_}
 use mathlib.Core.Logic.{_⊎_}

@@ -61,8 +61,9 @@ computed :
     × (length (table climbing) ≡ length (table ticketed)) × (ownRecord (table climbing) 0 ≡ ownRecord (table ticketed) 0) × (heldCount (table climbing) ≡ heldCount (table ticketed))
     × (ownRecord (table climbing) 0 ≡ ownRecord (table holding) 0)
     × (seen climbing .number ≡ 0) × (seen climbing .held ≡ 1) × (seen holding .number ≡ 0) × (seen holding .held ≡ 2)
+    × (run settings fresh climbing .clock ≡ 1) × (run settings fresh ticketed .clock ≡ 1) × (run settings fresh holding .clock ≡ 1)
 unfolding run call numberOf after ownTests recordAt clientOf opening openingNumber opened firstCause settingsOutside treeTests clientsOutside clientTests requestTests stepTests releaseTests cancelTests requested released cancelled touchedIn startPhase begin taken ticketTaken turnAwaited goUp climbed unblocked bitsClaimed occClaimed allNotified noticeGiven waited checkPassed pieceReturned wordReturned turnReturned claimPiece returnBits returnInner giveBack movedIn numberTooLarge idleFilled notCovered noCurrent ticketTooLarge fieldsWrong listLength placePast noticesWrong timeAhead phaseElsewhere heldEarly outcomeWrong lacksGrip givingWrong unreadable phaseOf pieces pieceAt isLeaf gripOf noticesOf wordAt written levelsOutside windowOutside lesser behind leastOf rest search found leastCover before part over total rank upward ancestors ancestor notifies notifiedFrom notifyLevels notifyList row descendants nearest checkList climb leftmost first level levelWithin size left units holder wordCount field putField addField matches replaced maskedSwap leafBits wantedBits takeBits giveBits returnOcc choose anyUnreadable inPhase9 heldCount runTests runNumber runPage
-computed = (refl, refl, refl, refl, refl, refl, refl, refl, refl, refl, refl, refl, refl, refl)
+computed = (refl, refl, refl, refl, refl, refl, refl, refl, refl, refl, refl, refl, refl, refl, refl, refl, refl)
 
 -- ---- the same page of tables that differ, and pages that differ
 

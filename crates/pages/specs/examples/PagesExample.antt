@@ -11,13 +11,13 @@ use Rattle.tree.specs.rules.Lists.{upward, ancestors, ancestor, notifies, notif
 use Rattle.cover.specs.rules.Cover.{part, over, total, rank}
 use Rattle.cover.specs.rules.Search.{before, lesser, behind, leastOf, rest, search, found, leastCover}
 use Rattle.cover.specs.rules.Answer.{levelsOutside, windowOutside}
-use Rattle.lock.specs.declared.Settings.{Settings}
 use Rattle.lock.specs.rules.Records.{phaseOf, pieces, pieceAt, isLeaf, gripOf, noticesOf, wordAt, written}
 use Rattle.lock.specs.rules.Unreadable.{numberTooLarge, idleFilled, notCovered, noCurrent, ticketTooLarge, fieldsWrong, listLength, placePast, noticesWrong, timeAhead, phaseElsewhere, heldEarly, outcomeWrong, lacksGrip, givingWrong, unreadable}
 use Rattle.lock.specs.rules.Steps.{touchedIn, startPhase, taken, ticketTaken, turnAwaited, goUp, climbed, bitsClaimed, occClaimed, allNotified, noticeGiven, claimPiece, movedIn}
 use Rattle.lock.specs.rules.Calls.{firstCause, settingsOutside, treeTests, clientsOutside, clientTests, requestTests, stepTests, requested}
 use Rattle.lock.specs.rules.Table.{State, clientOf, recordAt, ownTests, numberOf, after, call, openingNumber, opened, opening}
 use Rattle.lock.specs.rules.History.{run}
+use Rattle.lock.specs.examples.HistoryExample.{settings as wide}
 use Rattle.lock.specs.examples.WholeCase.{settings, lent, calls}
 use Rattle.pages.specs.declared.Row.{Row}
 use Rattle.pages.specs.rules.Pages.{rowOf, anyUnreadable, plannersTests, plannersNumber, page, plannersPage}
@@ -39,9 +39,6 @@ unfolding plannersPage plannersNumber plannersTests anyUnreadable rowOf run call
 planners-whole-case = (refl, refl)
 
 -- "H = 3 for covers": "[0, 129) node 2, over-cover 127"
-abbrev wide : Settings
-wide = record { levels = 3; distance = 1; wait = 5 }
-
 pub row-over-cover : rowOf wide (requested wide 0 129) ≡ row-with 1 0 129 2 0 127
 unfolding rowOf requested startPhase isLeaf pieces leastCover found search rest leastOf behind lesser before rank total over part holder left size units level levelWithin first leftmost climb choose
 row-over-cover = refl

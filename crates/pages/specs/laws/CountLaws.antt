@@ -31,22 +31,22 @@ module _ (s : Settings) (last : ℕ) where
 
 -- ---- how many are in phase 9
 
-pub phase-9-most : (r : Record) → inPhase9 r ≤ 1
+pub phase-9-most : (phase : ℕ) → inPhase9 phase ≤ 1
 unfolding inPhase9
-phase-9-most r = on-choose (λ n. n ≤ 1) (eqb (r .phase) 9) 1 0 (λ _. omega arith) (λ _. omega arith)
+phase-9-most phase = on-choose (λ n. n ≤ 1) (eqb phase 9) 1 0 (λ _. omega arith) (λ _. omega arith)
 
 -- no more than there are
 pub held-most : (l : List Record) (i : ℕ) → heldCount (take i l) ≤ i
 unfolding heldCount
 held-most l zero = omega arith
 held-most [] (suc i) = omega arith
-held-most (r ∷ rs) (suc i) = omega (arith, phase-9-most r, held-most rs i)
+held-most (r ∷ rs) (suc i) = omega (arith, phase-9-most (r .phase), held-most rs i)
 
-held-suc : (l : List Record) (i : ℕ) (d : Record) → i < length l → heldCount (take i l) + inPhase9 (getD l i d) ≡ heldCount (take (suc i) l)
+held-suc : (l : List Record) (i : ℕ) (d : Record) → i < length l → heldCount (take i l) + inPhase9 (getD l i d .phase) ≡ heldCount (take (suc i) l)
 unfolding heldCount
 held-suc [] i d h = absurd (omega arith)
 held-suc (r ∷ rs) zero d h = omega arith
 held-suc (r ∷ rs) (suc i) d h = omega (arith, held-suc rs i d (omega arith))
 
-pub held-next : (l : List Record) (i : ℕ) (d : Record) → i < length l → heldCount (take i l) + inPhase9 (getD l i d) ≡ heldCount (take (i + 1) l)
+pub held-next : (l : List Record) (i : ℕ) (d : Record) → i < length l → heldCount (take i l) + inPhase9 (getD l i d .phase) ≡ heldCount (take (i + 1) l)
 held-next l i d h = held-suc l i d h ∙ ap (λ (k : ℕ). heldCount (take k l)) (sym (add-one i))

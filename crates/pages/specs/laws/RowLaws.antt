@@ -4,16 +4,13 @@ use mathlib.Core.Bool.{false}
 use mathlib.Core.List.{List, [], _∷_}
 use Prim.Native.Nat.{ℕ, zero, suc, _<_}
 use native.Mathlib.Nat.{not-suc-le-zero, le-of-suc-le-suc}
-use borrow.Author.Tests.{lt-leb, le-ltb}
 use lib.ListN.{length, getD}
 use Rattle.base.specs.laws.TestLaws.{both-false}
 use Rattle.base.specs.laws.ChoiceLaws.{choose-eq, choose-ne}
-use Rattle.tree.specs.rules.Tree.{units}
 use Rattle.cover.specs.declared.Answer.{Answer}
 use Rattle.cover.specs.rules.Cover.{total}
-use Rattle.cover.specs.rules.Answer.{levelsOutside, windowOutside, accepted, answer}
-use Rattle.cover.specs.laws.Lowest.{Window}
-use Rattle.cover.specs.laws.Code.{window-covered}
+use Rattle.cover.specs.rules.Answer.{accepted, answer}
+use Rattle.cover.specs.laws.Code.{window-covered, levels-right, window-right}
 use Rattle.lock.specs.declared.Record.{Record}
 use Rattle.lock.specs.declared.Settings.{Settings}
 use Rattle.lock.specs.rules.Records.{pieces}
@@ -28,21 +25,13 @@ pub row-idle : (s : Settings) (r : Record) → r .phase ≡ 0 → record { phase
 unfolding rowOf
 row-idle s r z = sym (choose-eq (r .phase) 0 _ _ z)
 
-levels-are : (s : Settings) → Settled s → levelsOutside (s .levels) ≡ false
-unfolding levelsOutside
-levels-are s v = rw (le-ltb (s .levels) 2 (v .levels-some), le-ltb 12 (s .levels) (v .levels-most))
-
-window-is : (h l r : ℕ) → Window h l r → windowOutside h l r ≡ false
-unfolding windowOutside
-window-is h l r w = rw (lt-leb r l (w .some), le-ltb (units h) r (w .fits))
-
 module _ (s : Settings) (r : Record) (last : ℕ) (v : Settled s) (u : unreadable s r last ≡ false) (d : r .phase ≡ 0 → ⊥) where
   -- the over-cover of a window's cover is that of the record's pieces, since these are its cover
   over-is : answer (s .levels) (r .left) (r .right) .over ≡ total (s .levels) (r .left) (r .right) (pieces r)
   unfolding accepted
   over-is =
       let known = active s r last v u d in
-      ap (λ (a : Answer). a .over) (sym (window-covered (s .levels) (r .left) (r .right) (levels-are s v) (window-is _ _ _ (known .window))))
+      ap (λ (a : Answer). a .over) (sym (window-covered (s .levels) (r .left) (r .right) (levels-right (s .levels) (r .left) (r .right) (v .levels-some) (v .levels-most)) (window-right (s .levels) (r .left) (r .right) (known .window))))
       ∙ ap (total (s .levels) (r .left) (r .right)) (sym (known .cover))
 
   pub row-active : (a : Answer) → a ≡ answer (s .levels) (r .left) (r .right)

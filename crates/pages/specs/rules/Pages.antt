@@ -51,14 +51,14 @@ plannersPage s records last rows =
 
 -- ---- "A forecast run gets one with its own record and the number of clients in phase 9, and no more."
 
--- 1 for a client in phase 9
-unfoldable pub inPhase9 : Record → ℕ
-inPhase9 r = choose (eqb (r .phase) 9) 1 0
+-- 1 for phase 9
+unfoldable pub inPhase9 : ℕ → ℕ
+inPhase9 phase = choose (eqb phase 9) 1 0
 
 -- "the number of clients in phase 9"
 unfoldable pub heldCount : List Record → ℕ
 heldCount [] = 0
-heldCount (r ∷ rs) = inPhase9 r + heldCount rs
+heldCount (r ∷ rs) = inPhase9 (r .phase) + heldCount rs
 
 -- "its own record"
 abbrev pub ownRecord : List Record → ℕ → Record

@@ -1,30 +1,88 @@
--- What `rangepages` prints of a schedule that is not refused is what the two pages give after its last call: neither is refused. Assumes nothing.
-use mathlib.Core.Path.{_≡_, _∙_, sym}
-use mathlib.Core.List.{List, map}
-use Prim.Native.Nat.{ℕ, _<_}
+-- What `rangepages` prints of a schedule that is not refused is what the two pages give after its last call: for each client its row of the planners' page, then for each the record and the count
+-- of its own page. Assumes nothing.
+use mathlib.Core.Path.{_≡_, refl, sym, ap, ap₂, _∙_}
+use mathlib.Core.List.{List, [], _∷_, _++_, map}
+use Prim.Native.Nat.{ℕ, zero, suc, _+_, _≤_, _<_}
 use native.Mathlib.Omega.{arith}
-use lib.ListN.{length}
+use lib.ListN.{length, getD, take}
+use lib.Seq.{take-all}
+use Rattle.base.specs.laws.ChoiceLaws.{choose-eq}
+use Rattle.lock.specs.declared.Record.{Record}
+use Rattle.lock.specs.rules.Records.{idleWith}
 use Rattle.pages.specs.declared.Row.{Row}
+use Rattle.pages.specs.declared.RunPage.{RunPage}
 use Rattle.pages.specs.rules.Pages.{rowOf, page, plannersPage, heldCount, ownRecord, runPage}
 use Rattle.pages.specs.laws.RunLaws.{acceptedPage}
 use Rattle.pages.specs.laws.Histories.{planners-given, run-given}
 use Rattle.schedule.specs.rules.Format.{settingsIn, clientsIn, callsIn, lentFor}
 use Rattle.schedule.specs.rules.Running.{openingIn, afterCalls}
-use Rattle.schedule.specs.rules.Refusal.{refusal}
+use Rattle.schedule.specs.rules.Refusal.{refusal, unlessRefused}
 use Rattle.schedule.specs.laws.Refusing.{opening-passes}
+use Rattle.rangepages.specs.rules.Printed.{rowText, rowLine, recordLine, lineEach, pagesText, pagesOf}
+use Rattle.rangepages.specs.laws.Lines.{line-suc}
 use Rattle.rangepages.specs.laws.Paging.{count-after}
 
-module _ (bytes : List ℕ) (z : refusal bytes ≡ 0) where
-  -- the rows that are printed are those of the planners' page, lent one row a client
-  pub rows-given : (rows : List Row) → length rows ≡ clientsIn bytes
-      → plannersPage (settingsIn bytes) (afterCalls bytes .records) (afterCalls bytes .clock) rows ≡ page 0 (map (rowOf (settingsIn bytes)) (afterCalls bytes .records))
-  unfolding afterCalls openingIn
-  rows-given rows e =
-      planners-given (settingsIn bytes) (lentFor (settingsIn bytes) (clientsIn bytes)) (opening-passes bytes z) (callsIn bytes) rows (e ∙ sym (count-after bytes z))
+-- the lines of the clients below n, by their numbers
+unfoldable pub linesBelow : ℕ → (ℕ → List ℕ) → List ℕ
+linesBelow zero line = []
+linesBelow (suc n) line = linesBelow n line ++ line n
 
-  -- the record and the count that are printed for a client are those of its page
-  pub record-given : (client : ℕ) → client < clientsIn bytes
-      → runPage (settingsIn bytes) (afterCalls bytes .records) (afterCalls bytes .clock) client ≡ acceptedPage (ownRecord (afterCalls bytes .records) client) (heldCount (afterCalls bytes .records))
+same-lines : (n : ℕ) (f g : ℕ → List ℕ) → ((c : ℕ) → c < n → f c ≡ g c) → linesBelow n f ≡ linesBelow n g
+unfolding linesBelow
+same-lines zero f g e = refl
+same-lines (suc n) f g e = ap₂ _++_ (same-lines n f g (λ c b. e c (omega arith))) (e n (omega arith))
+
+by-number : (line : ℕ → Record → List ℕ) (rs : List Record) (n : ℕ) → n ≤ length rs → lineEach line 0 (take n rs) ≡ linesBelow n (λ c. line c (getD rs c (idleWith 0)))
+unfolding lineEach linesBelow
+by-number line rs zero b = refl
+by-number line rs (suc n) b =
+    sym (line-suc line 0 n rs (idleWith 0) b) ∙ ap (λ (m : ℕ). lineEach line 0 (take n rs) ++ line m (getD rs n (idleWith 0))) (let e : 0 + n ≡ n = omega arith in e)
+    ∙ ap (λ (l : List ℕ). l ++ line n (getD rs n (idleWith 0))) (by-number line rs n (omega arith))
+
+all-by-number : (line : ℕ → Record → List ℕ) (rs : List Record) → lineEach line 0 rs ≡ linesBelow (length rs) (λ c. line c (getD rs c (idleWith 0)))
+all-by-number line rs = ap (lineEach line 0) (sym (take-all (length rs) rs (omega arith))) ∙ by-number line rs (length rs) (omega arith)
+
+row-at : (f : Record → Row) (rs : List Record) (c : ℕ) (d : Row) → c < length rs → f (getD rs c (idleWith 0)) ≡ getD (map f rs) c d
+row-at f [] c d b = absurd (omega arith)
+row-at f (r ∷ rs) zero d b = refl
+row-at f (r ∷ rs) (suc c) d b = row-at f rs c d (omega arith)
+
+module _ (bytes : List ℕ) (z : refusal bytes ≡ 0) (rows : List Row) (one-each : length rows ≡ clientsIn bytes) where
+  abbrev records : List Record
+  records = afterCalls bytes .records
+
+  -- the planners' page of the table after the last call, lent one row a client
+  abbrev planners : List Row
+  planners = plannersPage (settingsIn bytes) records (afterCalls bytes .clock) rows .rows
+
+  -- a client's own page of it
+  abbrev own : ℕ → RunPage
+  own client = runPage (settingsIn bytes) records (afterCalls bytes .clock) client
+
+  planners-are : plannersPage (settingsIn bytes) records (afterCalls bytes .clock) rows ≡ page 0 (map (rowOf (settingsIn bytes)) records)
   unfolding afterCalls openingIn
-  record-given client b =
-      run-given (settingsIn bytes) (lentFor (settingsIn bytes) (clientsIn bytes)) (opening-passes bytes z) (callsIn bytes) client (omega (arith, b, count-after bytes z))
+  planners-are = planners-given (settingsIn bytes) (lentFor (settingsIn bytes) (clientsIn bytes)) (opening-passes bytes z) (callsIn bytes) rows (one-each ∙ sym (count-after bytes z))
+
+  own-is : (client : ℕ) → client < length records → own client ≡ acceptedPage (ownRecord records client) (heldCount records)
+  unfolding afterCalls openingIn
+  own-is client b = run-given (settingsIn bytes) (lentFor (settingsIn bytes) (clientsIn bytes)) (opening-passes bytes z) (callsIn bytes) client b
+
+  row-printed : (d : Row) (c : ℕ) → c < length records → rowLine (settingsIn bytes) c (getD records c (idleWith 0)) ≡ rowText c (getD planners c d)
+  unfolding rowLine
+  row-printed d c b = ap (rowText c) (row-at (rowOf (settingsIn bytes)) records c d b ∙ ap (λ p. getD (p .rows) c d) (sym planners-are))
+
+  record-printed : (c : ℕ) → c < length records → recordLine (heldCount records) c (getD records c (idleWith 0)) ≡ recordLine (own c .held) c (own c .own)
+  record-printed c b = ap (λ (p : RunPage). recordLine (p .held) c (p .own)) (sym (own-is c b))
+
+  pub printed : (d : Row) → pagesOf bytes ≡ linesBelow (clientsIn bytes) (λ c. rowText c (getD planners c d)) ++ linesBelow (clientsIn bytes) (λ c. recordLine (own c .held) c (own c .own))
+  unfolding pagesOf unlessRefused pagesText
+  printed d =
+      let whole : pagesOf bytes ≡ lineEach (rowLine (settingsIn bytes)) 0 records ++ lineEach (recordLine (heldCount records)) 0 records = choose-eq (refusal bytes) 0 _ _ z in
+      whole
+      ∙ ap₂ _++_
+      (all-by-number (rowLine (settingsIn bytes)) records ∙ same-lines (length records) _ _ (row-printed d) ∙ ap (λ (m : ℕ). linesBelow m (λ c. rowText c (getD planners c d))) (count-after bytes z))
+      (all-by-number (recordLine (heldCount records)) records ∙ same-lines (length records) _ _ record-printed ∙ ap (λ (m : ℕ). linesBelow m (λ c. recordLine (own c .held) c (own c .own))) (count-after bytes z))
+
+  -- neither page is refused
+  pub given : (plannersPage (settingsIn bytes) records (afterCalls bytes .clock) rows .number ≡ 0) × ((client : ℕ) → client < clientsIn bytes → own client .number ≡ 0)
+  given = (ap (λ p. p .number) planners-are, λ client b. ap (λ (p : RunPage). p .number) (own-is client (omega (arith, count-after bytes z, b))))

@@ -23,7 +23,7 @@ currentText r held =
 -- ---- line after line
 
 module _ (line : ℕ → Record → List ℕ) where
-  line-suc : (c i : ℕ) (rs : List Record) (d : Record) → i < length rs → lineEach line c (take i rs) ++ line (c + i) (getD rs i d) ≡ lineEach line c (take (suc i) rs)
+  pub line-suc : (c i : ℕ) (rs : List Record) (d : Record) → i < length rs → lineEach line c (take i rs) ++ line (c + i) (getD rs i d) ≡ lineEach line c (take (suc i) rs)
   unfolding lineEach
   line-suc c i [] d b = absurd (omega arith)
   line-suc c zero (r ∷ rs) d b = ap (λ (n : ℕ). line n r) (let e : c + 0 ≡ c = omega arith in e) ∙ sym (append-nil (line c r))

@@ -9,20 +9,20 @@ use Rattle.lock.specs.declared.Record.{Record}
 use Rattle.lock.specs.declared.Settings.{Settings}
 use Rattle.lock.specs.rules.Records.{idleWith}
 use Rattle.lock.specs.rules.Unreadable.{unreadable}
-use Rattle.lock.specs.rules.Table.{State, recordAt, opening}
+use Rattle.lock.specs.rules.Table.{recordAt, opening}
 use Rattle.lock.specs.rules.History.{AllReadable}
 use Rattle.lock.specs.laws.Accepted.{opened-accepted}
 use Rattle.lock.specs.laws.Active.{Settled}
-use Rattle.lock.specs.claim.HistoryRecord.{count-run}
 use Rattle.lock.specs.claim.Readable.{every-readable}
 use Rattle.pages.specs.declared.Row.{Row}
 use Rattle.pages.specs.rules.Pages.{rowOf, inPhase9, heldCount}
+use Rattle.pages.specs.laws.Histories.{same-count}
 use Rattle.pages.specs.laws.CountLaws.{phase-9-most, held-most}
 use Rattle.schedule.specs.declared.Run.{Run}
 use Rattle.schedule.specs.rules.Format.{settingsIn, clientsIn, callsIn, lentFor}
-use Rattle.schedule.specs.rules.Running.{openingIn, afterCalls, recordsOf}
+use Rattle.schedule.specs.rules.Running.{openingIn, afterCalls}
 use Rattle.schedule.specs.rules.Refusal.{refusal}
-use Rattle.schedule.specs.laws.RunLaws.{recordIn, opening-fresh}
+use Rattle.schedule.specs.laws.RunLaws.{recordsOf, recordIn}
 use Rattle.schedule.specs.laws.Refusing.{file-passes, opening-passes, run-whole}
 use Rattle.schedule.specs.laws.WellFormed.{well-formed}
 use Rattle.schedule.specs.laws.Appended.{Appended, joined}
@@ -38,8 +38,8 @@ abbrev pub Readable : Settings → Run → Type 0
 Readable s made = (c : ℕ) → unreadable s (recordIn made c) (made .clock) ≡ false
 
 -- the count of the first i, and one client more
-pub held-few : (l : List Record) (i n m : ℕ) (r : Record) → n ≡ heldCount (take i l) → m ≡ inPhase9 r → n + m ≤ suc i
-held-few l i n m r e f = omega (arith, e, f, held-most l i, phase-9-most r)
+pub held-few : (l : List Record) (i n m : ℕ) (r : Record) → n ≡ heldCount (take i l) → m ≡ inPhase9 (r .phase) → n + m ≤ suc i
+held-few l i n m r e f = omega (arith, e, f, held-most l i, phase-9-most (r .phase))
 
 -- a line with the record and the row as the code has them
 pub row-put : (s : Settings) (client : ℕ) (own r : Record) (w : Row) → own ≡ r → w ≡ rowOf s own → rowText client w ≡ rowLine s client r
@@ -54,8 +54,7 @@ module _ (bytes : List ℕ) (z : refusal bytes ≡ 0) where
   pub count-after : length (afterCalls bytes .records) ≡ clientsIn bytes
   unfolding afterCalls openingIn lentFor
   count-after =
-      count-run (settingsIn bytes) (callsIn bytes) (openingIn bytes .state)
-      ∙ ap (λ (st : State). length (st .records)) (opening-fresh (settingsIn bytes) (clientsIn bytes)) ∙ length-replicate (clientsIn bytes) (idleWith 0)
+      same-count (settingsIn bytes) (lentFor (settingsIn bytes) (clientsIn bytes)) (opening-passes bytes z) (callsIn bytes) ∙ length-replicate (clientsIn bytes) (idleWith 0)
 
   -- no history meets cause 6
   readable-after : AllReadable (settingsIn bytes) (afterCalls bytes)

@@ -19,9 +19,17 @@ use Rattle.lock.specs.rules.ByValue.{callOf}
 use Rattle.table.specs.rules.Lent.{lent}
 use Rattle.schedule.specs.declared.Run.{Run}
 use Rattle.schedule.specs.rules.Format.{settingsIn, clientsIn, countIn, callIn, callsFrom, callsIn, lentFor}
-use Rattle.schedule.specs.rules.Running.{openingIn, afterCalls, recordsOf, stateOf}
+use Rattle.schedule.specs.rules.Running.{openingIn, afterCalls}
 use Rattle.schedule.specs.laws.FormatLaws.{CallRead, call-read}
 use Rattle.schedule.specs.laws.ShelfLaws.{take-replicate, empty-front}
+
+-- the records of a run's clients
+abbrev pub recordsOf : Run → List Record
+recordsOf made = take (made .clients) (made .shelf .records)
+
+-- the table that its calls are made on: these, the words that are lent beside them, and the last clock
+abbrev pub stateOf : Run → List ℕ → State
+stateOf made words = lent (recordsOf made) words (made .clock)
 
 -- a client's record in a run, of a client past its table an idle one
 abbrev pub recordIn : Run → ℕ → Record

@@ -1,4 +1,4 @@
--- Laws: the lines that the calls of a schedule add to its log, and the ways through a file. Assumes nothing.
+-- Laws: the lines that the calls of a schedule add to its log. Assumes nothing.
 use mathlib.Core.Path.{_≡_, sym, ap, ap₂, _∙_}
 use mathlib.Core.List.{List, _++_, append-assoc, append-nil}
 use Prim.Native.Nat.{ℕ, suc, _+_, _-_, _*_, _≤_, _<_}
@@ -11,13 +11,13 @@ use Rattle.table.specs.rules.Lent.{result}
 use Rattle.schedule.specs.declared.Made.{Made}
 use Rattle.schedule.specs.declared.Run.{Run}
 use Rattle.schedule.specs.rules.Format.{settingsIn, clientsIn, countIn, placeOf, callIn, callsFrom, callsIn}
-use Rattle.schedule.specs.rules.Running.{openingIn, recordsOf, stateOf}
+use Rattle.schedule.specs.rules.Running.{openingIn}
 use Rattle.schedule.specs.rules.Refusal.{refusal}
 use Rattle.schedule.specs.rules.Log.{kindText, headerLine, line, lines, logOf}
 use Rattle.schedule.specs.rules.Text.{text, decimal, spaced}
 use Rattle.schedule.specs.laws.Appended.{Appended}
 use Rattle.schedule.specs.laws.WellFormed.{WellFormed}
-use Rattle.schedule.specs.laws.RunLaws.{recordIn}
+use Rattle.schedule.specs.laws.RunLaws.{recordsOf, stateOf, recordIn}
 use Rattle.schedule.specs.laws.Refusing.{run-whole}
 
 -- ---- one line

@@ -1,8 +1,8 @@
 -- `pages::causes::planners_cause` meets its contract. Assumes nothing.
 use mathlib.Core.Path.{sym, _∙_}
 use borrow.Author.Needs.{needs}
-use Rattle.lock.specs.rules.Calls.{clientsOutside}
 use Rattle.pages.specs.laws.CauseLaws.{planners-settings, planners-rows, planners-clients, planners-passed}
+use borrow.Author.Needs.{needs}
 use Rattle.pages.proofs.causes.planners_cause.Statement.{statement}
 use Rattle.pages.proofs.causes.planners_cause.Tie as tie
 
@@ -19,17 +19,20 @@ returns-2 c =
     let a = c .before .before .before .args in
     planners-rows (a .settings) (a .rows) (a .records) (sym (c .before .before .outside .ensures) ∙ c .before .if1 .left) (c .if2 .taken)
 
+clients-outside-requires : tie.Need-clients-outside-requires
+clients-outside-requires c κs = search needs
+
 returns-3 : tie.Need-returns-3
-unfolding clientsOutside
 returns-3 c =
-    let a = c .before .before .before .before .args in
-    planners-clients (a .settings) (a .rows) (a .records) (sym (c .before .before .before .outside .ensures) ∙ c .before .before .if1 .left) (c .before .if2 .left) (c .if3 .taken)
+    let a = c .before .before .before .before .before .args in
+    planners-clients (a .settings) (a .rows) (a .records) (sym (c .before .before .before .before .outside .ensures) ∙ c .before .before .before .if1 .left) (c .before .before .if2 .left) (sym (c .before .clients-outside .ensures) ∙ c .if3 .taken)
 
 returns-4 : tie.Need-returns-4
-unfolding clientsOutside
 returns-4 c =
-    let a = c .before .before .before .before .args in
-    planners-passed (a .settings) (a .rows) (a .records) (sym (c .before .before .before .outside .ensures) ∙ c .before .before .if1 .left) (c .before .if2 .left) (c .if3 .left)
+    let a = c .before .before .before .before .before .args in
+    planners-passed (a .settings) (a .rows) (a .records) (sym (c .before .before .before .before .outside .ensures) ∙ c .before .before .before .if1 .left) (c .before .before .if2 .left) (sym (c .before .clients-outside .ensures) ∙ c .if3 .left)
 
 pub planners-cause-spec : {M : Type 1} → statement M
-planners-cause-spec = tie.close (tie.spec outside-requires returns returns-2 returns-3 returns-4)
+planners-cause-spec =
+    tie.close
+    (tie.spec outside-requires returns returns-2 clients-outside-requires returns-3 returns-4)

@@ -103,8 +103,8 @@ module _ {M : Type 1} (𝓤 : URA M) (H : Heap 𝓤) (A : Atoms 𝓤) (W : Given
   abbrev count : ℕ → ℕ
   count i = heldCount (take i ys)
 
-  one-fits : (i t : ℕ) → i < n → t ≡ inPhase9 (elem x i) → count i + t < 2 ^ 64
-  one-fits i t small h = omega (arith, held-most ys i, phase-9-most (elem x i), h, small, room .0)
+  one-fits : (i t : ℕ) → i < n → t ≡ inPhase9 (elem x i .phase) → count i + t < 2 ^ 64
+  one-fits i t small h = omega (arith, held-most ys i, phase-9-most (elem x i .phase), h, small, room .0)
 
   exits : (k : ℕ) → k < 2 ^ 64 → k ≡ heldCount ys → ent 𝓤 (⋆ 𝓤 H A (‵ (flft κ q) ∷ ‵ (ShrSlice (named 0) κ R .own x (s ∷ [])) ∷ [])) (Post (vint w64 k))
   exits k k-fits e =
@@ -154,7 +154,7 @@ module _ {M : Type 1} (𝓤 : URA M) (H : Heap 𝓤) (A : Atoms 𝓤) (W : Given
           assigns ! (of-opd ! (load ! (from ! (stop !)) (look ! 5 refl))) (from ! (stop !)) (init ! 13 refl (LL.lawful Rec.the-type Rec′.the-laws 𝓤 H A W .typed (elem x (i .0)) _ g .0)) $
           use0 W (raw (Callee 𝓤 H A mem run .pre (to (i .0)))) (goes (i .0) g) $
           calls-at ! (fmOf 𝓤 H (W .laws) 𝓣) (Callee 𝓤 H A mem run) known (to (i .0)) (and-then ! (load ! (from ! (stop !)) (look ! 14 refl)) (no-more !)) (λ v.
-          returned ! tt u64 v (λ vs. sem 𝓤 H A (lasts callee.ended tt (asked (i .0)) vs)) (λ t. t ≡ inPhase9 (elem x (i .0))) (λ t h it. land ! (from ! (stop !)) (init ! 3 refl (uint-lawful 𝓤 H A W w64 .typed t _ it .0)) $
+          returned ! tt u64 v (λ vs. sem 𝓤 H A (lasts callee.ended tt (asked (i .0)) vs)) (λ t. t ≡ inPhase9 (elem x (i .0) .phase)) (λ t h it. land ! (from ! (stop !)) (init ! 3 refl (uint-lawful 𝓤 H A W w64 .typed t _ it .0)) $
           rewrite ! 3 (λ (z : Val). ‵ (fat fullShare word l₉ 0 z)) (ap only (it .0)) refl $
           assigns ! (bin ! (load ! (from ! (stop !)) (look ! 17 refl)) (load ! (from ! (stop !)) (look ! 3 refl)) (record { fits = one-fits (i .0) t small h })) (from ! (stop !)) (store ! 17 refl (tt, record { fits = one-fits (i .0) t small h })) $
           rewrite ! 17 (λ (z : ℕ). ‵ (fat fullShare word l₂ 0 (vint w64 z))) (ap (λ (z : ℕ). count (i .0) + z) h ∙ held-next ys (i .0) (idleWith 0) small) refl $

@@ -40,7 +40,7 @@ use denote.Triple.Walked.{says, walkOf, ends-at, walked, walk-meets}
 use Rattle.lock.specs.declared.Record.{Record}
 use Rattle.lock.specs.declared.Settings.{Settings}
 use Rattle.lock.specs.laws.Active.{Settled}
-use Rattle.lock.specs.claim.Claiming.{test-true, test-false}
+use Rattle.base.specs.laws.TestLaws.{test-true, test-false}
 use Rattle.lock.proofs.Settings as G
 use Rattle.lock.proofs.Settings.Laws as G′
 use Rattle.table.proofs.Rows.{R, RG, word}

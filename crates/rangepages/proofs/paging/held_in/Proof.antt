@@ -4,10 +4,11 @@ use mathlib.Core.Path.{_≡_, refl, ap, _∙_, ap₂}
 use Prim.Native.Nat.{ℕ, _-_, _≤_, _+_, zero-le}
 use native.Mathlib.Omega.{arith}
 use lib.ListN.{take}
+use Rattle.lock.specs.declared.Record.{Record}
 use Rattle.lock.specs.rules.Records.{idleWith}
 use Rattle.pages.specs.rules.Pages.{inPhase9, heldCount}
 use Rattle.pages.specs.laws.CountLaws.{held-next}
-use Rattle.schedule.specs.rules.Running.{recordsOf}
+use Rattle.schedule.specs.laws.RunLaws.{recordsOf}
 use Rattle.rangepages.specs.laws.Paging.{held-few}
 use lib.Seq.{take-all}
 use Rattle.rangepages.proofs.paging.held_in.Statement.{statement}
@@ -47,7 +48,7 @@ loop-less c =
 
 loop-again : tie.Need-loop-again Inv-loop μ-loop
 loop-again c =
-    (ap₂ (λ (x y : ℕ). x + y) (c .before .before .before .loop .inv .0) (c .in-phase-9 .ensures ∙ ap inPhase9 (c .before .record-of .ensures)) ∙ held-next (recordsOf (c .before .before .before .before .before .args .run)) (c .before .before .before .loop .client) (idleWith 0) (omega (arith, c .before .before .loop-test .taken, c .before .before .before .before .before .pre .whole)), omega (arith, c .before .before .loop-test .taken))
+    (ap₂ (λ (x y : ℕ). x + y) (c .before .before .before .loop .inv .0) (c .in-phase-9 .ensures ∙ ap (λ (r : Record). inPhase9 (r .phase)) (c .before .record-of .ensures)) ∙ held-next (recordsOf (c .before .before .before .before .before .args .run)) (c .before .before .before .loop .client) (idleWith 0) (omega (arith, c .before .before .loop-test .taken, c .before .before .before .before .before .pre .whole)), omega (arith, c .before .before .loop-test .taken))
 
 returns : tie.Need-returns Inv-loop μ-loop
 returns c =

@@ -7,7 +7,7 @@ use lib.ListN.{length, take}
 use Rattle.rangepages.specs.rules.Printed.{recordLine}
 use Rattle.schedule.specs.laws.Appended.{restated}
 use Rattle.lock.specs.rules.Records.{idleWith}
-use Rattle.schedule.specs.rules.Running.{recordsOf}
+use Rattle.schedule.specs.laws.RunLaws.{recordsOf}
 use Rattle.rangepages.specs.laws.Lines.{Lined, lined-none, lined-more, lined-all}
 use Rattle.rangepages.proofs.paging.put_records.Statement.{statement}
 use Rattle.rangepages.proofs.paging.put_records.Tie as tie

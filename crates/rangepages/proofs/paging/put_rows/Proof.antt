@@ -8,7 +8,7 @@ use Rattle.schedule.specs.laws.Appended.{restated}
 use Rattle.lock.specs.declared.Record.{Record}
 use Rattle.lock.specs.rules.Records.{idleWith}
 use Rattle.lock.specs.rules.Unreadable.{unreadable}
-use Rattle.schedule.specs.rules.Running.{recordsOf}
+use Rattle.schedule.specs.laws.RunLaws.{recordsOf}
 use Rattle.rangepages.specs.rules.Printed.{rowLine}
 use Rattle.rangepages.specs.laws.Lines.{Lined, lined-none, lined-more, lined-all}
 use Rattle.rangepages.specs.laws.Paging.{row-put}

@@ -6,7 +6,7 @@ use native.Mathlib.Omega.{arith}
 use lib.ListN.{length}
 use Rattle.schedule.specs.rules.Format.{callsIn}
 use Rattle.schedule.specs.rules.Log.{headerLine, lines}
-use Rattle.schedule.specs.rules.Running.{stateOf}
+use Rattle.schedule.specs.laws.RunLaws.{stateOf}
 use Rattle.schedule.specs.laws.WellFormed.{call-inside}
 use Rattle.schedule.specs.laws.Writing.{Written, written-more, written-all, written-first, few-calls}
 use borrow.Author.Needs.{needs}

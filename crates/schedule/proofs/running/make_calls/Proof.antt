@@ -5,8 +5,7 @@ use native.Mathlib.Omega.{arith}
 use lib.ListN.{length}
 use Rattle.lock.specs.rules.History as History
 use Rattle.schedule.specs.rules.Format.{callsIn}
-use Rattle.schedule.specs.rules.Running.{stateOf}
-use Rattle.schedule.specs.laws.RunLaws.{runFrom, run-all, run-more, run-done}
+use Rattle.schedule.specs.laws.RunLaws.{stateOf, runFrom, run-all, run-more, run-done}
 use Rattle.schedule.specs.laws.WellFormed.{call-inside}
 use borrow.Author.Needs.{needs}
 use Rattle.schedule.proofs.running.make_calls.Statement.{statement}
