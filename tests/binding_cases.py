@@ -7,7 +7,7 @@ from functools import lru_cache
 from random import Random
 from threading import Thread
 
-from compare import NAMES, case
+from compare import NAMES, case, unlike
 from compiled_table import library, nolthewyr
 from histories import TOP, Driver
 from library import ROOT, SECONDS, command, made
@@ -142,8 +142,7 @@ def rust_answers(history, edition):
 
 def compared(place, seed, history, answers):
     for number, (expected, found) in enumerate(zip(history.answers, answers, strict=True)):
-        unlike = sum(mine != other for mine, other in zip(expected[2:], found[2:])) + abs(len(expected) - len(found))
-        yield case("call on a table", [place, seed, number], (*expected[:2], 0)), (*found[:2], unlike)
+        yield case("call on a table", [place, seed, number], (*expected[:2], 0)), (*found[:2], unlike(expected[2:], found[2:]))
 
 
 def calls_of_histories():

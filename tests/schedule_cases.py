@@ -5,6 +5,7 @@ import subprocess
 from time import sleep
 
 from broken_programs import BROKEN, broken
+from broken_rules import by_broken
 from compare import NAMES, case
 from history_cases import WHOLE_CASE as WHOLE_CASE_LINES
 from library import ROOT, SECONDS
@@ -121,21 +122,13 @@ def all_files():
     yield from (drawn("contended", seed) for seed in range(FEW_SEEDS))
 
 
-def by_broken(program, data):
-    """What a broken program prints, which may also fall."""
-    try:
-        return program.expected(data)
-    except (ValueError, IndexError, KeyError, MemoryError):
-        return b"fallen"
-
-
 def broken_programs(place):
     """Of each broken program some file shows it."""
     program = PROGRAMS[place]
     files = [(data, program.expected(data)) for data in all_files()]
     for at, name in enumerate(BROKEN[program.name]):
         with broken(name):
-            found_out = any(by_broken(program, data) != text for data, text in files)
+            found_out = any(by_broken(program.expected, data) != text for data, text in files)
         yield case("broken program", [place, at], 1), int(found_out)
 
 

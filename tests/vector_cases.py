@@ -4,7 +4,7 @@ of them."""
 from itertools import islice
 from typing import NamedTuple
 
-from compare import NAMES, case
+from compare import NAMES, case, unlike
 from compiled_table import Table
 from library import ROOT
 from model.history import KINDS, Call
@@ -72,10 +72,6 @@ def all_states():
         except ValueError:
             break
     return found
-
-
-def unlike(mine, others):
-    return sum(one != other for one, other in zip(mine, others, strict=True))
 
 
 def by_model(state):
