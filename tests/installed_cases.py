@@ -25,6 +25,7 @@ LEVELS = 3, 12
 DOCUMENT = ROOT / "docs" / "LINKING.md"
 CASE = ROOT / "schedules" / "whole-case"
 PROGRAMS = "rangelog", "rangepages", "schedule"
+OTHER_VERSIONS = "0.2.0", "0.1.0", "1.0.1", "0.10.1"
 
 
 def compared(name, before, expected, found):
@@ -105,22 +106,30 @@ def found_by_python():
         yield case("found by Python", [way], 1), int(run("python3", "-c", ASK, **named).split() == [expected, version])
 
 
-def another_series():
-    """A library of another series is not used: its records may have another size."""
-    source, made = place("another.c"), place("another.so")
-    functions = (f"const char *nolthewyr_{name}(void) {{ return \"0.2.0\"; }}\n" for name in nolthewyr.FUNCTIONS)
-    source.write_text("".join(functions))
+def of_another_version(version):
+    """A library that has nothing but this version."""
+    source, made = place(f"{version}.c"), place(f"{version}.so")
+    source.write_text(f'const char *nolthewyr_version(void) {{ return "{version}"; }}\n')
     command("gcc", "-shared", "-fPIC", source, "-o", made)
-    named = environment(PYTHONPATH=asked("--variable=pkgdatadir")[0], NOLTHEWYR_LIBRARY=str(made))
-    ran = subprocess.run(["python3", "-c", ASK], env=named, capture_output=True, text=True)
-    yield case("found by Python", [5], 1), int(f"{made} has version 0.2.0, and this file is for" in ran.stderr)
+    return made
+
+
+def another_version():
+    """A library of another series is not used, since its records may have another size, and none of a lower version, since it has not all
+    functions. Both are refused by their version, whatever functions they have."""
+    for way, version in enumerate(OTHER_VERSIONS, 5):
+        made = of_another_version(version)
+        named = environment(PYTHONPATH=asked("--variable=pkgdatadir")[0], NOLTHEWYR_LIBRARY=str(made))
+        ran = subprocess.run(["python3", "-c", ASK], env=named, capture_output=True, text=True)
+        said = f"ImportError: {made} has version {version}, and this file is for 0.1, from 0.1.1 on\n"
+        yield case("found by Python", [way], 1), int(ran.stderr.endswith(said))
 
 
 def printed_of_case(program):
     """What an installed program prints of the whole case."""
-    taken = {"env": environment(), "cwd": folder().name, "capture_output": True, "text": True}
+    options = {"env": environment(), "cwd": folder().name, "capture_output": True, "text": True}
     with open(CASE.with_suffix(".bin"), "rb") as case_file:
-        return subprocess.run([prefix() / "bin" / program], stdin=case_file, **taken).stdout
+        return subprocess.run([prefix() / "bin" / program], stdin=case_file, **options).stdout
 
 
 def programs():
@@ -168,7 +177,7 @@ def synopsis(read):
         yield use.split()[0], *sorted(re.findall(r"(?<=\[)(-\w|--\w+)\b", use))
 
 
-def pages():
+def manual_pages():
     """The pages are set without a warning. That of rangelog has the words of a log; that of rangepages the names of all fields; that of
     schedule its commands and options, and no others."""
     for number, program in enumerate(PROGRAMS):
@@ -191,7 +200,7 @@ SUITES = {
     "installed, who is linked with the shared library needs it": linked_shared,
     "installed, all files, and none when uninstalled": installed_files,
     "installed, Python finds the library": found_by_python,
-    "installed, Python does not use a library of another series": another_series,
+    "installed, Python does not use a library of another series or of a lower version": another_version,
     "installed, the programs run": programs,
-    "installed, the pages have no warning and say what the programs do": pages,
+    "installed, the pages have no warning and say what the programs do": manual_pages,
 }

@@ -177,7 +177,7 @@ def versions():
     library()
     read = subprocess.run(["objdump", "-p", made("build/libnolthewyr.so")], check=True, capture_output=True, text=True).stdout
     series = version.rpartition(".")[0]
-    found = [nolthewyr.version() == version, nolthewyr.SERIES == series, f" libnolthewyr.so.{series}\n" in read]
+    found = [nolthewyr.version() == version, f"{nolthewyr.SERIES}.{nolthewyr.LEAST}" == version, f" libnolthewyr.so.{series}\n" in read]
     for place, same in enumerate(found):
         yield case("version", [place], 1), int(same)
 
