@@ -121,7 +121,7 @@ def another_version():
         made = of_another_version(version)
         named = environment(PYTHONPATH=asked("--variable=pkgdatadir")[0], NOLTHEWYR_LIBRARY=str(made))
         ran = subprocess.run(["python3", "-c", ASK], env=named, capture_output=True, text=True)
-        said = f"ImportError: {made} has version {version}, and this file is for 0.1, from 0.1.1 on\n"
+        said = f"ImportError: {made} has version {version}, and this file is for {nolthewyr.SERIES}, from {nolthewyr.SERIES}.{nolthewyr.LEAST} on\n"
         yield case("found by Python", [way], 1), int(ran.stderr.endswith(said))
 
 
@@ -156,10 +156,21 @@ def words_of_rangelog():
 
 
 def words_of_rangepages():
-    """The names of a row's fields and of a record's, as their structs have them, and what a schedule is refused by."""
+    """What a schedule is refused by."""
     library()
-    fields = [f" {name} " for struct in (nolthewyr.Row, nolthewyr.Record) for name, _ in struct._fields_]
-    return fields + [f"{number} {nolthewyr.cause_text(number)}" for number in (10, 11)]
+    return [f"{number} {nolthewyr.cause_text(number)}" for number in (10, 11)]
+
+
+def fields_unlike(source):
+    """The names of a row's fields and then of a record's, in the order of their structs, and those that the page of rangepages lists, where
+    these differ."""
+    listed = re.findall(r"^\.It ([a-z]\w*)", source.read_text(), re.MULTILINE)
+    fields = [name for struct in (nolthewyr.Row, nolthewyr.Record) for name, _ in struct._fields_]
+    return [pair for pair in zip_longest(fields, listed) if pair[0] != pair[1]]
+
+
+def missing(words, read):
+    return [word for word in words if word not in read]
 
 
 def words_of_schedule():
@@ -178,7 +189,7 @@ def synopsis(read):
 
 
 def manual_pages():
-    """The pages are set without a warning. That of rangelog has the words of a log; that of rangepages the names of all fields; that of
+    """The pages are set without a warning. That of rangelog has the words of a log; that of rangepages lists all fields in order; that of
     schedule its commands and options, and no others."""
     for number, program in enumerate(PROGRAMS):
         source = prefix() / "share" / "man" / "man1" / f"{program}.1"
@@ -186,9 +197,10 @@ def manual_pages():
         read = " ".join(run("man", "--local-file", source, MANWIDTH="1000").split())
         if program == "schedule":
             unlike = set(words_of_schedule()) ^ set(synopsis(read))
+        elif program == "rangelog":
+            unlike = missing(words_of_rangelog(), read)
         else:
-            words = words_of_rangelog() if program == "rangelog" else words_of_rangepages()
-            unlike = [word for word in words if word not in read]
+            unlike = missing(words_of_rangepages(), read) + fields_unlike(source)
         if unlike:
             print(f"    {source.name} and the program differ in {', '.join(map(str, unlike))}")
         yield case("page", [number], (0, 0)), (len(warned.splitlines()), len(unlike))
