@@ -8,8 +8,8 @@ SHOWN = 5
 
 
 class Names(dict):
-    """The names of each call's arguments and results. A call that is named twice is refused: one of the two would be reported by the names of
-    the other."""
+    """The names of each call's arguments and results. A call that is named twice is refused: one of the two would be reported by the
+    other's names."""
 
     def __setitem__(self, call, names):
         if call in self:

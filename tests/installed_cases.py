@@ -121,7 +121,8 @@ def another_version():
         made = of_another_version(version)
         named = environment(PYTHONPATH=asked("--variable=pkgdatadir")[0], NOLTHEWYR_LIBRARY=str(made))
         ran = subprocess.run(["python3", "-c", ASK], env=named, capture_output=True, text=True)
-        said = f"ImportError: {made} has version {version}, and this file is for {nolthewyr.SERIES}, from {nolthewyr.SERIES}.{nolthewyr.LEAST} on\n"
+        wanted = f"{nolthewyr.SERIES}, from {nolthewyr.SERIES}.{nolthewyr.LEAST} on"
+        said = f"ImportError: {made} has version {version}, and this file is for {wanted}\n"
         yield case("found by Python", [way], 1), int(ran.stderr.endswith(said))
 
 

@@ -50,8 +50,8 @@ def waits(table, call, *arguments):
 
 
 def owned_memory():
-    """What a caller does to the settings it opened with, or to a record or a page it was given, does not reach the table, and a call or a page
-    waits until another thread's call is made."""
+    """What a caller does to the settings it opened with, or to a record or a page it was given, does not reach the table, and a call or a
+    page waits until another thread's call is made."""
     library()
     settings = nolthewyr.Settings(2, 1, 5)
     table = nolthewyr.Table(settings, 1)

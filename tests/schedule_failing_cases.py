@@ -50,7 +50,8 @@ COMMANDS = {
     "two files": ("schedule pack whole-case.txt blocked.txt", 2,
                   "usage: schedule [-h] COMMAND ...\nschedule: error: unrecognized arguments: blocked.txt\n"),
     "rangelog missing": ("RANGELOG=/no/rangelog schedule run whole-case.txt", 3,
-                         "schedule: /no/rangelog could not be run: No such file or directory; RANGELOG in the environment is `/no/rangelog`\n"),
+                         "schedule: /no/rangelog could not be run: No such file or directory; RANGELOG in the environment is "
+                         "`/no/rangelog`\n"),
     "rangelog says something": ("RANGELOG='ls /no/such/file' schedule run whole-case.txt", 3,
                                 "schedule: ls: cannot access '/no/such/file': No such file or directory; RANGELOG in the environment is "
                                 "`ls /no/such/file`\n"),

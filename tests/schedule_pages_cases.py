@@ -66,7 +66,8 @@ def run_words(client, record, held):
     """A run's line: the count, the phase, and every other field that is not 0 in the document's order."""
     fields = [f"outcome {record.outcome} {OUTCOMES[record.outcome]}"] if record.outcome else []
     if record.phase:
-        fields += [f"window [{record.left}, {record.right})", f"node{'s' if record.second else ''} {nodes_in_words(record.first, record.second)}"]
+        name = "nodes" if record.second else "node"
+        fields += [f"window [{record.left}, {record.right})", f"{name} {nodes_in_words(record.first, record.second)}"]
     names = "current giving grip ticket place notices t1 t0".split()
     fields += [f"{name} {value}" for name, value in zip(names, record[-len(names):], strict=True) if value]
     return f"{client} {held} {record.phase} {PHASES[record.phase]} {', '.join(fields)}"
@@ -88,7 +89,8 @@ def refused_words(refused, calls):
     """What is said at the end if calls were refused."""
     if refused == 0:
         return []
-    return ["", f"{refused} of {calls} call{'' if calls == 1 else 's'} {'was' if refused == 1 else 'were'} refused: `schedule run` says which"]
+    counted = f"{refused} of {calls} call{'' if calls == 1 else 's'} {'was' if refused == 1 else 'were'}"
+    return ["", f"{counted} refused: `schedule run` says which"]
 
 
 def expected_words(read):
