@@ -98,7 +98,7 @@ pub struct Row {
 }
 
 #[repr(C)]
-#[derive(Clone, Copy, Debug, PartialEq)]
+#[derive(Clone, Copy, Debug, Default, PartialEq)]
 pub struct RunPageAnswer {
     pub number: u64,
     pub own: Record,

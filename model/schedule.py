@@ -1,4 +1,5 @@
-"""The section "The schedule program": the file that `rangelog` reads from standard input, and the log that it writes.
+"""The section "The schedule program": the file that `rangelog` and `rangepages` read from standard input, and the log that
+`rangelog` writes.
 
 `python3 -m model.schedule < file` writes the log that the model gives.
 """

@@ -20,8 +20,9 @@ from functools import lru_cache
 from pathlib import Path
 from threading import Lock
 
-# Records grow between versions: a library of another series is not used.
+# Records grow between versions, and functions with the third number: a library of another series, or of a lower version, is not used.
 SERIES = "0.1"
+LEAST = 1
 FILE = f"libnolthewyr.so.{SERIES}"
 TOO_MANY_CLIENTS = 32768
 
@@ -38,17 +39,21 @@ def fitting(number):
     return number
 
 
-class Numbers(Structure):
-    """Fields that are all numbers of 64 bits."""
-
-    def __init__(self, *numbers, **named):
-        super().__init__(*map(fitting, numbers), **{name: fitting(number) for name, number in named.items()})
+class Fields(Structure):
+    """Fields that can be gone through in order, and are shown by their names."""
 
     def __iter__(self):
         return (getattr(self, name) for name, _ in self._fields_)
 
     def __repr__(self):
         return f"{type(self).__name__}({', '.join(f'{name}={getattr(self, name)}' for name, _ in self._fields_)})"
+
+
+class Numbers(Fields):
+    """Fields that are all numbers of 64 bits."""
+
+    def __init__(self, *numbers, **named):
+        super().__init__(*map(fitting, numbers), **{name: fitting(number) for name, number in named.items()})
 
 
 def numbers(names):
@@ -92,7 +97,7 @@ class Row(Numbers):
     _fields_ = numbers("phase left right first second over")
 
 
-class RunPageAnswer(Structure):
+class RunPageAnswer(Fields):
     """What a forecast run sees: its own record, and how many clients hold their windows."""
 
     _fields_ = [("number", c_uint64), ("own", Record), ("held", c_uint64)]
@@ -120,16 +125,23 @@ def library_file():
     return next((str(place) for place in places if place.is_file()), FILE)
 
 
+def declared(loaded, name):
+    """A function of the library, with its types."""
+    function = getattr(loaded, f"nolthewyr_{name}")
+    function.argtypes, function.restype = FUNCTIONS[name]
+    return function
+
+
 @lru_cache(maxsize=None)
 def library():
-    """The shared library, with the types of its functions."""
+    """The shared library, with the types of its functions. Its version is read first, since a lower one has not all of them."""
     loaded = CDLL(library_file())
-    for name, (arguments, result) in FUNCTIONS.items():
-        function = getattr(loaded, f"nolthewyr_{name}")
-        function.argtypes, function.restype = arguments, result
-    found = loaded.nolthewyr_version().decode()
-    if not found.startswith(f"{SERIES}."):
-        raise ImportError(f"{library_file()} has version {found}, and this file is for {SERIES}")
+    found = declared(loaded, "version")().decode()
+    series, _, third = found.rpartition(".")
+    if series != SERIES or not third.isdecimal() or int(third) < LEAST:
+        raise ImportError(f"{library_file()} has version {found}, and this file is for {SERIES}, from {SERIES}.{LEAST} on")
+    for name in FUNCTIONS:
+        declared(loaded, name)
     return loaded
 
 

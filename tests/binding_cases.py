@@ -1,13 +1,11 @@
 """Cases for the tables that own their memory, in Python and in Rust: openings that must be refused whatever their numbers, random
-histories held to the model call by call and page by page, covers and word counts, and what the Python file does with numbers that do not
-fit."""
+histories held to the model call by call and page by page, covers and word counts."""
 
 import subprocess
 from functools import lru_cache
 from random import Random
-from threading import Thread
 
-from compare import NAMES, case
+from compare import NAMES, case, unlike
 from compiled_table import library, nolthewyr
 from histories import TOP, Driver
 from library import ROOT, SECONDS, command, made
@@ -21,13 +19,11 @@ NAMES["call on a table"] = ("language", "history", "call"), ("number", "clock, o
 NAMES["asked of the levels"] = ("language", "levels", "left", "right"), ("number", "first", "second", "over-cover")
 NAMES["word count"] = ("language", "levels"), ("words",)
 NAMES["text in Rust"] = ("enumeration", "number"), ("that of the library",)
-NAMES["number that does not fit"] = ("place in the list of calls",), ("raises",)
-NAMES["table in Python"] = ("claim",), ("holds",)
 
 BUILT = ROOT / "target" / "tests"
 EDITIONS = "2021", "2024"
-# After which share of the calls the pages are looked at.
-PAGES = 0.1
+# After this share of the calls the pages are looked at.
+SHARE_WITH_PAGES = 0.1
 
 # Levels, distance, wait and clients, and the number: the first cause in the order of testing.
 OPENINGS = {
@@ -112,7 +108,7 @@ class History:
             number = lock.make(call).number
             record = lock.records[call.client] if call.client < self.clients else ()
             self.answers.append((number, lock.clock, *record))
-            if rng.random() < PAGES:
+            if rng.random() < SHARE_WITH_PAGES:
                 self.calls.append(("pages", call.client))
                 self.answers.append(pages_by_model(lock, call.client))
 
@@ -142,8 +138,7 @@ def rust_answers(history, edition):
 
 def compared(place, seed, history, answers):
     for number, (expected, found) in enumerate(zip(history.answers, answers, strict=True)):
-        unlike = sum(mine != other for mine, other in zip(expected[2:], found[2:])) + abs(len(expected) - len(found))
-        yield case("call on a table", [place, seed, number], (*expected[:2], 0)), (*found[:2], unlike)
+        yield case("call on a table", [place, seed, number], (*expected[:2], 0)), (*found[:2], unlike(expected[2:], found[2:]))
 
 
 def calls_of_histories():
@@ -186,57 +181,9 @@ def texts_in_rust():
             yield case("text in Rust", [place, number], 1), int(text == getattr(nolthewyr, f"{name}_text")(number))
 
 
-def raises(call):
-    try:
-        call()
-    except ValueError:
-        return 1
-    return 0
-
-
-def numbers_that_do_not_fit():
-    """ctypes cuts a number to its width, so that client 2^64 would be client 0. The Python file raises, and nothing is called."""
-    library()
-    table = nolthewyr.Table(nolthewyr.Settings(2, 1, 5), 2)
-    for outside in (-1, TOP + 1):
-        calls = [
-            lambda: table.request(outside, 10, 20), lambda: table.request(0, outside, 20), lambda: table.request(0, 10, outside),
-            lambda: table.step(outside, 1), lambda: table.step(0, outside), lambda: table.release(outside), lambda: table.cancel(outside),
-            lambda: table.run_page(outside),
-            lambda: nolthewyr.cover(outside, 10, 20), lambda: nolthewyr.cover(2, outside, 20), lambda: nolthewyr.word_count(outside),
-            lambda: nolthewyr.Settings(2, outside, 5), lambda: nolthewyr.Settings(levels=outside), lambda: nolthewyr.cause_text(outside),
-            lambda: nolthewyr.Table(nolthewyr.Settings(2, 1, 5), outside),
-        ]
-        for place, call in enumerate(calls):
-            yield case("number that does not fit", [place], 1), raises(call)
-    yield case("table in Python", [0], 1), int(table.clock == 0 and all(tuple(table.record(client)) == IDLE for client in range(2)))
-
-
-def owned_memory():
-    """What a caller does to the settings it opened with, or to a record or a page it was given, does not reach the table, and a call waits
-    until another thread's is made."""
-    library()
-    settings = nolthewyr.Settings(2, 1, 5)
-    table = nolthewyr.Table(settings, 1)
-    table.request(0, 10, 20)
-    settings.levels, table.record(0).phase = 3, 9
-    table.run_page(0).own.phase = table.planners_page()[0].phase = 9
-    stepping = Thread(target=table.step, args=(0, 1))
-    with table._lock:
-        stepping.start()
-        stepping.join(0.1)
-        waits = stepping.is_alive()
-    stepping.join()
-    yield case("table in Python", [1], 1), int(waits)
-    yield case("table in Python", [2], 1), int(table.clock == 1 and table.record(0).phase == nolthewyr.Phase.CLAIM)
-    yield case("table in Python", [3], 1), int(table.record(1) is None and table.record(-1) is None)
-
-
 SUITES = {
     "bindings, an opening is refused by its number on little memory": openings,
     "bindings, calls and pages of random histories in Python and in Rust": calls_of_histories,
     "bindings, covers and word counts": asked_of_levels,
     "bindings, texts in Rust are the library's": texts_in_rust,
-    "bindings, a number of over 64 bits is refused in Python": numbers_that_do_not_fit,
-    "bindings, a table in Python owns what it was opened with": owned_memory,
 }

@@ -106,6 +106,36 @@ def others_counted(settings, records, client, last):
     return page._replace(held=page.held - (page.own.phase == 9))
 
 
+def rows_of(order):
+    """The rows of an accepted page are those of the records in another order."""
+    def page(settings, records, rows, last):
+        number = planners_page(settings, records, rows, last)
+        rows[:] = rows if number else [row(settings, record) for record in order(records)]
+        return number
+    return page
+
+
+def in_10_bits(records):
+    return [records[place % 1024] for place in range(len(records))]
+
+
+def reversed_above_300(records):
+    return records[::-1] if len(records) > 300 else records
+
+
+def ends_tested_above_300(settings, records, rows, last):
+    """Of over 300 records only the first and the last are tested."""
+    number = planners_refused(settings, records, rows, last)
+    tested = [records[0], records[-1]] if number == 6 and len(records) > 300 else records
+    return number if number != 6 or any(unreadable(settings, record, last) for record in tested) else 0
+
+
+def own_in_10_bits(settings, records, client, last):
+    """The own record is found by 10 bits of the client's number."""
+    page = run_page(settings, records, client, last)
+    return page if page.number else page._replace(own=records[client % 1024])
+
+
 def in_place(name, value):
     return lambda: patch.object(pages, name, value)
 
@@ -129,10 +159,14 @@ RULES = IN_HISTORIES | {
     "the first record not tested": in_place("planners_refused", tested_without(0)),
     "the last record not tested": in_place("planners_refused", tested_without(-1)),
     "32,768 clients cut to 32,767": in_place("planners_refused", first_32767_tested),
+    "only the first and the last of over 300 records tested": in_place("planners_refused", ends_tested_above_300),
+    "rows of records found by 10 bits": in_place("planners_page", rows_of(in_10_bits)),
+    "rows of over 300 clients in reverse order": in_place("planners_page", rows_of(reversed_above_300)),
     "a refused page zeroes its rows": in_place("planners_page", zeroed_if_refused),
     "4 tested before 3": in_place("run_refused", four_before_three),
     "a run's page tests every record": in_place("run_refused", every_record_tested),
     "a run's page does not test its record": in_place("run_refused", own_not_tested),
+    "the own record found by 10 bits": in_place("run_page", own_in_10_bits),
     "a refused page has the count": in_place("run_page", count_when_refused),
     "a refused page has the record": in_place("run_page", record_when_refused),
     "readable clients counted": in_place("run_page", readable_counted),

@@ -12,6 +12,14 @@ from model.record import Settings
 notify_levels = tree.notify_levels
 
 
+def by_broken(function, *arguments):
+    """What a function gives while a rule is broken, under which it may also fall: nothing then."""
+    try:
+        return function(*arguments)
+    except (ArithmeticError, LookupError, MemoryError, RecursionError, TypeError, ValueError):
+        return None
+
+
 def late_with_greater(settings, record, clock):
     """Late tested with > for >=."""
     return clock - record.t1 > settings.wait

@@ -6,8 +6,19 @@ from library import ANSWER, signatures
 
 SHOWN = 5
 
-# The names of each call's arguments and results: those of the library's calls from its header; other modules add theirs.
-NAMES = signatures()
+
+class Names(dict):
+    """The names of each call's arguments and results. A call that is named twice is refused: one of the two would be reported by the
+    other's names."""
+
+    def __setitem__(self, call, names):
+        if call in self:
+            raise ValueError(f"two tests name their call `{call}`")
+        super().__setitem__(call, names)
+
+
+# Those of the library's calls, from its header; other modules add theirs.
+NAMES = Names(signatures())
 
 
 class Case(NamedTuple):
@@ -33,6 +44,11 @@ def differences(cases, answers):
     if len(cases) != len(answers):
         raise SystemExit(f"{len(cases)} cases have {len(answers)} answers")
     return [(case, answer) for case, answer in zip(cases, answers) if case.expected != answer]
+
+
+def unlike(mine, others):
+    """In how many places two lists differ, or are not of one length."""
+    return sum(one != other for one, other in zip(mine, others)) + abs(len(mine) - len(others))
 
 
 def altered(answer, at):

@@ -25,6 +25,7 @@ LEVELS = 3, 12
 DOCUMENT = ROOT / "docs" / "LINKING.md"
 CASE = ROOT / "schedules" / "whole-case"
 PROGRAMS = "rangelog", "rangepages", "schedule"
+OTHER_VERSIONS = "0.2.0", "0.1.0", "1.0.1", "0.10.1"
 
 
 def compared(name, before, expected, found):
@@ -105,22 +106,31 @@ def found_by_python():
         yield case("found by Python", [way], 1), int(run("python3", "-c", ASK, **named).split() == [expected, version])
 
 
-def another_series():
-    """A library of another series is not used: its records may have another size."""
-    source, made = place("another.c"), place("another.so")
-    functions = (f"const char *nolthewyr_{name}(void) {{ return \"0.2.0\"; }}\n" for name in nolthewyr.FUNCTIONS)
-    source.write_text("".join(functions))
+def of_another_version(version):
+    """A library that has nothing but this version."""
+    source, made = place(f"{version}.c"), place(f"{version}.so")
+    source.write_text(f'const char *nolthewyr_version(void) {{ return "{version}"; }}\n')
     command("gcc", "-shared", "-fPIC", source, "-o", made)
-    named = environment(PYTHONPATH=asked("--variable=pkgdatadir")[0], NOLTHEWYR_LIBRARY=str(made))
-    ran = subprocess.run(["python3", "-c", ASK], env=named, capture_output=True, text=True)
-    yield case("found by Python", [5], 1), int(f"{made} has version 0.2.0, and this file is for" in ran.stderr)
+    return made
+
+
+def another_version():
+    """A library of another series is not used, since its records may have another size, and none of a lower version, since it has not all
+    functions. Both are refused by their version, whatever functions they have."""
+    for way, version in enumerate(OTHER_VERSIONS, 5):
+        made = of_another_version(version)
+        named = environment(PYTHONPATH=asked("--variable=pkgdatadir")[0], NOLTHEWYR_LIBRARY=str(made))
+        ran = subprocess.run(["python3", "-c", ASK], env=named, capture_output=True, text=True)
+        wanted = f"{nolthewyr.SERIES}, from {nolthewyr.SERIES}.{nolthewyr.LEAST} on"
+        said = f"ImportError: {made} has version {version}, and this file is for {wanted}\n"
+        yield case("found by Python", [way], 1), int(ran.stderr.endswith(said))
 
 
 def printed_of_case(program):
     """What an installed program prints of the whole case."""
-    taken = {"env": environment(), "cwd": folder().name, "capture_output": True, "text": True}
+    options = {"env": environment(), "cwd": folder().name, "capture_output": True, "text": True}
     with open(CASE.with_suffix(".bin"), "rb") as case_file:
-        return subprocess.run([prefix() / "bin" / program], stdin=case_file, **taken).stdout
+        return subprocess.run([prefix() / "bin" / program], stdin=case_file, **options).stdout
 
 
 def programs():
@@ -147,10 +157,21 @@ def words_of_rangelog():
 
 
 def words_of_rangepages():
-    """The names of a row's fields and of a record's, as their structs have them, and what a schedule is refused by."""
+    """What a schedule is refused by."""
     library()
-    fields = [f" {name} " for struct in (nolthewyr.Row, nolthewyr.Record) for name, _ in struct._fields_]
-    return fields + [f"{number} {nolthewyr.cause_text(number)}" for number in (10, 11)]
+    return [f"{number} {nolthewyr.cause_text(number)}" for number in (10, 11)]
+
+
+def fields_unlike(source):
+    """The names of a row's fields and then of a record's, in the order of their structs, and those that the page of rangepages lists, where
+    these differ."""
+    listed = re.findall(r"^\.It ([a-z]\w*)", source.read_text(), re.MULTILINE)
+    fields = [name for struct in (nolthewyr.Row, nolthewyr.Record) for name, _ in struct._fields_]
+    return [pair for pair in zip_longest(fields, listed) if pair[0] != pair[1]]
+
+
+def missing(words, read):
+    return [word for word in words if word not in read]
 
 
 def words_of_schedule():
@@ -168,8 +189,8 @@ def synopsis(read):
         yield use.split()[0], *sorted(re.findall(r"(?<=\[)(-\w|--\w+)\b", use))
 
 
-def pages():
-    """The pages are set without a warning. That of rangelog has the words of a log; that of rangepages the names of all fields; that of
+def manual_pages():
+    """The pages are set without a warning. That of rangelog has the words of a log; that of rangepages lists all fields in order; that of
     schedule its commands and options, and no others."""
     for number, program in enumerate(PROGRAMS):
         source = prefix() / "share" / "man" / "man1" / f"{program}.1"
@@ -177,9 +198,10 @@ def pages():
         read = " ".join(run("man", "--local-file", source, MANWIDTH="1000").split())
         if program == "schedule":
             unlike = set(words_of_schedule()) ^ set(synopsis(read))
+        elif program == "rangelog":
+            unlike = missing(words_of_rangelog(), read)
         else:
-            words = words_of_rangelog() if program == "rangelog" else words_of_rangepages()
-            unlike = [word for word in words if word not in read]
+            unlike = missing(words_of_rangepages(), read) + fields_unlike(source)
         if unlike:
             print(f"    {source.name} and the program differ in {', '.join(map(str, unlike))}")
         yield case("page", [number], (0, 0)), (len(warned.splitlines()), len(unlike))
@@ -191,7 +213,7 @@ SUITES = {
     "installed, who is linked with the shared library needs it": linked_shared,
     "installed, all files, and none when uninstalled": installed_files,
     "installed, Python finds the library": found_by_python,
-    "installed, Python does not use a library of another series": another_series,
+    "installed, Python does not use a library of another series or of a lower version": another_version,
     "installed, the programs run": programs,
-    "installed, the pages have no warning and say what the programs do": pages,
+    "installed, the pages have no warning and say what the programs do": manual_pages,
 }

@@ -1,6 +1,7 @@
 """Tables to ask for pages, lent with any content: in the middle of histories, readable, with damaged records, with as many clients and rows
 as there may be and with others, and with every cause of a refusal."""
 
+from functools import lru_cache
 from random import Random
 from typing import NamedTuple
 
@@ -16,6 +17,9 @@ HISTORIES = 60
 CALLS = 80
 TABLES = 50
 MOST = 32767
+# Under these settings and at this clock a client may be at many places.
+VARIED = Settings(6, 2, 50)
+VARIED_LAST = 1000
 
 
 class Lent(NamedTuple):
@@ -53,6 +57,11 @@ def damaged(rng, settings, record, last):
     return Record(*(value if rng.random() < 0.3 else any_number(rng) for value in record))
 
 
+def once(tables):
+    """Each of these tables, but none twice: a change may leave a record as it was."""
+    return [lent for place, lent in enumerate(tables) if lent not in tables[:place]]
+
+
 def of_any_content():
     """Readable records of every H and any clock; the same with one of them damaged, the client's or another's; and all of them
     damaged."""
@@ -62,11 +71,10 @@ def of_any_content():
             settings, last, clients = any_settings(rng, h), any_clock(rng), rng.choice([1, 2, 3, 7])
             records = [built(rng, settings, last) for _ in range(clients)]
             client, place = rng.randrange(clients), rng.randrange(clients)
-            yield lent(settings, records, client, last)
             hurt = [damaged(rng, settings, record, last) if at == place else record for at, record in enumerate(records)]
-            yield lent(settings, hurt, client, last)
-            yield lent(settings, hurt, place, last)
-            yield lent(settings, [damaged(rng, settings, record, last) for record in records], client, last)
+            all_hurt = [damaged(rng, settings, record, last) for record in records]
+            asked = (records, client), (hurt, client), (hurt, place), (all_hurt, client)
+            yield from once([lent(settings, asked_of, run, last) for asked_of, run in asked])
 
 
 def of_expected_answers():
@@ -120,6 +128,23 @@ def of_most_clients():
         yield Lent(SETTINGS, [*held, HELD], rows, 0, LAST)
     yield lent(SETTINGS, [*held, unreadable], 0, LAST)
     yield lent(SETTINGS, [*held, HELD], MOST + 1, LAST)
+
+
+@lru_cache(maxsize=None)
+def varied():
+    """32,767 readable records, of which hardly two are alike."""
+    rng = Random("most clients")
+    return tuple(built(rng, VARIED, VARIED_LAST) for _ in range(MOST))
+
+
+def of_most_varied_clients():
+    """32,767 clients that are all at other places, for one at either end, in the middle, and at a place beyond 10 bits; and with the
+    record in the middle unreadable."""
+    middle = MOST // 2
+    for client in (0, 1024, middle, MOST - 1):
+        yield lent(VARIED, varied(), client, VARIED_LAST)
+    unreadable = varied()[middle]._replace(ticket=32768)
+    yield lent(VARIED, [*varied()[:middle], unreadable, *varied()[middle + 1:]], 1024, VARIED_LAST)
 
 
 def others_unreadable():

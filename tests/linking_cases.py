@@ -3,14 +3,14 @@ libraries export, to document 01's names, and to each other."""
 
 import re
 import subprocess
-from itertools import zip_longest
 
-from compare import NAMES, case
+from compare import NAMES, case, unlike
 from compiled_table import library, nolthewyr
 from library import ROOT, made
 
 NAMES["declared struct"] = ("language", "struct"), ("fields", "fields unlike")
 NAMES["declared functions"] = ("place",), ("functions", "functions unlike")
+NAMES["declared parameters"] = ("language", "function"), ("parameters", "parameters unlike")
 NAMES["declared names"] = ("language", "enumeration"), ("names", "names unlike")
 NAMES["text"] = ("enumeration", "number"), ("as document 01 says",)
 NAMES["compiled without a warning"] = ("place in the list of compilers",), ("exit status",)
@@ -28,6 +28,10 @@ STRUCTS = {
 # The crates whose exported functions are linked.
 LINKED = "table", "pages"
 
+# What the length of each lent slice is called, and what C's types are in Rust.
+LENGTHS = {"records": "clients", "words": "count", "rows": "count"}
+C_TYPES = {"uint64_t": "u64", "size_t": "usize"}
+
 # What the documents call each number. The names of causes are short ones for the rows of document 01's table.
 ENUMERATIONS = {
     "phase": "idle ticket turn climb blocked claim notify wait check held returning".split(),
@@ -37,7 +41,8 @@ ENUMERATIONS = {
 
 # Words of document 01's table that the texts of the causes have.
 CAUSE_WORDS = [
-    "accepted", "levels not 2 to 12, distance not 1 to 4, or wait not 1 to 4294967295", "word count not the tree's",
+    "accepted", "levels not 2 to 12, distance not 1 to 4, or wait not 1 to 4294967295",
+    "word count not the tree's, (4^levels - 1) / 3; or not one row for each client",
     "no clients, or over 32767", "client not below the table's count", "step clock below the last clock", "client's record unreadable",
     "window", "request when not idle, release when not held, or cancel", "returning leaf finds a wanted bit clear", "schedule",
     "over 6 levels or over 64 clients",
@@ -89,14 +94,58 @@ def declared_structs():
     for place, fields_of in enumerate((c_fields, rust_fields, python_fields)):
         for number, (name, in_source) in enumerate(STRUCTS.items()):
             fields, declared = source_fields(*in_source), fields_of(name)
-            unlike = sum(mine != other for mine, other in zip_longest(fields, declared))
-            yield case("declared struct", [place, number], (len(fields), 0)), (len(declared), unlike)
+            yield case("declared struct", [place, number], (len(fields), 0)), (len(declared), unlike(fields, declared))
+
+
+def named_types(parameters):
+    """Each parameter of a list in Rattle or Rust: its name and its type."""
+    return re.findall(r"(\w+): ([^,]+)", " ".join(parameters.split()))
+
+
+def by_rattle(parameters):
+    """The parameters in Rattle, as C and Rust have them: a slice is a pointer, and then its length by its own name."""
+    for name, type_ in named_types(parameters):
+        if lent := re.fullmatch(r"&(mut )?\[(\w+)\]", type_):
+            yield from (f"{name}: *{'mut' if lent[1] else 'const'} {lent[2]}", f"{LENGTHS[name]}: usize")
+        else:
+            yield f"{name}: {type_}"
+
+
+def by_c(parameters):
+    """The parameters in C, by the types' names in Rust."""
+    for const, type_, pointer, name in re.findall(r"(const )?(\w+) (\*?)(\w+)", " ".join(parameters.split())):
+        lent = f"*{'const' if const else 'mut'} " if pointer else ""
+        yield f"{name}: {lent}{C_TYPES.get(type_) or struct_of(type_)}"
+
+
+def by_rust(parameters):
+    return (f"{name}: {type_}" for name, type_ in named_types(parameters))
+
+
+def functions_in(text, pattern, parameters_of):
+    """The functions of a text, each with its parameters in order."""
+    return {name: list(parameters_of(parameters)) for name, parameters in re.findall(pattern, text, re.MULTILINE)}
 
 
 def exported_by_source():
+    """The functions that are linked, each with its parameters in order."""
     sources = (path for crate in LINKED for path in (ROOT / "crates" / crate / "src").glob("*.rt"))
-    proved = {name for path in sources for name in re.findall(r'pub extern "C" fn (\w+)\(', path.read_text())}
-    return proved | set(re.findall(r"^const char \*(\w+)\(", TEXTS.read_text(), re.MULTILINE))
+    proved = functions_in("".join(path.read_text() for path in sources), r'pub extern "C" fn (\w+)\(([^)]*)\)', by_rattle)
+    return proved | functions_in(TEXTS.read_text(), r"^const char \*(\w+)\(([^)]*)\)", by_c)
+
+
+def declared_parameters():
+    """The functions that C and Rust declare have the parameters of the source in the same order, by name and by type."""
+    declared = [
+        functions_in(HEADER.read_text(), r"^\w[\w ]*[ *](nolthewyr_\w+)\(([^)]*)\);", by_c),
+        functions_in(RUST.read_text(), r"fn (nolthewyr_\w+)\(([^)]*)\)", by_rust),
+    ]
+    for place, functions in enumerate(declared):
+        for number, (name, expected) in enumerate(exported_by_source().items()):
+            found = functions.get(name, [])
+            if found != expected:
+                print(f"    {name} is declared with {found}, and not with {expected}")
+            yield case("declared parameters", [place, number], (len(expected), 0)), (len(found), unlike(expected, found))
 
 
 def exported(path, *options):
@@ -107,7 +156,7 @@ def exported(path, *options):
 
 def declared_functions():
     """The declared functions and the exported ones are the same, in all languages and both libraries."""
-    expected = exported_by_source()
+    expected = set(exported_by_source())
     found = [
         set(re.findall(r"^\w[\w ]*[ *](nolthewyr_\w+)\(", HEADER.read_text(), re.MULTILINE)),
         set(re.findall(r"fn (nolthewyr_\w+)\(", RUST.read_text())),
@@ -137,8 +186,8 @@ def declared_names():
     for place, names_of in enumerate((c_names, rust_names, python_names)):
         for number, (name, names) in enumerate(ENUMERATIONS.items()):
             found = [(named.lower(), int(at)) for named, at in names_of(name)]
-            unlike = sum(mine != other for mine, other in zip_longest(zip(names, range(len(names))), found))
-            yield case("declared names", [place, number], (len(names), 0)), (len(found), unlike)
+            expected = [(named, at) for at, named in enumerate(names)]
+            yield case("declared names", [place, number], (len(names), 0)), (len(found), unlike(expected, found))
 
 
 def texts():
@@ -177,7 +226,7 @@ def versions():
     library()
     read = subprocess.run(["objdump", "-p", made("build/libnolthewyr.so")], check=True, capture_output=True, text=True).stdout
     series = version.rpartition(".")[0]
-    found = [nolthewyr.version() == version, nolthewyr.SERIES == series, f" libnolthewyr.so.{series}\n" in read]
+    found = [nolthewyr.version() == version, f"{nolthewyr.SERIES}.{nolthewyr.LEAST}" == version, f" libnolthewyr.so.{series}\n" in read]
     for place, same in enumerate(found):
         yield case("version", [place], 1), int(same)
 
@@ -185,6 +234,7 @@ def versions():
 SUITES = {
     "linking, the declared structs are those of the source": declared_structs,
     "linking, the declared functions are those that are exported": declared_functions,
+    "linking, the declared functions have the source's parameters": declared_parameters,
     "linking, phases, outcomes and causes have the documents' names in all languages": declared_names,
     "linking, every number has a text": texts,
     "linking, the declarations compile without a warning": compiled,

@@ -38,8 +38,8 @@ def environment(**named):
 
 def run(*words, **named):
     """Runs a program outside the repository, and gives what it wrote. Its exit status must be 0."""
-    taken = {"check": True, "capture_output": True, "text": True, "timeout": SECONDS}
-    return subprocess.run(words, cwd=folder().name, env=environment(**named), **taken).stdout
+    options = {"check": True, "capture_output": True, "text": True, "timeout": SECONDS}
+    return subprocess.run(words, cwd=folder().name, env=environment(**named), **options).stdout
 
 
 def asked(*words):

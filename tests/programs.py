@@ -30,11 +30,10 @@ class Ran(NamedTuple):
 
 
 class Program(NamedTuple):
-    """A program that reads a schedule: its name, what it prints in a word, the ending of files that have that, and the model's function
-    of a file, asked for each time, since a rule of the model may be broken meanwhile."""
+    """A program that reads a schedule: its name, the ending of files that have what it prints, and the model's function of a file, asked for
+    each time, since a rule of the model may be broken meanwhile."""
 
     name: str
-    prints: str
     ending: str
     by_model: Callable
 
@@ -70,7 +69,7 @@ class Program(NamedTuple):
         wanted, found = numbers(expected, ran)
         if wanted != found:
             self.keep(name, data, expected, ran)
-        NAMES[f"{self.name}, {name}"] = ("file's bytes",), PRINTED
+        NAMES.setdefault(f"{self.name}, {name}", (("file's bytes",), PRINTED))
         return Case(f"{self.name}, {name}", (len(data),), wanted), found
 
     def held_to_model(self, name, data):
@@ -85,8 +84,8 @@ class Program(NamedTuple):
         yield self.compared(path.name, data, expected, self.run(data))
 
 
-RANGELOG = Program("rangelog", "log", ".log", lambda: schedule.log)
-RANGEPAGES = Program("rangepages", "pages", ".pages", lambda: pages.pages)
+RANGELOG = Program("rangelog", ".log", lambda: schedule.log)
+RANGEPAGES = Program("rangepages", ".pages", lambda: pages.pages)
 PROGRAMS = RANGELOG, RANGEPAGES
 
 

@@ -1,4 +1,4 @@
-"""Random files for `rangelog`, by kind and seed: contended, well-formed of every size, refused in part or whole, and
+"""Random files for `rangelog` and `rangepages`, by kind and seed: contended, well-formed of every size, refused in part or whole, and
 damaged."""
 
 from random import Random

@@ -5,9 +5,12 @@ import subprocess
 from time import sleep
 
 from broken_programs import BROKEN, broken
+from broken_rules import by_broken
 from compare import NAMES, case
 from history_cases import WHOLE_CASE as WHOLE_CASE_LINES
 from library import ROOT, SECONDS
+from model.pages import Row
+from model.record import Record
 from model.schedule import HEADER
 from programs import PROGRAMS, RANGELOG, RANGEPAGES, Ran
 from random_schedules import drawn
@@ -28,6 +31,7 @@ WHOLE_PAGES = b"""\
 """
 WHOLE = {RANGELOG: WHOLE_LOG, RANGEPAGES: WHOLE_PAGES}
 
+NAMES["shown in tests/schedules"] = ("place in the list of what must be shown",), ("shown",)
 NAMES["broken program"] = ("program", "place in the list of broken programs"), ("found out",)
 
 
@@ -50,6 +54,23 @@ def corpus(program):
     """The files in tests/schedules, each beside its log and its pages: the model and the program print these."""
     for path in sorted(CORPUS.glob("*.bin")):
         yield from program.held_to_file(path)
+
+
+def shown_in_corpus():
+    """The pages in tests/schedules have what only clients in the middle show: over-cover of two pieces that are held, the second piece given
+    back, each outcome, 64 clients, and clocks of 20 digits."""
+    lines = [list(map(int, line.split())) for path in CORPUS.glob("*.pages") for line in path.read_text().splitlines() if line[0].isdigit()]
+    rows = [Row(*row) for _, *row in lines if len(row) == len(Row._fields)]
+    records = [Record(*record[:-1]) for _, *record in lines if len(record) == len(Record._fields) + 1]
+    shown = [
+        any(row.phase == 9 and row.second and row.over for row in rows),
+        any(record.phase == 10 and record.giving == 1 for record in records),
+        {record.outcome for record in records} == {0, 1, 2, 3},
+        any(line[0] == 63 for line in lines),
+        any(min(record.t1, record.t0) >= 10 ** 19 for record in records),
+    ]
+    for place, found in enumerate(shown):
+        yield case("shown in tests/schedules", [place], 1), int(found)
 
 
 def clients_twice(data):
@@ -121,21 +142,13 @@ def all_files():
     yield from (drawn("contended", seed) for seed in range(FEW_SEEDS))
 
 
-def by_broken(program, data):
-    """What a broken program prints, which may also fall."""
-    try:
-        return program.expected(data)
-    except (ValueError, IndexError, KeyError, MemoryError):
-        return b"fallen"
-
-
 def broken_programs(place):
     """Of each broken program some file shows it."""
     program = PROGRAMS[place]
     files = [(data, program.expected(data)) for data in all_files()]
     for at, name in enumerate(BROKEN[program.name]):
         with broken(name):
-            found_out = any(by_broken(program, data) != text for data, text in files)
+            found_out = any(by_broken(program.expected, data) != text for data, text in files)
         yield case("broken program", [place, at], 1), int(found_out)
 
 
@@ -151,4 +164,8 @@ def suites_of(place):
     }
 
 
-SUITES = {"rangelog, the whole case with clock 6 in call 7": clock_6_in_call_7, **suites_of(0), **suites_of(1)}
+SUITES = {
+    "rangelog, the whole case with clock 6 in call 7": clock_6_in_call_7,
+    "tests/schedules, clients in the middle": shown_in_corpus,
+    **suites_of(0), **suites_of(1),
+}

@@ -50,27 +50,34 @@ COMMANDS = {
     "two files": ("schedule pack whole-case.txt blocked.txt", 2,
                   "usage: schedule [-h] COMMAND ...\nschedule: error: unrecognized arguments: blocked.txt\n"),
     "rangelog missing": ("RANGELOG=/no/rangelog schedule run whole-case.txt", 3,
-                         "schedule: /no/rangelog could not be run: No such file or directory\n"),
+                         "schedule: /no/rangelog could not be run: No such file or directory; RANGELOG in the environment is "
+                         "`/no/rangelog`\n"),
     "rangelog says something": ("RANGELOG='ls /no/such/file' schedule run whole-case.txt", 3,
-                                "schedule: ls: cannot access '/no/such/file': No such file or directory\n"),
-    "rangelog ends with 1": ("RANGELOG=false schedule run whole-case.txt", 3, "schedule: false ended with status 1\n"),
+                                "schedule: ls: cannot access '/no/such/file': No such file or directory; RANGELOG in the environment is "
+                                "`ls /no/such/file`\n"),
+    "rangelog ends with 1": ("RANGELOG=false schedule run whole-case.txt", 3,
+                             "schedule: false ended with status 1; RANGELOG in the environment is `false`\n"),
     "no log": ("RANGELOG=true schedule run whole-case.txt", 3,
-               "schedule: what rangelog printed is not whole: it has 0 lines, and the model's has 15\n"),
+               "schedule: what rangelog printed is not whole: it has 0 lines, and the model's has 15; RANGELOG in the environment is "
+               "`true`\n"),
     "no log of a refused schedule": ("echo tree 7 m 1 wait 5 clients 2 | RANGELOG=true schedule run --log", 3,
-                                     "schedule: what rangelog printed is not whole: it has 0 lines, and the model's has 1\n"),
+                                     "schedule: what rangelog printed is not whole: it has 0 lines, and the model's has 1; RANGELOG in the "
+                                     "environment is `true`\n"),
     "a log of a refused schedule": ("echo tree 7 m 1 wait 5 clients 2 | RANGELOG='echo tree 7 m 1 wait 5 clients 2' schedule run", 3,
                                     "schedule: line 1 that rangelog printed is `tree 7 m 1 wait 5 clients 2`, and the model says "
-                                    f"`refused 11`: {WRONG}\n"),
+                                    f"`refused 11`: {WRONG}; RANGELOG in the environment is `echo tree 7 m 1 wait 5 clients 2`\n"),
     "no command for rangelog": ("RANGELOG=\"'\" schedule run whole-case.txt", 3,
                                 "schedule: RANGELOG in the environment is no command: No closing quotation\n"),
     "a refused schedule, pages": ("echo tree 2 m 1 wait 5 clients 0 | schedule pages", 1, "refused 3: no clients: correct the settings\n"),
     "rangepages missing": ("RANGEPAGES=/no/rangepages schedule pages whole-case.txt", 3,
-                           "schedule: /no/rangepages could not be run: No such file or directory\n"),
+                           "schedule: /no/rangepages could not be run: No such file or directory; RANGEPAGES in the environment is "
+                           "`/no/rangepages`\n"),
     "rangelog in place of rangepages": ("RANGEPAGES='cat whole-case.log' schedule pages whole-case.txt", 3,
                                         "schedule: line 1 that rangepages printed is `tree 2 m 1 wait 5 clients 2`, and the model says "
-                                        f"`0 0 0 0 0 0 0`: {WRONG}\n"),
+                                        f"`0 0 0 0 0 0 0`: {WRONG}; RANGEPAGES in the environment is `cat whole-case.log`\n"),
     "no pages": ("RANGEPAGES=true schedule pages whole-case.txt", 3,
-                 "schedule: what rangepages printed is not whole: it has 0 lines, and the model's has 4\n"),
+                 "schedule: what rangepages printed is not whole: it has 0 lines, and the model's has 4; RANGEPAGES in the environment is "
+                 "`true`\n"),
     "no command for rangepages": ("RANGEPAGES=\"'\" schedule pages whole-case.txt", 3,
                                   "schedule: RANGEPAGES in the environment is no command: No closing quotation\n"),
 }
@@ -123,7 +130,8 @@ def changed_logs():
             path = Path(folder) / "log"
             path.write_text(log)
             ran = started("run", data=WHOLE_TEXT, RANGELOG=f"cat {path}")
-        yield told(f"log with {name}", (3, f"schedule: {said}\n", 0), (ran.status, ran.said, len(ran.written)))
+        expected = f"schedule: {said}; RANGELOG in the environment is `cat {path}`\n"
+        yield told(f"log with {name}", (3, expected, 0), (ran.status, ran.said, len(ran.written)))
 
 
 def output_files():

@@ -1,4 +1,4 @@
-"""Files for `rangelog` by name: document 01's whole case written out, and each edge of the format. Where a file is refused
+"""Files for `rangelog` and `rangepages` by name: document 01's whole case written out, and each edge of the format. Where a file is refused
 before any call is made, its number stands beside it."""
 
 from typing import NamedTuple
@@ -153,8 +153,30 @@ def calls():
     yield "requests of 64 clients", File(of_calls(*(Call("request", c, c, c + 1) for c in range(66)), levels=6, clients=64))
 
 
+def steps(client, first, count):
+    """So many steps of a client, one a tick; those that it takes when it holds change nothing."""
+    return [Call("step", client, clock) for clock in range(first, first + count)]
+
+
+def standing():
+    """What the pages show of clients in the middle: two pieces with over-cover, the second of them given back, each outcome, and as many
+    clients and digits as there may be."""
+    held = [Call("request", 0, 100, 400), *steps(0, 1, 40), Call("request", 1, 10, 20), *steps(1, 41, 2)]
+    yield "two pieces with over-cover held", File(of_calls(*held, levels=3))
+    yield "the second piece given back", File(of_calls(*held, Call("release", 0), *steps(0, 50, 3), levels=3))
+    late = [[Call("request", client, left, left + 4), *(Call("step", client, clock) for clock in (10, 11, 15))]
+            for client, left in ((0, 10), (1, 70))]
+    cancelled = [Call("request", 2, 0, 256), *steps(2, 15, 2), Call("cancel", 2), Call("request", 3, 80, 90), Call("cancel", 3)]
+    ended = [*(call for calls in zip(*late) for call in calls), *cancelled, *steps(1, 20, 2)]
+    yield "outcomes 2 and 3 while giving back and idle", File(of_calls(*ended, clients=4))
+    requests = [Call("request", client, 1024 * client + 100, 1024 * client + 400) for client in range(64)]
+    many = [Call("step", client, TOP - 64 * (30 - turn) + client + 1) for turn in range(30) for client in range(64 - 2 * turn)]
+    yield "64 clients with clocks of 20 digits", File(of_calls(*requests, *many, levels=6, distance=4, wait=600, clients=64))
+
+
 def by_group():
     """Each group of files, by name."""
     groups = {"lengths": lengths, "offsets": offsets, "kinds and zero fields": kinds_and_zero_fields,
-              "settings and clients": openings, "calls of every kind": calls}
+              "settings and clients": openings, "calls of every kind": calls,
+              "clients in the middle": standing}
     return {group: dict(files()) for group, files in groups.items()}

@@ -1,104 +1,167 @@
-"""Cases for `tools/schedule pages`: both pages in words, held to the records that the model leaves, the whole case as docs/SCHEDULES.md
-shows it, and pages that are not whole or not the model's."""
+"""Cases for `tools/schedule pages`: both pages in words, held to the records that the model leaves, those that docs/SCHEDULES.md
+shows, and pages that are not whole or not the model's."""
 
 from itertools import zip_longest
 from pathlib import Path
 from tempfile import TemporaryDirectory
+from typing import NamedTuple
 
-from compare import NAMES, case
+from compare import NAMES, case, unlike
 from library import ROOT
 from model import cover, pages, schedule
+from model.history import Call
 from model.record import Record
 from random_schedules import drawn
 from schedule_failing_cases import WRONG
+from schedule_files import of_calls
 from schedule_run_cases import OUTCOMES, PHASES, run_by_model
 from schedule_tool import started
-from scheduling.page_report import MEANING, page_report
+from scheduling.page_report import page_report
 
-NAMES["report of pages"] = ("seed",), ("lines", "lines unlike")
+NAMES["report of pages"] = ("seed or place",), ("lines", "lines unlike", "lines too wide")
 NAMES["line of the pages"] = ("line",), ("as expected",)
 NAMES["pages of a schedule"] = ("place in the list of files",), ("exit status", "lines", "said why")
 NAMES["changed pages"] = ("place in the list of changes",), ("exit status", "said as expected", "bytes written")
 
 WHOLE = ROOT / "schedules" / "whole-case"
+OVER_COVER = ROOT / "schedules" / "over-cover"
 SEEDS = 60
+WIDE = 100
+# So far to the right begins a line that goes on with the one before it.
+GOES_ON = " " * 20
 
 
-def last_records(read):
-    """The records after the last call, as the model makes it."""
-    opened = None
-    for opened, *_ in run_by_model(read):
-        pass
-    return opened.records if opened else [Record()] * read.clients
+class After(NamedTuple):
+    """What the model leaves after the last call: the records, the last clock, and how many calls were refused."""
+
+    records: list
+    clock: int
+    refused: int
+
+
+def after(read):
+    opened, numbers = None, []
+    for opened, made, *_ in run_by_model(read):
+        numbers.append(made.number)
+    if opened is None:
+        return After([Record()] * read.clients, 0, 0)
+    return After(opened.records, opened.clock, sum(number != 0 for number in numbers))
+
+
+def nodes_in_words(first, second):
+    return f"{first} and {second}" if second else str(first)
 
 
 def planners_words(settings, client, record):
-    """The words of a client's line, without looking at the tool: its window's cover is asked for anew."""
-    words = [str(client), str(record.phase), PHASES[record.phase]]
+    """A client's line, without looking at the tool: its window's cover is asked for anew."""
+    said = f"{client} {record.phase} {PHASES[record.phase]}"
     if record.phase == 0:
-        return words
+        return said
     _, first, second, over = cover.cover(settings.levels, record.left, record.right)
-    nodes = [str(first), "and", str(second)] if second else [str(first)]
-    beyond = ["none"] if over == 0 else [str(over), "unit" if over == 1 else "units"]
-    return [*words, f"[{record.left},", f"{record.right})", *nodes, *beyond]
+    beyond = "none" if over == 0 else "1 unit" if over == 1 else f"{over} units"
+    return f"{said} [{record.left}, {record.right}) {nodes_in_words(first, second)} {beyond}"
 
 
 def run_words(client, record, held):
-    """The words of a run's line: every field of its record in the document's order, and the count."""
-    phase, outcome, *others = record
-    said = [OUTCOMES[outcome]] if outcome else []
-    return [str(client), str(phase), PHASES[phase], str(outcome), *said, *map(str, others), str(held)]
+    """A run's line: the count, the phase, and every other field that is not 0 in the document's order."""
+    fields = [f"outcome {record.outcome} {OUTCOMES[record.outcome]}"] if record.outcome else []
+    if record.phase:
+        name = "nodes" if record.second else "node"
+        fields += [f"window [{record.left}, {record.right})", f"{name} {nodes_in_words(record.first, record.second)}"]
+    names = "current giving grip ticket place notices t1 t0".split()
+    fields += [f"{name} {value}" for name, value in zip(names, record[-len(names):], strict=True) if value]
+    return f"{client} {held} {record.phase} {PHASES[record.phase]} {', '.join(fields)}"
 
 
-# The lines above and between the two tables.
-ABOVE = ["The planners' page".split(), ["client", "phase", "window", "nodes", "over-cover"]]
-BETWEEN = [MEANING.split(), [], "The runs' pages: each run gets its own line, and no other".split(),
-           ["run", *Record._fields, "clients", "that", "hold"]]
+# The lines above the two tables and between them.
+ABOVE = ["", "The planners' page", "client phase window nodes over-cover"]
+BETWEEN = ["Over-cover: units beyond the window that its nodes lock with it.", "While the window is held nobody else can hold them.", "",
+           "The runs' pages: each run gets its own, and no other. Fields that are 0 are left out", "client holding phase its record"]
+
+
+def when(read, clock):
+    h, m, wait = read.settings
+    calls = "1 call" if len(read.calls) == 1 else f"{len(read.calls)} calls"
+    return f"After {calls}, at clock {clock}, in a tree of {h} levels (m {m}, wait {wait})"
+
+
+def refused_words(refused, calls):
+    """What is said at the end if calls were refused."""
+    if refused == 0:
+        return []
+    counted = f"{refused} of {calls} call{'' if calls == 1 else 's'} {'was' if refused == 1 else 'were'}"
+    return ["", f"{counted} refused: `schedule run` says which"]
 
 
 def expected_words(read):
     """The words of each line of a schedule's pages."""
-    records = last_records(read)
+    records, clock, refused = after(read)
     held = sum(record.phase == 9 for record in records)
     planners = [planners_words(read.settings, client, record) for client, record in enumerate(records)]
-    return ABOVE + planners + BETWEEN + [run_words(client, record, held) for client, record in enumerate(records)]
+    runs = [run_words(client, record, held) for client, record in enumerate(records)]
+    lines = [when(read, clock), *ABOVE, *planners, *BETWEEN, *runs, *refused_words(refused, len(read.calls))]
+    return [line.split() for line in lines]
+
+
+def whole_lines(lines):
+    """The words of each line, with those of the lines that go on with it."""
+    found = []
+    for line in lines:
+        if line.startswith(GOES_ON):
+            found[-1] += line.split()
+        else:
+            found.append(line.split())
+    return found
+
+
+def report_case(place, data):
+    """The report of a file has the expected words, and no line that is too wide."""
+    lines = list(page_report(schedule.decode(data), pages.pages(data).splitlines()))
+    found, expected = whole_lines(lines), expected_words(schedule.decode(data))
+    too_wide = sum(len(line) > WIDE for line in lines)
+    return case("report of pages", [place], (len(expected), 0, 0)), (len(found), unlike(expected, found), too_wide)
 
 
 def reports():
-    """Random schedules: a line for each client in both tables, under the names of the fields."""
+    """Random schedules: a line for each client in both tables, with all that its record says."""
     for seed in range(SEEDS):
-        data = drawn("contended" if seed % 3 else "well-formed", seed)
-        lines = [line.split() for line in page_report(pages.pages(data).splitlines())]
-        expected = expected_words(schedule.decode(data))
-        unlike = sum(found != words for found, words in zip_longest(lines, expected))
-        yield case("report of pages", [seed], (len(expected), 0)), (len(lines), unlike)
+        yield report_case(seed, drawn("contended" if seed % 3 else "well-formed", seed))
 
 
-def whole_case_pages():
-    """The pages of the whole case are those in docs/SCHEDULES.md, line by line, from its text and from its file."""
-    guide = (ROOT / "docs" / "SCHEDULES.md").read_text()
-    shown = guide.split("## What `pages` prints")[1].split("```")[1].splitlines()[1:]
-    for ending in (".txt", ".bin"):
-        printed = started("pages", WHOLE.with_suffix(ending)).written.decode().splitlines()
-        for place, (line, other) in enumerate(zip_longest(shown, printed)):
-            yield case("line of the pages", [place], 1), int(line == other)
+def single_reports():
+    """An over-cover of no unit, of one and of two; one call, and one of two refused; and the highest clocks and the most clients."""
+    for place, (left, refused) in enumerate(((0, ()), (1, ()), (2, ()), (1, (Call("step", 3, 1),)))):
+        yield report_case(place, of_calls(Call("request", 0, left, 256), *refused))
+    yield report_case(4, of_calls(Call("step", 3, 1)))
+    yield report_case(5, (ROOT / "tests" / "schedules" / "64-clients-with-clocks-of-20-digits.bin").read_bytes())
+
+
+def shown_in_guide(heading, place=0):
+    """The lines that docs/SCHEDULES.md shows below a heading."""
+    return (ROOT / "docs" / "SCHEDULES.md").read_text().split(heading)[1].split("```")[1 + 2 * place].splitlines()[1:]
+
+
+def pages_in_guide():
+    """The pages in docs/SCHEDULES.md are those of the whole case and of the over-cover, line by line, from text and from file."""
+    for place, path in enumerate((WHOLE, OVER_COVER)):
+        for ending in (".txt", ".bin"):
+            printed = started("pages", path.with_suffix(ending)).written.decode().splitlines()
+            for number, (line, other) in enumerate(zip_longest(shown_in_guide("## What `pages` prints", place), printed)):
+                yield case("line of the pages", [number], 1), int(line == other)
 
 
 def documented_lines():
     """The lines that docs/SCHEDULES.md shows of `rangepages` are those of the whole case."""
-    guide = (ROOT / "docs" / "SCHEDULES.md").read_text()
-    shown = guide.split("## The pages")[1].split("```")[1].splitlines()[1:]
-    for place, (line, other) in enumerate(zip_longest(shown, WHOLE.with_suffix(".pages").read_text().splitlines())):
+    for place, (line, other) in enumerate(zip_longest(shown_in_guide("## The pages"), WHOLE.with_suffix(".pages").read_text().splitlines())):
         yield case("line of the pages", [place], 1), int(line == other)
 
 
 def statuses():
     """The exit status is 0 and all clients are shown where a schedule is run, and 1 with a word why where it is refused."""
     for place, data in enumerate(drawn(kind, seed) for kind in ("contended", "refused", "damaged") for seed in range(8)):
-        printed, ran = pages.pages(data).splitlines(), started("pages", data=data)
-        refused = printed[0].startswith("refused")
-        lines = 0 if refused else len(printed) + len(ABOVE) + len(BETWEEN)
-        answer = ran.status, ran.written.count(b"\n"), int(ran.said != "")
+        ran, refused = started("pages", data=data), pages.pages(data).startswith("refused")
+        lines = 0 if refused else len(expected_words(schedule.decode(data)))
+        answer = ran.status, len(whole_lines(ran.written.decode().splitlines())), int(ran.said != "")
         yield case("pages of a schedule", [place], (int(refused), lines, int(refused))), answer
 
 
@@ -123,12 +186,14 @@ def changed_pages():
             path = Path(folder) / "pages"
             path.write_text(text)
             ran = started("pages", WHOLE.with_suffix(".txt"), RANGEPAGES=f"cat {path}")
-        yield case("changed pages", [place], (3, 1, 0)), (ran.status, int(ran.said == f"schedule: {said}\n"), len(ran.written))
+        expected = f"schedule: {said}; RANGEPAGES in the environment is `cat {path}`\n"
+        yield case("changed pages", [place], (3, 1, 0)), (ran.status, int(ran.said == expected), len(ran.written))
 
 
 SUITES = {
     "tools/schedule pages, both pages in words": reports,
-    "tools/schedule pages, the whole case in docs/SCHEDULES.md": whole_case_pages,
+    "tools/schedule pages, a unit, a call, and the widest records": single_reports,
+    "tools/schedule pages, the pages in docs/SCHEDULES.md": pages_in_guide,
     "docs/SCHEDULES.md, what rangepages prints of the whole case": documented_lines,
     "tools/schedule pages, the exit status": statuses,
     "tools/schedule pages, pages that are not whole or not the model's": changed_pages,

@@ -36,7 +36,7 @@ WRONG = {
     "a client past the named table": ("tree 2 m 1 wait 5 clients 2\nrun 2 wants 1 2 from 3 for 4",
                                       "line 2: there is no client 2: with 2 clients they are 0 to 1"),
     "settings that are refused": ("tree 7 m 1 wait 5 clients 2\nrun 1 wants 1 2 from 3 for 4",
-                                  "line 1: rangelog runs trees of at most 6 levels, not 7"),
+                                  "line 1: rangelog and rangepages run trees of at most 6 levels, not 7"),
     "an end past all clocks": (f"run 0 wants 1 2 from {2 ** 64 - 1} for 4",
                                f"line 1: a plan's clocks end at {2 ** 62}; this wish goes on to {2 ** 64 + 3}"),
 }

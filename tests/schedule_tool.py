@@ -22,6 +22,6 @@ class Ran(NamedTuple):
 def started(*arguments, data=b"", stdout=subprocess.PIPE, **environment):
     """Runs the program with these bytes on standard input; RANGELOG and RANGEPAGES are the commands that it runs in place of the compiled
     programs."""
-    taken = {"stdout": stdout, "stderr": subprocess.PIPE, "env": os.environ | environment, "timeout": 4 * SECONDS}
-    ran = subprocess.run([TOOL, *arguments], input=data, **taken)
+    options = {"stdout": stdout, "stderr": subprocess.PIPE, "env": os.environ | environment, "timeout": 4 * SECONDS}
+    ran = subprocess.run([TOOL, *arguments], input=data, **options)
     return Ran(ran.returncode, ran.stdout or b"", ran.stderr.decode())

@@ -76,7 +76,7 @@ TEXT_WARNINGS = {
     "a clock that goes back": (HEAD + "step 0 5\nstep 9 9\nstep 1 4 # now\nstep 1 5",
                                "line 3: warning: there is no client 9: with 2 clients they are 0 to 1; the lock will refuse this call by 4\n"
                                "line 4: warning: clock 4 is below the last clock 5; the lock will refuse this call by 5"),
-    "seven levels": ("# high\ntree 7 m 1 wait 5 clients 2\nstep 9 9", "line 2: warning: rangelog runs trees of at most 6 levels, not 7; refused by 11"),
+    "seven levels": ("# high\ntree 7 m 1 wait 5 clients 2\nstep 9 9", "line 2: warning: rangelog and rangepages run trees of at most 6 levels, not 7; refused by 11"),
     "no wait and no clients": ("tree 2 m 1 wait 0 clients 0", "line 1: warning: the wait is at least 1, not 0; refused by 1\n"
                                                               "line 1: warning: there is at least 1 client, not 0; refused by 3"),
 }

@@ -11,7 +11,7 @@
 //!     word_count LEVELS                         the count
 //!     phase NUMBER                              its text; outcome and cause likewise
 
-use nolthewyr::{cover, word_count, Cause, CoverAnswer, Outcome, Phase, Record, Row, Settings, Table};
+use nolthewyr::{cover, word_count, Cause, CoverAnswer, Outcome, Phase, Record, Row, RunPageAnswer, Settings, Table};
 use std::io::stdin;
 
 /// The numbers of a record, in its order.
@@ -35,6 +35,7 @@ fn pages(table: &Table, client: usize) -> String {
     let (planners, run) = (table.planners_page(), table.run_page(client));
     let numbers = [planners.as_ref().err(), run.as_ref().err()].map(|cause| cause.unwrap_or(&Cause::ACCEPTED).0);
     let mut answer = format!("{} {}", numbers[0], numbers[1]);
+    assert!(RunPageAnswer::default().own == Record::default());
     if let Ok(page) = run {
         assert!(page.number == 0 && table.record(client) == Some(&page.own));
         answer += &format!(" {} {}", page.held, fields(&page.own));

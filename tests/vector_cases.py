@@ -2,9 +2,10 @@
 of them."""
 
 from itertools import islice
+from operator import length_hint
 from typing import NamedTuple
 
-from compare import NAMES, case
+from compare import NAMES, case, unlike
 from compiled_table import Table
 from library import ROOT
 from model.history import KINDS, Call
@@ -22,7 +23,7 @@ SCHEDULES = 40
 SETTINGS = 6
 
 NAMES["state"] = ("place", "kind", "by"), ("number", "clock", "records unlike", "words unlike")
-NAMES["expected answers"] = ("place",), ("files or states found", "names missing or too many")
+NAMES["expected answers"] = ("place",), ("files or states found", "names missing or too many, or numbers left over")
 
 
 class State(NamedTuple):
@@ -63,19 +64,21 @@ def state_in(numbers):
     return State(settings, words, records, last, Call(KINDS[kind], *asked), number, clock, *after)
 
 
-def all_states():
-    """The states of the file, as far as they are whole; not more than one too many."""
-    numbers, found = map(int, (VECTORS / "states.txt").read_text().split()), []
-    while len(found) <= STATES:
+def states_and_rest():
+    """The states of the file as far as they are whole, and how many numbers stand behind them."""
+    numbers, found = list(map(int, (VECTORS / "states.txt").read_text().split())), []
+    left, rest = iter(numbers), len(numbers)
+    while rest:
         try:
-            found.append(state_in(numbers))
-        except ValueError:
+            found.append(state_in(left))
+        except (ValueError, IndexError):
             break
-    return found
+        rest = length_hint(left)
+    return found, rest
 
 
-def unlike(mine, others):
-    return sum(one != other for one, other in zip(mine, others, strict=True))
+def all_states():
+    return states_and_rest()[0]
 
 
 def by_model(state):
@@ -92,8 +95,8 @@ def by_compiled(state):
 
 def states():
     """Each call gives the number and leaves the clock, the records and the words that are expected, by the model and compiled."""
-    found = all_states()
-    yield case("expected answers", [0], (STATES, 0)), (len(found), 0)
+    found, rest = states_and_rest()
+    yield case("expected answers", [0], (STATES, 0)), (len(found), rest)
     for place, state in enumerate(found):
         for by, answer in enumerate((by_model(state), by_compiled(state))):
             yield case("state", [place, KINDS.index(state.call.kind), by], (state.number, state.clock, 0, 0)), answer

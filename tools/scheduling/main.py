@@ -106,8 +106,8 @@ def do_run(streams, options):
 
 
 def do_pages(streams, options):
-    _, printed = run(RANGEPAGES, streams, options)
-    return Made(lines(page_report(printed)))
+    source, printed = run(RANGEPAGES, streams, options)
+    return Made(lines(page_report(source.schedule, printed)))
 
 
 def do_plan(streams, options):
@@ -126,8 +126,8 @@ COMMANDS = {
     "pages": (do_pages, "run a text or a file, and show what planners and each forecast run see after the last call"),
     "picture": (do_picture, "run a text or a file, and draw who held which units when, as a page for a browser"),
     "plan": (do_plan, "make a text from wishes, as `run 7 wants 100 220 from 30 for 40` (client, edges, clock, ticks to hold)"),
-    "pack": (do_pack, "turn a text into rangelog's file"),
-    "unpack": (do_unpack, "turn rangelog's file into a text"),
+    "pack": (do_pack, "turn a text into the file that rangelog and rangepages read"),
+    "unpack": (do_unpack, "turn such a file into a text"),
 }
 
 

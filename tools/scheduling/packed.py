@@ -1,4 +1,4 @@
-"""A schedule as the file that `rangelog` reads: its bytes read, with the wrong one named, and written."""
+"""A schedule as the file that `rangelog` and `rangepages` read: its bytes read, with the wrong one named, and written."""
 
 from model.record import Settings
 from model.history import Call
@@ -66,7 +66,7 @@ def ignored(data):
     _, count, offset = header_of(data)
     before, after = offset - HEADER.size, len(data) - offset - CALL.size * count
     if before or after:
-        yield f"# left out: {before} bytes before the first call and {after} after the last, which rangelog ignores"
+        yield f"# left out: {before} bytes before the first call and {after} after the last, which rangelog and rangepages ignore"
 
 
 def unpack(data):

@@ -1,13 +1,25 @@
 """What `schedule pages` prints: the planners' page and the runs' pages, for reading."""
 
+from textwrap import wrap
+
 from model.pages import Row
 from model.record import Record
 from scheduling.columns import in_columns
+from scheduling.events import fresh
 from scheduling.names import OUTCOMES, PHASES, listed, window
 
+WIDE = 100
+INDENT = "  "
+NO_BREAK = "\u00a0"
 PLANNERS = "client", "phase", "window", "nodes", "over-cover"
-RUNS = "run", *Record._fields, "clients that hold"
-MEANING = "Over-cover: units beyond the window that its nodes lock with it. While it is held nobody else can hold them."
+RUNS = "client", "holding", "phase", "its record"
+MEANING = (
+    "Over-cover: units beyond the window that its nodes lock with it.",
+    "While the window is held nobody else can hold them.",
+)
+# The fields that are shown by their names: those behind phase, outcome, edges and pieces.
+OTHERS = Record._fields[Record._fields.index("current"):]
+RUNS_TITLE = "The runs' pages: each run gets its own, and no other. Fields that are 0 are left out"
 
 
 def rows_and_records(lines):
@@ -18,12 +30,16 @@ def rows_and_records(lines):
 
 
 def numbered(number, names):
-    """A number with its name; 0 of an outcome has none."""
-    return f"{number} {names[number]}".rstrip()
+    return f"{number} {names[number]}"
 
 
 def units(count):
     return f"{count} unit{'s' * (count != 1)}" if count else "none"
+
+
+def nodes(row):
+    """The nodes of a row or of a record."""
+    return listed([str(n) for n in (row.first, row.second) if n])
 
 
 def planners_rows(rows):
@@ -33,23 +49,63 @@ def planners_rows(rows):
         if row.phase == 0:
             yield str(client), phase, "", "", ""
         else:
-            nodes = listed([str(n) for n in (row.first, row.second) if n])
-            yield str(client), phase, window(row.left, row.right), nodes, units(row.over)
+            yield str(client), phase, window(row.left, row.right), nodes(row), units(row.over)
 
 
-def run_rows(records):
-    yield RUNS
+def fields_in_words(record):
+    """The fields of a record that are not 0, without its phase: its edges as a window, its pieces as nodes, the others by their names."""
+    if record.outcome:
+        yield f"outcome {numbered(record.outcome, OUTCOMES)}"
+    if record.right:
+        yield f"window {window(record.left, record.right)}"
+        yield f"node{'s' * (record.second != 0)} {nodes(record)}"
+    yield from (f"{name} {getattr(record, name)}" for name in OTHERS if getattr(record, name))
+
+
+def cut(items, wide):
+    """The items, with commas between them, in lines of at most so many columns; a line ends only between two of them."""
+    whole = ", ".join(item.replace(" ", NO_BREAK) for item in items)
+    return [line.replace(NO_BREAK, " ") for line in wrap(whole, wide)] or [""]
+
+
+def before_the_record(records):
+    yield RUNS[:-1]
     for client, (record, count) in enumerate(records):
-        phase, outcome, *others = record
-        yield tuple(map(str, (client, numbered(phase, PHASES), numbered(outcome, OUTCOMES), *others, count)))
+        yield str(client), str(count), numbered(record.phase, PHASES)
 
 
-def page_report(lines):
-    """Both pages, line by line."""
-    rows, records = rows_and_records(lines)
-    yield "The planners' page"
-    yield from (f"  {line}" for line in in_columns(planners_rows(rows), (0,)))
-    yield f"  {MEANING}"
+def runs_lines(records):
+    """The runs' table: a line for each, and further ones where its record says more than one has room for."""
+    starts = in_columns(before_the_record(records), (0, 1))
+    width = max(map(len, starts)) + len(INDENT)
+    said = [[RUNS[-1]], *(fields_in_words(record) for record, _ in records)]
+    for start, items in zip(starts, said, strict=True):
+        first, *others = cut(items, WIDE - width - len(INDENT))
+        yield f"{start:{width}}{first}".rstrip()
+        yield from (" " * width + line for line in others)
+
+
+def when(schedule, clock):
+    count, (levels, distance, wait) = len(schedule.calls), schedule.settings
+    return f"After {count} call{'s' * (count != 1)}, at clock {clock}, in a tree of {levels} levels (m {distance}, wait {wait})"
+
+
+def refused_lines(refused, calls):
+    """How many calls were refused, of which the pages themselves do not tell."""
+    if refused:
+        yield ""
+        yield f"{refused} of {calls} call{'s' * (calls != 1)} {'was' if refused == 1 else 'were'} refused: `schedule run` says which"
+
+
+def page_report(schedule, lines):
+    """Both pages, line by line, with the clock after the last call and the count of refused calls by the model."""
+    opened, (rows, records) = fresh(schedule), rows_and_records(lines)
+    refused = sum(opened.make(call).number != 0 for call in schedule.calls)
+    yield when(schedule, opened.clock)
     yield ""
-    yield "The runs' pages: each run gets its own line, and no other"
-    yield from (f"  {line}" for line in in_columns(run_rows(records), (0, *range(3, len(RUNS)))))
+    yield "The planners' page"
+    yield from (INDENT + line for line in (*in_columns(planners_rows(rows), (0,)), *MEANING))
+    yield ""
+    yield RUNS_TITLE
+    yield from (INDENT + line for line in runs_lines(records))
+    yield from refused_lines(refused, len(schedule.calls))

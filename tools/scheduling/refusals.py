@@ -42,9 +42,9 @@ def of_settings(schedule):
     """What will refuse a schedule as a whole: the number and the words."""
     (levels, distance, wait), clients = schedule.settings, schedule.clients
     if levels > MOST_LEVELS:
-        yield 11, f"rangelog runs trees of at most {MOST_LEVELS} levels, not {levels}"
+        yield 11, f"rangelog and rangepages run trees of at most {MOST_LEVELS} levels, not {levels}"
     if clients > MOST_CLIENTS:
-        yield 11, f"rangelog runs at most {MOST_CLIENTS} clients, not {clients}"
+        yield 11, f"rangelog and rangepages run at most {MOST_CLIENTS} clients, not {clients}"
     if levels < 2:
         yield 1, f"a tree has at least 2 levels, not {levels}"
     if not 1 <= distance <= 4:

@@ -44,9 +44,8 @@ def command_for(name):
     raise Failed(f"{name} could not be run: it is not built; `rt check {name}` proves and builds it, and `make` does too")
 
 
-def output_of(name, data):
+def output_of(command, data):
     """What a program writes for a file. Whatever it says on standard error is a failure: it has no exit status to say it by."""
-    command = command_for(name)
     try:
         ran = subprocess.run(command, input=data, capture_output=True, timeout=SECONDS)
     except (OSError, subprocess.TimeoutExpired) as error:
@@ -58,10 +57,10 @@ def output_of(name, data):
     return ran.stdout.decode("ascii", "replace")
 
 
-def whole_output(program, data):
+def lines_of(program, command, data):
     """The lines that a program prints, or `refused N` alone. They are believed only where the model, written apart from the programs, says
     the same."""
-    text, expected = output_of(program.name, data), program.by_model(data).splitlines()
+    text, expected = output_of(command, data), program.by_model(data).splitlines()
     lines = text.split("\n")
     if lines.pop() != "":
         raise Failed(f"what {program.name} printed is not whole: it ends within its line {len(lines) + 1}, {shown(text[-80:])}")
@@ -72,6 +71,16 @@ def whole_output(program, data):
     if len(lines) != len(expected):
         raise Failed(f"what {program.name} printed is not whole: it has {len(lines)} lines, and the model's has {len(expected)}")
     return lines
+
+
+def whole_output(program, data):
+    """Those lines. If they are not believed, and another program than the repository's was asked for, that is said too."""
+    command, asked = command_for(program.name), os.environ.get(program.name.upper(), "").strip()
+    try:
+        return lines_of(program, command, data)
+    except Failed as failed:
+        beside = f"; {program.name.upper()} in the environment is {shown(asked)}" if asked else ""
+        raise Failed(f"{failed}{beside}") from None
 
 
 def refusal(lines):

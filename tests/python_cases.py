@@ -1,0 +1,82 @@
+"""Cases for what only the table in Python has to do itself: numbers that do not fit are refused, what it owns is out of a caller's reach,
+threads wait for each other, and structs are shown by their names."""
+
+from threading import Thread
+
+from compare import NAMES, case
+from compiled_table import library, nolthewyr
+from histories import TOP
+from model.record import IDLE
+
+NAMES["number that does not fit"] = ("place in the list of calls",), ("raises",)
+NAMES["table in Python"] = ("claim",), ("holds",)
+
+
+def raises(call):
+    try:
+        call()
+    except ValueError:
+        return 1
+    return 0
+
+
+def numbers_that_do_not_fit():
+    """ctypes cuts a number to its width, so that client 2^64 would be client 0. The Python file raises, and nothing is called."""
+    library()
+    table = nolthewyr.Table(nolthewyr.Settings(2, 1, 5), 2)
+    for outside in (-1, TOP + 1):
+        calls = [
+            lambda: table.request(outside, 10, 20), lambda: table.request(0, outside, 20), lambda: table.request(0, 10, outside),
+            lambda: table.step(outside, 1), lambda: table.step(0, outside), lambda: table.release(outside), lambda: table.cancel(outside),
+            lambda: table.run_page(outside),
+            lambda: nolthewyr.cover(outside, 10, 20), lambda: nolthewyr.cover(2, outside, 20), lambda: nolthewyr.word_count(outside),
+            lambda: nolthewyr.Settings(2, outside, 5), lambda: nolthewyr.Settings(levels=outside), lambda: nolthewyr.cause_text(outside),
+            lambda: nolthewyr.Table(nolthewyr.Settings(2, 1, 5), outside),
+        ]
+        for place, call in enumerate(calls):
+            yield case("number that does not fit", [place], 1), raises(call)
+    yield case("table in Python", [0], 1), int(table.clock == 0 and all(tuple(table.record(client)) == IDLE for client in range(2)))
+
+
+def waits(table, call, *arguments):
+    """Whether a call of another thread waits while one is made, and is made after it."""
+    calling = Thread(target=call, args=arguments)
+    with table._lock:
+        calling.start()
+        calling.join(0.1)
+        waiting = calling.is_alive()
+    calling.join()
+    return waiting
+
+
+def owned_memory():
+    """What a caller does to the settings it opened with, or to a record or a page it was given, does not reach the table, and a call or a
+    page waits until another thread's call is made."""
+    library()
+    settings = nolthewyr.Settings(2, 1, 5)
+    table = nolthewyr.Table(settings, 1)
+    table.request(0, 10, 20)
+    settings.levels, table.record(0).phase = 3, 9
+    table.run_page(0).own.phase = table.planners_page()[0].phase = 9
+    all_wait = [waits(table, table.step, 0, 1), waits(table, table.planners_page), waits(table, table.run_page, 0)]
+    yield case("table in Python", [1], 3), sum(all_wait)
+    yield case("table in Python", [2], 1), int(table.clock == 1 and table.record(0).phase == nolthewyr.Phase.CLAIM)
+    yield case("table in Python", [3], 1), int(table.record(1) is None and table.record(-1) is None)
+
+
+def shown_by_names():
+    """A struct is shown by the names of its fields, which can be gone through in order, a run's page too."""
+    library()
+    table = nolthewyr.Table(nolthewyr.Settings(2, 1, 5), 1)
+    row = nolthewyr.Row(9, 0, 256, 1, 0, 0)
+    number, own, held = table.run_page(0)
+    yield case("table in Python", [4], 1), int(repr(row) == "Row(phase=9, left=0, right=256, first=1, second=0, over=0)")
+    yield case("table in Python", [5], 1), int(repr(table.run_page(0)) == f"RunPageAnswer(number=0, own={nolthewyr.Record()}, held=0)")
+    yield case("table in Python", [6], 1), int((number, tuple(own), held) == (0, tuple(IDLE), 0))
+
+
+SUITES = {
+    "table in Python, a number of over 64 bits is refused": numbers_that_do_not_fit,
+    "table in Python, it owns what it was opened with, and calls wait for each other": owned_memory,
+    "table in Python, structs are shown by their names": shown_by_names,
+}
