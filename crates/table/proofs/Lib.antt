@@ -1,4 +1,5 @@
 pub mod Filled
 pub mod Forward
+pub mod Mapped
 pub mod Rows
 pub mod Walk

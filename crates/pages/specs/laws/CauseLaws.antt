@@ -1,4 +1,4 @@
--- Laws of the causes that the pages find by counts alone: what each way out of the code meets, and what a run's page has passed. Assumes nothing.
+-- Laws of the causes that the pages find by counts alone: what each way out of the code meets, and what has been passed where none of them is. Assumes nothing.
 use mathlib.Core.Path.{_≡_, sym, ap, _∙_}
 use mathlib.Core.Bool.{true, false, not}
 use mathlib.Core.List.{[], _∷_}
@@ -11,6 +11,7 @@ use Rattle.lock.specs.rules.Unreadable.{differ}
 use Rattle.lock.specs.rules.Calls.{firstCause, settingsOutside, clientsOutside, clientTests}
 use Rattle.lock.specs.laws.Active.{Settled}
 use Rattle.lock.specs.laws.ActiveLaws.{settled}
+use Rattle.lock.specs.laws.ReadableLaws.{same-number}
 use Rattle.lock.specs.laws.CallLaws.{cause-hit, cause-skip}
 use Rattle.lock.specs.laws.Accepted.{test-passed}
 use Rattle.pages.specs.laws.Causes.{plannersCause, runCause}
@@ -38,6 +39,14 @@ module _ (s : Settings) (rows records : ℕ) where
       pub planners-passed : clientsOutside records ≡ false → 0 ≡ plannersCause s rows records
       unfolding firstCause
       planners-passed g = sym (behind-rows ∙ cause-skip (clientsOutside records) 3 [] g)
+
+  -- none of them: the settings are within their ranges, and there is a row for each client
+  pub planners-tested : plannersCause s rows records ≡ 0 → Settled s × (rows ≡ records)
+  unfolding plannersCause
+  planners-tested z =
+      let a = test-passed (settingsOutside s) 1 ((differ rows records, 2) ∷ (clientsOutside records, 3) ∷ []) (omega arith) z in
+      let b = test-passed (differ rows records) 2 ((clientsOutside records, 3) ∷ []) (omega arith) (a .1) in
+      (settled s (a .0), same-number rows records (b .0))
 
 -- ---- a run: 1, 3, 4
 

@@ -10,11 +10,7 @@ use Rattle.lock.specs.declared.Record.{Record}
 use Rattle.lock.specs.declared.Settings.{Settings}
 use Rattle.lock.specs.rules.Unreadable.{differ}
 use Rattle.lock.specs.rules.Calls.{Tests, firstCause, settingsOutside, clientsOutside}
-use Rattle.lock.specs.laws.Active.{Settled}
-use Rattle.lock.specs.laws.ActiveLaws.{settled}
-use Rattle.lock.specs.laws.ReadableLaws.{same-number}
 use Rattle.lock.specs.laws.CallLaws.{cause-hit, cause-skip}
-use Rattle.lock.specs.laws.Accepted.{test-passed}
 use Rattle.table.specs.laws.CauseLaws.{first-hits, first-passes}
 use Rattle.pages.specs.declared.Row.{Row}
 use Rattle.pages.specs.rules.Pages.{rowOf, anyUnreadable, plannersTests, plannersNumber, page, plannersPage}
@@ -64,11 +60,3 @@ module _ (s : Settings) (records : List Record) (last : ℕ) (rows : List Row) w
       let none : number ≡ 0 = number-behind z ∙ cause-skip (anyUnreadable s records last) 6 [] f in
       let made = choose-eq number 0 (map (rowOf s) records) rows none in
       λ i. page ((e ∙ sym none) i) (sym made i)
-
-  -- what has been passed where 1, 2 and 3 are no cause
-  pub planners-tested : cause ≡ 0 → Settled s × (length rows ≡ length records)
-  unfolding plannersCause
-  planners-tested z =
-      let a = test-passed (settingsOutside s) 1 ((differ (length rows) (length records), 2) ∷ (clientsOutside (length records), 3) ∷ []) (omega arith) z in
-      let b = test-passed (differ (length rows) (length records)) 2 ((clientsOutside (length records), 3) ∷ []) (omega arith) (a .1) in
-      (settled s (a .0), same-number (length rows) (length records) (b .0))

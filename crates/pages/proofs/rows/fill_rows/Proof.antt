@@ -58,7 +58,7 @@ use Rattle.pages.specs.declared.Row.{Row}
 use Rattle.pages.specs.rules.Pages.{rowOf, anyUnreadable}
 use Rattle.pages.specs.laws.RowLaws.{each-readable}
 use Rattle.pages.proofs.Lent.{RW, row-bytes, shared, lent, passed, vals, spelt, told, stayed, all-go}
-use Rattle.pages.proofs.Mapped.{mapped, mapped-length, mapped-none, mapped-next, mapped-all}
+use Rattle.table.proofs.Mapped.{mapped, mapped-length, mapped-none, mapped-next, mapped-all}
 use Rattle.pages.proofs.Shared.{Borrowed, elem, record-out, record-back}
 use Rattle.pages.proofs.Row as Ro
 use Rattle.pages.proofs.Row.Laws as Ro′
