@@ -1,5 +1,6 @@
 // A schedule: the file format that the programs read, the calls in it made one after another, and the log of them.
 use lock::Record;
+use lock::Settings;
 use table::Answer;
 
 mod format;
@@ -34,6 +35,14 @@ pub struct Run {
     pub shelf: Shelf,
     pub clients: usize,
     pub clock: u64,
+}
+
+// A schedule's table before its first call: the settings, the run, and words of which the first `count` are the tree's.
+pub struct Begun {
+    pub settings: Settings,
+    pub run: Run,
+    pub words: [u64; 1365],
+    pub count: usize,
 }
 
 // What a call of a schedule gives: its number (0 accepted), and the run after it.

@@ -51,17 +51,16 @@ fn put_lines(bytes: &[u8], run: Run, words: &mut [u64], settings: Settings, out:
     end
 }
 
-// Makes the calls on a fresh table and writes their lines.
+// Makes the calls on the table of the schedule and writes their lines.
 fn put_log(bytes: &[u8], out: &mut [u8]) -> usize
     requires { ⌜ (refusal (now bytes) ≡ 0) × (room ≤ length (now out)) ⌝ }
     ensures { λ r. ⌜ (take r (now (out .exit)) ≡ logOf (now (bytes .entry))) × (r ≤ length (now (out .exit))) ⌝ }
 {
-    let settings = format::settings_in(bytes);
-    let clients = format::clients_in(bytes);
-    let count = running::word_count(settings.levels);
-    let mut words = running::zero_words();
-    let tree: &mut [u64] = &mut words[..count];
-    put_lines(bytes, running::fresh_run(clients), tree, settings, out)
+    let begun = running::begin(bytes);
+    let run = begun.run;
+    let mut words = begun.words;
+    let tree: &mut [u64] = &mut words[..begun.count];
+    put_lines(bytes, run, tree, begun.settings, out)
 }
 
 // The whole file is examined first. The log is in the first bytes of `out`; the answer is how many they are.

@@ -1,16 +1,17 @@
 // The calls of a schedule, made one after another on a run: records on a shelf, the words lent beside it. Nothing is written here.
 ghost use mathlib.Core.Path.{_≡_};
 ghost use Prim.Native.Nat.{suc, _≤_};
-ghost use lib.ListN.{length, replicate};
+ghost use lib.ListN.{length, take, replicate};
 ghost use Rattle.tree.specs.rules.Tree.{wordCount};
 ghost use Rattle.lock.specs.rules.Table as Table;
 ghost use Rattle.lock.specs.rules.History as History;
 ghost use Rattle.table.specs.rules.Lent.{result};
-ghost use Rattle.schedule.specs.rules.Format.{placeOf, clientsIn, callIn, callsIn, lentFor};
-ghost use Rattle.schedule.specs.rules.Running.{afterCalls};
+ghost use Rattle.schedule.specs.rules.Format.{settingsIn, clientsIn, placeOf, callIn, callsIn, lentFor};
+ghost use Rattle.schedule.specs.rules.Running.{openingIn, afterCalls};
 ghost use Rattle.schedule.specs.rules.Refusal.{refusal};
 ghost use Rattle.schedule.specs.laws.RunLaws.{recordsOf, stateOf, freshRun};
 ghost use Rattle.schedule.specs.laws.WellFormed.{WellFormed};
+use crate::Begun;
 use crate::Made;
 use crate::Run;
 use crate::format;
@@ -19,7 +20,7 @@ use lock::Settings;
 use table::opening_cause;
 
 // As many words as the tree has; a tree of fewer than 2 levels is refused by the opening.
-pub fn word_count(levels: u64) -> usize
+fn word_count(levels: u64) -> usize
     requires { ⌜ levels ≤ 6 ⌝ }
     ensures { λ n. ⌜ (n ≡ wordCount levels) × (n ≤ 1365) ⌝ }
 {
@@ -30,7 +31,7 @@ pub fn word_count(levels: u64) -> usize
 }
 
 // The words of the highest tree that a schedule may have, all 0.
-pub fn zero_words() -> [u64; 1365]
+fn zero_words() -> [u64; 1365]
     ensures { λ r. ⌜ r ≡ replicate 1365 0 ⌝ }
 {
     [0; 1365]
@@ -38,7 +39,7 @@ pub fn zero_words() -> [u64; 1365]
 
 // The number of a schedule's opening (0 accepted). What is lent to it is fresh, words of 0 and idle records, and that is also what it leaves: only the number is to
 // be found.
-pub fn opening_number(settings: Settings, clients: usize) -> u64
+fn opening_number(settings: Settings, clients: usize) -> u64
     requires { ⌜ settings .levels ≤ 6 ⌝ }
     ensures { λ n. ⌜ n ≡ Table.opening settings (lentFor settings clients) .number ⌝ }
 {
@@ -60,7 +61,7 @@ pub fn refusal(bytes: &[u8]) -> u64
 }
 
 // The run before the first call: idle records, and the clock 0.
-pub fn fresh_run(clients: usize) -> Run
+fn fresh_run(clients: usize) -> Run
     ensures { λ r. ⌜ r ≡ freshRun clients ⌝ }
 {
     Run {
@@ -110,17 +111,34 @@ fn make_calls(bytes: &[u8], run: Run, words: &mut [u64], settings: Settings) -> 
     run
 }
 
-// Makes all calls of a schedule that is not refused, on a fresh table. The words are let go with it.
+// The table of a schedule before its first call.
+pub fn begin(bytes: &[u8]) -> Begun
+    requires { ⌜ refusal (now bytes) ≡ 0 ⌝ }
+    ensures settings { λ b. ⌜ b .settings ≡ settingsIn (now (bytes .entry)) ⌝ }
+    ensures clients { λ b. ⌜ b .run .clients ≡ clientsIn (now (bytes .entry)) ⌝ }
+    ensures table { λ b. ⌜ stateOf (b .run) (take (b .count) (b .words)) ≡ openingIn (now (bytes .entry)) .state ⌝ }
+    ensures tree { λ b. ⌜ b .count ≤ length (b .words) ⌝ }
+{
+    let settings = format::settings_in(bytes);
+    let clients = format::clients_in(bytes);
+    Begun {
+        settings: settings,
+        run: fresh_run(clients),
+        words: zero_words(),
+        count: word_count(settings.levels),
+    }
+}
+
+// Makes all calls of a schedule that is not refused. The words are let go with it.
 pub fn run_schedule(bytes: &[u8]) -> Run
     requires { ⌜ refusal (now bytes) ≡ 0 ⌝ }
     ensures records { λ r. ⌜ recordsOf r ≡ afterCalls (now (bytes .entry)) .records ⌝ }
     ensures clock { λ r. ⌜ r .clock ≡ afterCalls (now (bytes .entry)) .clock ⌝ }
     ensures clients { λ r. ⌜ r .clients ≡ clientsIn (now (bytes .entry)) ⌝ }
 {
-    let settings = format::settings_in(bytes);
-    let clients = format::clients_in(bytes);
-    let count = word_count(settings.levels);
-    let mut words = zero_words();
-    let tree: &mut [u64] = &mut words[..count];
-    make_calls(bytes, fresh_run(clients), tree, settings)
+    let begun = begin(bytes);
+    let run = begun.run;
+    let mut words = begun.words;
+    let tree: &mut [u64] = &mut words[..begun.count];
+    make_calls(bytes, run, tree, begun.settings)
 }

@@ -55,7 +55,7 @@ opening-number s clients words n e f =
     f ∙ ap (λ (w : ℕ). openingNumber s w clients) (e ∙ sym (length-replicate (wordCount (s .levels)) 0))
     ∙ ap (openingNumber s (length (lentFor s clients .words))) (sym (length-replicate clients (idleWith 0)))
 
-pub opening-fresh : (s : Settings) (clients : ℕ) → opening s (lentFor s clients) .state ≡ lentFor s clients
+opening-fresh : (s : Settings) (clients : ℕ) → opening s (lentFor s clients) .state ≡ lentFor s clients
 unfolding opening opened lentFor
 opening-fresh s clients =
     let left : opened (lentFor s clients) ≡ lentFor s clients
@@ -70,9 +70,6 @@ freshRun clients = record { shelf = record { records = replicate 64 (idleWith 0)
 -- as many of the words as the tree has
 pub tree-words : (l : List ℕ) (n : ℕ) → l ≡ replicate 1365 0 → n ≤ 1365 → take n l ≡ replicate n 0
 tree-words l n e b = ap (take n) e ∙ take-replicate n 1365 0 b
-
-pub tree-length : (l : List ℕ) (n : ℕ) → l ≡ replicate 1365 0 → n ≤ 1365 → n ≡ length (take n l)
-tree-length l n e b = sym (ap length (tree-words l n e b) ∙ length-replicate n 0)
 
 -- a run begins on what is lent to the opening, which is what the opening leaves
 fresh-state : (s : Settings) (clients : ℕ) (words : List ℕ) → clients ≤ 64 → words ≡ replicate (wordCount (s .levels)) 0

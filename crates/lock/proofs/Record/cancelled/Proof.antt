@@ -1,6 +1,5 @@
 -- `lock::Record::cancelled` meets its contract. Assumes nothing.
 use mathlib.Core.Path.{sym, _∙_}
-use borrow.Author.Needs.{needs}
 use Rattle.base.specs.laws.ChoiceLaws.{choose-eq, choose-ne}
 use Rattle.lock.specs.rules.Records.{gripOf, idleWith}
 use Rattle.lock.specs.rules.Calls.{cancelled}

@@ -1,7 +1,6 @@
 -- `lock::calls::put_word` meets its contract. Assumes nothing.
 use mathlib.Core.Path.{sym}
 use native.Mathlib.Omega.{arith}
-use borrow.Author.Needs.{needs}
 use Rattle.lock.specs.laws.WordLaws.{written-none, written-some}
 use borrow.Author.Needs.{needs}
 use Rattle.lock.proofs.calls.put_word.Statement.{statement}

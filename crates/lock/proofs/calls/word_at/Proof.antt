@@ -1,7 +1,6 @@
 -- `lock::calls::word_at` meets its contract. Assumes nothing.
 use mathlib.Core.Path.{sym}
 use native.Mathlib.Omega.{arith}
-use borrow.Author.Needs.{needs}
 use Rattle.lock.specs.laws.WordLaws.{word-none, word-some}
 use borrow.Author.Needs.{needs}
 use Rattle.lock.proofs.calls.word_at.Statement.{statement}

@@ -1,6 +1,5 @@
 -- `pages::causes::planners_cause` meets its contract. Assumes nothing.
 use mathlib.Core.Path.{sym, _∙_}
-use borrow.Author.Needs.{needs}
 use Rattle.pages.specs.laws.CauseLaws.{planners-settings, planners-rows, planners-clients, planners-passed}
 use borrow.Author.Needs.{needs}
 use Rattle.pages.proofs.causes.planners_cause.Statement.{statement}

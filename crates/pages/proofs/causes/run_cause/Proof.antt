@@ -1,6 +1,5 @@
 -- `pages::causes::run_cause` meets its contract. Assumes nothing.
 use mathlib.Core.Path.{sym, _∙_}
-use borrow.Author.Needs.{needs}
 use Rattle.pages.specs.laws.CauseLaws.{run-settings, run-clients, run-client, run-passed}
 use borrow.Author.Needs.{needs}
 use Rattle.pages.proofs.causes.run_cause.Statement.{statement}

@@ -1,68 +1,42 @@
 -- `schedule::running::run_schedule` meets its contract. Assumes nothing.
 use mathlib.Core.Path.{ap, _∙_}
-use Prim.Native.Nat.{ℕ}
 use native.Mathlib.Omega.{arith}
-use lib.ListN.{replicate}
+use lib.ListN.{length-take}
 use Rattle.lock.specs.rules.Table.{State}
-use Rattle.schedule.specs.declared.Run.{Run}
 use Rattle.schedule.specs.laws.Refusing.{file-passes}
-use Rattle.schedule.specs.laws.RunLaws.{begun, all-made, tree-words, tree-length}
+use Rattle.schedule.specs.laws.RunLaws.{all-made}
 use Rattle.schedule.specs.laws.WellFormed.{well-formed}
 use borrow.Author.Needs.{needs}
 use Rattle.schedule.proofs.running.run_schedule.Statement.{statement}
 use Rattle.schedule.proofs.running.run_schedule.Tie as tie
 
-settings-in-requires : tie.Need-settings-in-requires
-settings-in-requires c κs =
-    well-formed _ (file-passes _ (c .before .pre)) .header
-
-clients-in-requires : tie.Need-clients-in-requires
-clients-in-requires c κs =
-    well-formed _ (file-passes _ (c .before .before .pre)) .header
-
-word-count-requires : tie.Need-word-count-requires
-word-count-requires c κs =
-    omega (arith, ap (λ x. x .levels) (c .before .settings-in .ensures), well-formed _ (file-passes _ (c .before .before .before .pre)) .levels)
-
-zero-words-requires : tie.Need-zero-words-requires
-zero-words-requires c κs = search needs
+begin-requires : tie.Need-begin-requires
+begin-requires c κs = search needs
 
 array-borrow-prefix-words : tie.Need-array-borrow-prefix-words
-array-borrow-prefix-words c = search needs
+array-borrow-prefix-words c =
+    c .before .before .begin .ensures .1 .1 .1
 
 slice-aggregate-tree : tie.Need-slice-aggregate-tree
 slice-aggregate-tree c =
-    tree-length _ _ (c .before .zero-words .ensures) (c .before .before .word-count .ensures .1)
-
-fresh-run-requires : tie.Need-fresh-run-requires
-fresh-run-requires c κs = search needs
+    let b = c .before .before .before .begin .result in omega (arith, c .before .before .before .begin .ensures .1 .1 .1, length-take (b .count) (b .words))
 
 make-calls-requires : tie.Need-make-calls-requires
 make-calls-requires c κs =
-    (well-formed _ (file-passes _ (c .before .before .before .before .before .before .before .pre)), omega (arith, ap (λ (r : Run). r .clients) (c .fresh-run .ensures), c .before .before .before .before .clients-in .ensures, well-formed _ (file-passes _ (c .before .before .before .before .before .before .before .pre)) .clients))
+    (well-formed _ (file-passes _ (c .before .before .before .before .before .pre)), omega (arith, c .before .before .before .begin .ensures .1 .0, well-formed _ (file-passes _ (c .before .before .before .before .before .pre)) .clients))
 
 returns : tie.Need-returns
 returns c =
-    let settings = c .before .before .before .before .before .before .before .settings-in .ensures in
-    let clients = c .before .before .before .before .before .before .clients-in .ensures in
-    let fresh = c .before .before .fresh-run .ensures in
-    let count = c .before .before .before .before .before .word-count .ensures in
-    let few = well-formed _ (file-passes _ (c .before .before .before .before .before .before .before .before .before .pre)) .clients in
-    let zeros = tree-words _ _ (c .before .before .before .before .zero-words .ensures) (count .1) ∙ ap (λ (n : ℕ). replicate n 0) (count .0) in
-    let first = begun _ _ _ settings clients (omega (arith, clients, few)) _ fresh _ zeros in
-    let made = all-made _ _ _ settings clients _ _ first (c .before .make-calls .ensures .0) in
-    (ap (λ (st : State). st .records) made, (ap (λ (st : State). st .clock) made, c .before .make-calls .ensures .1 ∙ ap (λ (r : Run). r .clients) fresh ∙ clients))
+    let b = c .before .before .before .before .before .begin .ensures in
+    let made = all-made _ _ _ (b .0) (b .1 .0) _ _ (b .1 .1 .0) (c .before .make-calls .ensures .0) in
+    (ap (λ (st : State). st .records) made, (ap (λ (st : State). st .clock) made, c .before .make-calls .ensures .1 ∙ b .1 .0))
 
 pub run-schedule-spec : {M : Type 1} → statement M
 run-schedule-spec =
     tie.close
     (tie.spec
-    settings-in-requires
-    clients-in-requires
-    word-count-requires
-    zero-words-requires
+    begin-requires
     array-borrow-prefix-words
     slice-aggregate-tree
-    fresh-run-requires
     make-calls-requires
     returns)

@@ -1,6 +1,5 @@
 -- `table::causes::opening_cause` meets its contract. Assumes nothing.
 use mathlib.Core.Path.{sym, _∙_}
-use borrow.Author.Needs.{needs}
 use Rattle.lock.specs.laws.CallLaws.{cause-tested}
 use Rattle.table.specs.laws.CauseLaws.{opening-tree, opening-clients, opening-passed}
 use borrow.Author.Needs.{needs}
