@@ -207,7 +207,7 @@ fn library_text(text: *const c_char) -> &'static str {
 }
 
 // The slices of these functions give what the proof assumes: lengths that are true, records that overlap neither words nor rows, and
-// nobody else who reads or writes them meanwhile.
+// nobody else who writes them meanwhile, or reads what is written.
 
 pub fn open(records: &mut [Record], words: &mut [u64], settings: Settings) -> u64 {
     unsafe { nolthewyr_open(records.as_mut_ptr(), records.len(), words.as_mut_ptr(), words.len(), settings) }
