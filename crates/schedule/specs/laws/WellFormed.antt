@@ -15,8 +15,8 @@ use Rattle.schedule.specs.laws.FormatLaws.{earlier-inside}
 
 pub record WellFormed (bytes : List ℕ) : Type 0 where
   pub short : length bytes ≤ 65536
-  pub header : 16 ≤ length bytes
-  pub offset : 16 ≤ offsetIn bytes
+  pub header : 20 ≤ length bytes
+  pub offset : 20 ≤ offsetIn bytes
   pub inside : placeOf bytes (countIn bytes) ≤ length bytes
   pub right : anyWrong bytes (countIn bytes) ≡ false
   pub levels : settingsIn bytes .levels ≤ 6
@@ -34,18 +34,18 @@ module _ (bytes : List ℕ) where
     unfolding malformed
     too-short h = next-test _ _ _ (le-ltb _ _ short) (true-first _ _ (lt-ltb _ _ h))
 
-    module _ (header : 16 ≤ length bytes) (offset : ℕ) (eo : offset ≡ offsetIn bytes) where
+    module _ (header : 20 ≤ length bytes) (offset : ℕ) (eo : offset ≡ offsetIn bytes) where
       pub offset-low : offset < 16 → true ≡ malformed bytes
       unfolding malformed
       offset-low h =
           next-test _ _ _ (le-ltb _ _ short) (next-test _ _ _ (le-ltb _ _ header) (true-first _ _ (lt-ltb _ _ (subst (λ (n : ℕ). n < 16) eo h))))
 
-      module _ (high : 16 ≤ offset) (end : ℕ) (ee : end ≡ placeOf bytes (countIn bytes)) where
+      module _ (high : 20 ≤ offset) (end : ℕ) (ee : end ≡ placeOf bytes (countIn bytes)) where
         from-end : (x : Bool) → x ≡ (ltb (length bytes) (placeOf bytes (countIn bytes)) || anyWrong bytes (countIn bytes)) → x ≡ malformed bytes
         unfolding malformed
         from-end x h =
             next-test _ _ _ (le-ltb _ _ short)
-            (next-test _ _ _ (le-ltb _ _ header) (next-test _ _ _ (le-ltb _ _ (subst (λ (n : ℕ). 16 ≤ n) eo high)) h))
+            (next-test _ _ _ (le-ltb _ _ header) (next-test _ _ _ (le-ltb _ _ (subst (λ (n : ℕ). 20 ≤ n) eo high)) h))
 
         pub calls-outside : length bytes < end → true ≡ malformed bytes
         calls-outside h = from-end _ (true-first _ _ (lt-ltb _ _ (subst (λ (n : ℕ). length bytes < n) ee h)))
@@ -72,7 +72,7 @@ module _ (bytes : List ℕ) where
   unfolding fileCause firstCause choose
   cause-none e f = rw (e, f)
 
-  pub long-enough : malformed bytes ≡ false → 16 ≤ length bytes
+  pub long-enough : malformed bytes ≡ false → 20 ≤ length bytes
   unfolding malformed
   long-enough e = ltb-false _ _ (both-false (ltb (length bytes) 16) _ (both-false (ltb 65536 (length bytes)) _ e .1) .0)
 
