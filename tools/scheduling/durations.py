@@ -1,0 +1,24 @@
+"""How long pieces take a client that is alone in the tree and makes a step a tick: what a wait and a patience must exceed."""
+
+from model import tree
+
+
+def longest_claim(levels, distance):
+    """The most ticks that a piece takes from its first climb to its last notice: at level d there are d - 2 further climbs, the claim
+    and the notices. With a wait of no more ticks the claim is late."""
+    return max(level - 1 + len(tree.notify_levels(distance, level)) for level in range(2, levels + 1))
+
+
+def later_piece(levels, distance, wait, level):
+    """The ticks that a later piece at a level takes from the one before it. A leaf has d - 1 climbs, the claim and the notices. An inner node
+    has also a ticket and a turn before, and after its claim the wait, or the notices if they take longer, and the checks."""
+    notices = len(tree.notify_levels(distance, level))
+    if level == levels:
+        return level + notices
+    checks = len(tree.check_list(levels, distance, tree.first_node(level)))
+    return 2 + level + max(wait, notices + 1) + checks
+
+
+def longest_later_piece(levels, distance, wait):
+    """The most ticks that any later piece takes, which is never the root. With a patience of no more ticks it is not taken in time."""
+    return max(later_piece(levels, distance, wait, level) for level in range(2, levels + 1))
