@@ -1,6 +1,8 @@
 """How long pieces take a client that is alone in the tree and makes a step a tick: what a wait and a patience must exceed."""
 
 from model import tree
+from model.record import cover_of
+from scheduling.names import window
 
 
 def longest_claim(levels, distance):
@@ -22,3 +24,13 @@ def later_piece(levels, distance, wait, level):
 def longest_later_piece(levels, distance, wait):
     """The most ticks that any later piece takes, which is never the root. With a patience of no more ticks it is not taken in time."""
     return max(later_piece(levels, distance, wait, level) for level in range(2, levels + 1))
+
+
+def never_held(settings, left, right):
+    """Why nobody can ever hold a window of the tree; nothing if it can be held. A later piece that is an inner node waits T after its claim,
+    and its patience has run since the piece before it."""
+    node = cover_of(settings.levels, left, right)[1]
+    if node == 0 or tree.is_leaf(settings.levels, node) or settings.patience > settings.wait:
+        return ""
+    return (f"{window(left, right)} can never be held: its second piece, node {node}, takes the wait of {settings.wait} at least, "
+            f"and the patience of {settings.patience} is over by then; a patience above the wait is needed")

@@ -2,6 +2,7 @@
 
 from model import record as records
 from model import tree
+from scheduling.durations import never_held
 from scheduling.events import at
 from scheduling.names import window
 from scheduling.waiting import for_whom, waits_until
@@ -33,4 +34,5 @@ def given_up_lines(happened):
         since = f"it had its first piece since clock {before.taken}, and its patience is {settings.patience}"
         yield f"client {event.call.client} gave {window(before.left, before.right)} up at {at(event)}: {since}"
         yield f"  {waited(settings, given_up)}"
+        yield from (f"  {why}" for why in [never_held(settings, before.left, before.right)] if why)
         yield f"  it gives back {', '.join(filter(None, had))}"

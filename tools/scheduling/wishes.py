@@ -3,10 +3,9 @@
 from typing import NamedTuple
 
 from model import tree
-from model.record import Settings, cover_of
+from model.record import Settings
 from model.schedule import MOST_CLIENTS, MOST_LEVELS, Schedule
-from scheduling.durations import longest_claim
-from scheduling.names import window
+from scheduling.durations import longest_claim, never_held
 from scheduling.problems import Wrong, shown
 from scheduling.refusals import no_such_client, of_settings, window_outside
 from scheduling.text import SETTINGS, U16, U32, U64, decoded, numbers_of, parsed, settings_of, written_lines
@@ -44,16 +43,6 @@ def fitting_settings(wishes):
     furthest = max(wish.right for wish in wishes)
     levels = next((h for h in range(2, MOST_LEVELS) if furthest <= tree.units(h)), MOST_LEVELS)
     return levels, 1, 1 + longest_claim(levels, 1), U32, min(1 + max(wish.run for wish in wishes), MOST_CLIENTS)
-
-
-def never_held(settings, left, right):
-    """Why nobody can ever hold a window of the tree; nothing if it can be held. A later piece that is an inner node waits T after its claim,
-    and its patience has run since the piece before it."""
-    node = cover_of(settings.levels, left, right)[1]
-    if node == 0 or tree.is_leaf(settings.levels, node) or settings.patience > settings.wait:
-        return ""
-    return (f"{window(left, right)} can never be held: its second piece, node {node}, takes the wait of {settings.wait} at least, "
-            f"and the patience of {settings.patience} is over by then; a patience above the wait is needed")
 
 
 def refused_wishes(schedule, wishes):
