@@ -3,6 +3,7 @@ before any call is made, its number stands beside it."""
 
 from typing import NamedTuple
 
+from histories import MOST_PATIENCE, TOP
 from model.history import KINDS, Call
 from model.record import Settings
 from model.schedule import CALL, HEADER, LONGEST, Header, Schedule, encode
@@ -26,8 +27,6 @@ WHOLE_CASE = bytes.fromhex("""
     01 00 0100 00000000 0a00000000000000 0000000000000000
 """)
 CALLS = WHOLE_CASE[HEADER.size:]
-TOP = 2 ** 64 - 1
-MOST_PATIENCE = 2 ** 32 - 1
 
 
 class File(NamedTuple):
@@ -198,13 +197,15 @@ def patience():
     inner, leaves, single = ([Call("request", 0, left, right), *steps(0, 1, 40)] for left, right in ((100, 400), (60, 70), (0, 256)))
     for allowed in range(1, 12):
         yield f"P {allowed}, two inner pieces", File(of_calls(*inner, levels=3, patience=allowed))
+        yield f"P {allowed}, two inner pieces, to the end of P", File(of_calls(*inner[:11 + allowed], levels=3, patience=allowed))
     for allowed in range(1, 5):
         yield f"P {allowed}, two leaves", File(of_calls(*leaves, patience=allowed))
+        yield f"P {allowed}, two leaves, to the end of P", File(of_calls(*leaves[:4 + allowed], patience=allowed))
     yield "P 1, one piece", File(of_calls(*single, levels=3, patience=1))
     for name, calls in {"one piece": single, "two inner pieces": inner}.items():
         yield f"P 11, {name} given back", File(of_calls(*calls, Call("release", 0), *steps(0, 41, 1), levels=3, patience=11))
-    for since in (19, 20, 21, TOP - 10):
-        end = [*steps(0, 3 + since, 3), *steps(1, 3 + since + 3, 2)]
+    for since in (19, 20, 21, 2 ** 32, TOP - 10):
+        end = [Call("step", 0, 3 + since), Call("step", 1, 2 + since), *steps(0, 4 + since, 2), *steps(1, 6 + since, 2)]
         yield f"both wait, P 20, a step {since} after the first piece", File(of_calls(*BOTH_WAIT, *end, patience=20))
     asked_again = [*steps(0, 23, 3), *steps(1, 26, 1), Call("request", 0, 60, 70), Call("release", 1), *steps(1, 27, 2), *steps(0, 29, 6)]
     yield "both wait, P 20, and both windows are taken", File(of_calls(*BOTH_WAIT, *asked_again, patience=20))
