@@ -10,7 +10,7 @@ from history_cases import PATIENCES, RETURNING, WHOLE_CASE_SETTINGS
 from model import tree
 from model.record import IDLE, Record, Settings
 from readable_cases import HELD, LAST, SETTINGS
-from record_states import State, any_clock, any_number, any_settings, built, perturbed
+from record_states import State, any_clock, any_number, any_settings, built, one_outside, perturbed
 from vector_cases import all_states
 
 HISTORIES = 60
@@ -96,17 +96,9 @@ def with_causes(causes, outside):
     return Lent(settings, records, rows, client, 9)
 
 
-OUTSIDE = Settings(levels=(0, 1, 13, TOP), distance=(0, 5, TOP), wait=(0, 2 ** 32, TOP), patience=(0, 2 ** 32, TOP))
-
-
-def just_outside(settings):
-    """Settings of which one is outside its range."""
-    return [settings._replace(**{name: value}) for name, values in OUTSIDE._asdict().items() for value in values]
-
-
 def settings_outside():
     """Each setting just outside its range, and far, with all else right."""
-    for settings in just_outside(SETTINGS):
+    for settings in one_outside(SETTINGS):
         yield lent(settings, [HELD, IDLE], 0, LAST)
 
 

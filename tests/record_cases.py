@@ -12,7 +12,7 @@ from model.history import Call
 from model.readable import unreadable
 from model.record import Record, Settings
 from patience_states import states_and_calls, with_every_p
-from record_states import Sparse, any_clock, any_state, built_state, perturbed, reached, windows
+from record_states import Sparse, any_clock, any_state, built_state, one_outside, perturbed, reached, windows
 
 HISTORIES, CALLS = 14, 500
 BUILT, CHANGED, ANY = 9000, 7000, 3000
@@ -146,24 +146,14 @@ def cases_of_any_fields(h):
         yield record_case(rng, state, any_query(rng, state))
 
 
-OUTSIDE = {
-    "levels": (0, 1, 13, 14, 64, 2 ** 32 + 2, TOP),
-    "distance": (0, 5, 6, 2 ** 32 + 1, TOP),
-    "wait": (0, 2 ** 32, 2 ** 32 + 1, TOP),
-    "patience": (0, 2 ** 32, 2 ** 32 + 1, TOP),
-}
-
-
 def settings_refused():
     """H, m, T or P outside its range, with a word count that is the lowest tree's or is not."""
     rng = Random("settings refused")
-    for name, values in OUTSIDE.items():
-        for value in values:
-            for _ in range(100):
-                state = built_state(rng, 2)
-                settings = state.settings._replace(**{name: value})
-                state = state._replace(settings=settings, count=rng.choice([state.count, state.count - 1, 0]))
-                yield record_case(rng, state, any_call(rng, state))
+    for _ in range(100):
+        state = built_state(rng, 2)
+        for settings in one_outside(state.settings):
+            outside = state._replace(settings=settings, count=rng.choice([state.count, state.count - 1, 0]))
+            yield record_case(rng, outside, any_call(rng, outside))
 
 
 def word_count_refused():

@@ -15,6 +15,10 @@ from word_cases import random_inner
 SMALL_TIMES = (1, 2, 3, 5, 9)
 GREATEST_TIME = 2 ** 32 - 1
 POOL = 200
+# Numbers outside the range of each setting: just outside it, far, and such as would be inside it cut to 32 bits.
+OUTSIDE = Settings(
+    levels=(0, 1, 13, 14, 64, 2 ** 32 + 2, TOP), distance=(0, 5, 6, 2 ** 32 + 1, TOP), wait=(0, 2 ** 32, 2 ** 32 + 1, TOP),
+    patience=(0, 2 ** 32, 2 ** 32 + 1, TOP))
 
 
 class State(NamedTuple):
@@ -41,6 +45,11 @@ class Sparse:
 
     def __setitem__(self, place, value):
         self.words[place + 1] = value
+
+
+def one_outside(settings):
+    """The settings with each of them in turn outside its range."""
+    return [settings._replace(**{name: value}) for name, values in OUTSIDE._asdict().items() for value in values]
 
 
 def any_settings(rng, h):

@@ -14,11 +14,12 @@ from history_cases import CAUSES, MUST_OCCUR, PATIENCES, SHAPE, WHOLE_CASE_SETTI
 from model import table, tree
 from model.history import KINDS, Call, Opened
 from model.record import IDLE, Record, Settings
-from record_states import any_clock
+from record_states import any_clock, one_outside
 
 UNLIKE = ("number", "clock", "records unlike", "words unlike")
 NAMES["compiled opening"] = ("levels", "words", "clients"), ("number", "records unlike", "words unlike")
 NAMES["compiled call"] = ("seed", "call", "kind told"), UNLIKE
+NAMES["compiled setting outside"] = ("place in the list of settings", "kind"), UNLIKE
 NAMES["compiled refusal"] = ("kind", "causes taken away", "kind told"), UNLIKE
 NAMES["compiled history"] = SHAPE, ("overlaps", "words left", "refused by 6", "refused by 9")
 NAMES["compiled occurs"] = ("place in the list of what must occur",), ("occurs",)
@@ -63,6 +64,18 @@ def refusals_in_order():
                 settings, words, records, client, *others = lent_with_causes(kind, causes[away:])
                 call = Call(kind, client, *others)
                 yield compared("compiled refusal", [place, away, told], (settings, words, records), call, 9, told)
+
+
+def settings_refused():
+    """Opening and every call with one setting outside its range."""
+    for place, settings in enumerate(one_outside(WHOLE_CASE_SETTINGS)):
+        lent = settings, [TOP] * 5, [FILLED] * 2
+        compiled = Table(*lent)
+        yield case("compiled opening", [settings.levels, 5, 2], (1, 0, 0)), (compiled.open(), *compiled.unlike(*lent[1:]), 0)
+        for kind in CAUSES:
+            _, words, records, client, *others = lent_with_causes(kind, ())
+            call, told = Call(kind, client, *others), KINDS.index(kind)
+            yield compared("compiled setting outside", [place, told], (settings, words, records), call, 9, told)
 
 
 def damaged(rng, record):
@@ -145,6 +158,7 @@ def what_occurs():
 SUITES = {
     "compiled table, 32,767 clients open, 32,768 are refused 3": openings,
     "compiled table, refused in order of testing": refusals_in_order,
+    "compiled table, settings outside their ranges": settings_refused,
     "compiled table, calls on lent records and words, damaged ones too": single_calls,
     "compiled table, demand 3 after every call of a history": demand_3,
     "compiled table, every phase, outcome and refusal occurs in a million calls": what_occurs,
