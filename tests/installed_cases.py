@@ -25,6 +25,8 @@ LEVELS = 3, 12
 DOCUMENT = ROOT / "docs" / "LINKING.md"
 CASE = ROOT / "schedules" / "whole-case"
 PROGRAMS = "rangelog", "rangepages", "schedule"
+RUST_FILES = "nolthewyr.rs", "nolthewyr_linked.rs"
+PYTHON_FILES = "nolthewyr.py", "nolthewyr_linked.py"
 OTHER_VERSIONS = "0.2.0", "0.1.0", "1.0.1", "0.10.1"
 
 
@@ -66,7 +68,7 @@ def expected_files():
     shared = [f"lib/libnolthewyr.so{ending}" for ending in ("", f".{nolthewyr.SERIES}", f".{version}")]
     return {
         *(f"bin/{program}" for program in PROGRAMS), *(f"share/man/man1/{program}.1" for program in PROGRAMS), "include/nolthewyr.h",
-        "lib/libnolthewyr.a", *shared, "lib/pkgconfig/nolthewyr.pc", "share/nolthewyr/nolthewyr.py", "share/nolthewyr/nolthewyr.rs",
+        "lib/libnolthewyr.a", *shared, "lib/pkgconfig/nolthewyr.pc", *(f"share/nolthewyr/{name}" for name in (*RUST_FILES, *PYTHON_FILES)),
     }
 
 
@@ -86,14 +88,15 @@ ASK = "import nolthewyr; print(nolthewyr.library_file(), nolthewyr.version())"
 
 
 def found_by_python():
-    """NOLTHEWYR_LIBRARY names the file; else it is beside the Python file, where it is installed, in the repository, or where the system
+    """NOLTHEWYR_LIBRARY names the file; else it is beside the Python files, where it is installed, in the repository, or where the system
     looks."""
     [share], [libraries], [version] = asked("--variable=pkgdatadir"), asked("--variable=libdir"), asked("--modversion")
     name = f"libnolthewyr.so.{nolthewyr.SERIES}"
     alone, beside = place("alone"), place("beside")
     for copy in (alone, beside):
         copy.mkdir(exist_ok=True)
-        shutil.copy(f"{share}/nolthewyr.py", copy)
+        for file in PYTHON_FILES:
+            shutil.copy(f"{share}/{file}", copy)
     shutil.copy(f"{libraries}/{name}", beside)
     ways = [
         (f"{libraries}/libnolthewyr.so", {"PYTHONPATH": str(beside), "NOLTHEWYR_LIBRARY": f"{libraries}/libnolthewyr.so"}),

@@ -17,7 +17,9 @@ NAMES["compiled without a warning"] = ("place in the list of compilers",), ("exi
 NAMES["version"] = ("place",), ("that of the header",)
 
 HEADER = ROOT / "include" / "nolthewyr.h"
+# What a program has of Rust, and the file beside it with the structs, names and functions.
 RUST = ROOT / "include" / "nolthewyr.rs"
+RUST_LINKED = ROOT / "include" / "nolthewyr_linked.rs"
 TEXTS = ROOT / "library" / "texts.c"
 
 # Each struct of the header, and the crate and the name that it has in the Rattle source.
@@ -81,7 +83,7 @@ def c_fields(name):
 
 
 def rust_fields(name):
-    return rattle_fields(title(name), RUST.read_text())
+    return rattle_fields(title(name), RUST_LINKED.read_text())
 
 
 def python_fields(name):
@@ -138,7 +140,7 @@ def declared_parameters():
     """The functions that C and Rust declare have the parameters of the source in the same order, by name and by type."""
     declared = [
         functions_in(HEADER.read_text(), r"^\w[\w ]*[ *](nolthewyr_\w+)\(([^)]*)\);", by_c),
-        functions_in(RUST.read_text(), r"fn (nolthewyr_\w+)\(([^)]*)\)", by_rust),
+        functions_in(RUST_LINKED.read_text(), r"fn (nolthewyr_\w+)\(([^)]*)\)", by_rust),
     ]
     for place, functions in enumerate(declared):
         for number, (name, expected) in enumerate(exported_by_source().items()):
@@ -159,7 +161,7 @@ def declared_functions():
     expected = set(exported_by_source())
     found = [
         set(re.findall(r"^\w[\w ]*[ *](nolthewyr_\w+)\(", HEADER.read_text(), re.MULTILINE)),
-        set(re.findall(r"fn (nolthewyr_\w+)\(", RUST.read_text())),
+        set(re.findall(r"fn (nolthewyr_\w+)\(", RUST_LINKED.read_text())),
         {f"nolthewyr_{name}" for name in nolthewyr.FUNCTIONS},
         exported(made("build/libnolthewyr.a")),
         exported(made("build/libnolthewyr.so"), "--dynamic"),
@@ -173,7 +175,7 @@ def c_names(name):
 
 
 def rust_names(name):
-    [listed] = re.findall(rf"named_number!\({title(name)} by nolthewyr_{name}_text: ([^)]*)\);", RUST.read_text())
+    [listed] = re.findall(rf"named_number!\({title(name)} by nolthewyr_{name}_text: ([^)]*)\);", RUST_LINKED.read_text())
     return re.findall(r"(\w+) = (\d+)", listed)
 
 
