@@ -25,7 +25,8 @@ macro_rules! named_number {
 
 named_number!(Phase by nolthewyr_phase_text: IDLE = 0, TICKET = 1, TURN = 2, CLIMB = 3, BLOCKED = 4, CLAIM = 5, NOTIFY = 6, WAIT = 7,
     CHECK = 8, HELD = 9, RETURNING = 10);
-named_number!(Outcome by nolthewyr_outcome_text: NONE = 0, RELEASED = 1, LATE = 2, CANCELLED = 3);
+// After LATE and OUT_OF_PATIENCE nothing is wrong with the window: the client asks for it again.
+named_number!(Outcome by nolthewyr_outcome_text: NONE = 0, RELEASED = 1, LATE = 2, CANCELLED = 3, OUT_OF_PATIENCE = 4);
 named_number!(Cause by nolthewyr_cause_text: ACCEPTED = 0, SETTINGS = 1, WORD_COUNT = 2, CLIENT_COUNT = 3, CLIENT = 4, CLOCK = 5,
     UNREADABLE = 6, WINDOW = 7, PHASE = 8, CLEAR_BIT = 9);
 
@@ -37,6 +38,7 @@ pub struct Settings {
     pub levels: u64,
     pub distance: u64,
     pub wait: u64,
+    pub patience: u64,
 }
 
 #[repr(C)]
@@ -56,6 +58,7 @@ pub struct Record {
     pub notices: u64,
     pub t1: u64,
     pub t0: u64,
+    pub taken: u64,
 }
 
 #[repr(C)]

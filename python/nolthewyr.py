@@ -1,8 +1,8 @@
 """Locks on windows of one long table of units, for Python: `Table` and its calls, over the shared library.
 
-    table = Table(Settings(levels=3, distance=2, wait=30), clients=2)
+    table = Table(Settings(levels=3, distance=2, wait=30, patience=100), clients=2)
     table.request(0, 10, 20)            # client, left edge, right edge
-    table.step(0, clock)                # again and again, until it gives Phase.HELD
+    table.step(0, clock)                # again and again, until it gives Phase.HELD; or Phase.IDLE, and it asks again
     table.release(0)                    # and steps until it is Phase.IDLE
     table.planners_page()               # a row for each client: phase, window, nodes and over-cover
     table.run_page(0)                   # what client 0 may see: its own record, and how many clients hold

@@ -15,7 +15,8 @@ LEAST = 1
 FILE = f"libnolthewyr.so.{SERIES}"
 
 Phase = IntEnum("Phase", "IDLE TICKET TURN CLIMB BLOCKED CLAIM NOTIFY WAIT CHECK HELD RETURNING", start=0)
-Outcome = IntEnum("Outcome", "NONE RELEASED LATE CANCELLED", start=0)
+# After LATE and OUT_OF_PATIENCE nothing is wrong with the window: the client asks for it again.
+Outcome = IntEnum("Outcome", "NONE RELEASED LATE CANCELLED OUT_OF_PATIENCE", start=0)
 Cause = IntEnum(
     "Cause", "ACCEPTED SETTINGS WORD_COUNT CLIENT_COUNT CLIENT CLOCK UNREADABLE WINDOW PHASE CLEAR_BIT", start=0)
 
@@ -49,15 +50,15 @@ def numbers(names):
 
 
 class Settings(Numbers):
-    """The levels of the tree (2..12), the distance of notices (1..4) and the wait (1..2^32 - 1)."""
+    """The levels of the tree (2..12), the distance of notices (1..4), the wait and the patience (both 1..2^32 - 1)."""
 
-    _fields_ = numbers("levels distance wait")
+    _fields_ = numbers("levels distance wait patience")
 
 
 class Record(Numbers):
     """A client's record. A caller reads the phase, the outcome and the window [left, right)."""
 
-    _fields_ = numbers("phase outcome left right first second current giving grip ticket place notices t1 t0")
+    _fields_ = numbers("phase outcome left right first second current giving grip ticket place notices t1 t0 taken")
 
 
 class Call(Numbers):

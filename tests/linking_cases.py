@@ -34,16 +34,17 @@ LINKED = "table", "pages"
 LENGTHS = {"records": "clients", "words": "count", "rows": "count"}
 C_TYPES = {"uint64_t": "u64", "size_t": "usize"}
 
-# What the documents call each number. The names of causes are short ones for the rows of document 01's table.
+# What the documents call each number, outcome 4 by document 02's patience that has run out. The names of causes are short ones for the rows
+# of document 01's table.
 ENUMERATIONS = {
     "phase": "idle ticket turn climb blocked claim notify wait check held returning".split(),
-    "outcome": "none released late cancelled".split(),
+    "outcome": "none released late cancelled out_of_patience".split(),
     "cause": "accepted settings word_count client_count client clock unreadable window phase clear_bit".split(),
 }
 
 # Words of document 01's table that the texts of the causes have.
 CAUSE_WORDS = [
-    "accepted", "levels not 2 to 12, distance not 1 to 4, or wait not 1 to 4294967295",
+    "accepted", "levels not 2 to 12, distance not 1 to 4, or wait or patience not 1 to 4294967295",
     "word count not the tree's, (4^levels - 1) / 3; or not one row for each client",
     "no clients, or over 32767", "client not below the table's count", "step clock below the last clock", "client's record unreadable",
     "window", "request when not idle, release when not held, or cancel", "returning leaf finds a wanted bit clear", "schedule",
@@ -199,7 +200,7 @@ def texts():
     for place, (name, said) in enumerate(words.items()):
         text = getattr(nolthewyr, f"{name}_text")
         for number in (*range(len(said) + 1), *UNKNOWN):
-            expected = said[number] if number < len(said) else f"unknown {name}"
+            expected = said[number].replace("_", " ") if number < len(said) else f"unknown {name}"
             as_said = expected in text(number) if name == "cause" else expected == text(number)
             yield case("text", [place, number], 1), int(as_said)
 
