@@ -10,8 +10,8 @@ from functools import lru_cache
 from pathlib import Path
 
 # Records grow between versions, and functions with the third number: a library of another series, or of a lower version, is not used.
-SERIES = "0.1"
-LEAST = 1
+SERIES = "0.2"
+LEAST = 0
 FILE = f"libnolthewyr.so.{SERIES}"
 
 Phase = IntEnum("Phase", "IDLE TICKET TURN CLIMB BLOCKED CLAIM NOTIFY WAIT CHECK HELD RETURNING", start=0)

@@ -27,7 +27,9 @@ CASE = ROOT / "schedules" / "whole-case"
 PROGRAMS = "rangelog", "rangepages", "schedule"
 RUST_FILES = "nolthewyr.rs", "nolthewyr_linked.rs"
 PYTHON_FILES = "nolthewyr.py", "nolthewyr_linked.py"
-OTHER_VERSIONS = "0.2.0", "0.1.0", "1.0.1", "0.10.1"
+# Versions that the Python files do not use, each with the least third number that they ask for: of other series, the one before among them,
+# one without a third number, and a lower one.
+OTHER_VERSIONS = {"0.1.1": 0, "0.3.0": 0, "1.2.0": 0, "0.20.0": 0, "0.2.x": 0, "0.2.1": 2}
 
 
 def compared(name, before, expected, found):
@@ -120,11 +122,12 @@ def of_another_version(version):
 def another_version():
     """A library of another series is not used, since its records may have another size, and none of a lower version, since it has not all
     functions. Both are refused by their version, whatever functions they have."""
-    for way, version in enumerate(OTHER_VERSIONS, 5):
+    for way, (version, least) in enumerate(OTHER_VERSIONS.items(), 5):
         made = of_another_version(version)
         named = environment(PYTHONPATH=asked("--variable=pkgdatadir")[0], NOLTHEWYR_LIBRARY=str(made))
-        ran = subprocess.run(["python3", "-c", ASK], env=named, capture_output=True, text=True)
-        wanted = f"{nolthewyr.SERIES}, from {nolthewyr.SERIES}.{nolthewyr.LEAST} on"
+        ask = f"import nolthewyr_linked; nolthewyr_linked.LEAST = {least}; {ASK}"
+        ran = subprocess.run(["python3", "-c", ask], env=named, capture_output=True, text=True)
+        wanted = f"{nolthewyr.SERIES}, from {nolthewyr.SERIES}.{least} on"
         said = f"ImportError: {made} has version {version}, and this file is for {wanted}\n"
         yield case("found by Python", [way], 1), int(ran.stderr.endswith(said))
 
