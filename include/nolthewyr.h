@@ -37,9 +37,9 @@ enum nolthewyr_phase {
     NOLTHEWYR_PHASE_RETURNING = 10
 };
 
-/* How a client's last window ended, from phase 10 on until its next request. After 2 and 4 all is given back and nothing is wrong with the
- * window: the client asks for it again. It is late if its claim took the wait or longer, and out of patience if it had its first piece, and
- * a later one not within the patience: it gives the first back, since others may wait for that while it waits for them. */
+/* How a client's last window ended, from phase 10 on until its next request. After 2 and 4 nothing is wrong with the window: once idle, the
+ * client asks for it again. It is late if its claim took the wait or longer, and out of patience if it had its first piece, and not the
+ * later one within the patience: it gives the first back, since those for whom it waits may wait for that. */
 enum nolthewyr_outcome {
     NOLTHEWYR_OUTCOME_NONE = 0,
     NOLTHEWYR_OUTCOME_RELEASED = 1,
