@@ -85,7 +85,7 @@ BETWEEN = ["Over-cover: units beyond the window that its nodes lock with it.", "
 def when(read, clock):
     h, m, wait, patience = read.settings
     calls = "1 call" if len(read.calls) == 1 else f"{len(read.calls)} calls"
-    return f"After {calls}, at clock {clock}, in a tree of {h} levels (m {m}, wait {wait}, patience {patience})"
+    return f"After {calls}, at clock {clock}: {h} levels, m {m}, wait {wait}, patience {patience}"
 
 
 def refused_words(refused, calls):

@@ -37,6 +37,13 @@ WRONG = {
                                       "line 2: there is no client 2: with 2 clients they are 0 to 1"),
     "settings that are refused": ("tree 7 m 1 wait 5 patience 20 clients 2\nrun 1 wants 1 2 from 3 for 4",
                                   "line 1: rangelog and rangepages run trees of at most 6 levels, not 7"),
+    "settings without patience": ("tree 2 m 1 wait 5 clients 2\nrun 1 wants 1 2 from 3 for 4",
+                                  "line 1: the first line lacks patience: it wants the settings, as in "
+                                  "`tree 2 m 1 wait 5 patience 20 clients 2`; got `tree 2 m 1 wait 5 clients 2`"),
+    "a patience of 0": ("tree 2 m 1 wait 5 patience 0 clients 2\nrun 1 wants 1 2 from 3 for 4", "line 1: the patience is at least 1, not 0"),
+    "a patience no longer than the wait": ("tree 3 m 1 wait 5 patience 5 clients 2\nrun 1 wants 60 70 from 3 for 4\nrun 1 wants 100 400 from 3 for 4",
+                                           "line 3: [100, 400) can never be held: its second piece, node 3, takes the wait of 5 at least, "
+                                           "and the patience of 5 is over by then; a patience above the wait is needed"),
     "an end past all clocks": (f"run 0 wants 1 2 from {2 ** 64 - 1} for 4",
                                f"line 1: a plan's clocks end at {2 ** 62}; this wish goes on to {2 ** 64 + 3}"),
 }

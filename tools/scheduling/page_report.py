@@ -91,8 +91,7 @@ def runs_lines(settings, records):
 
 def when(schedule, clock):
     count, (levels, distance, wait, patience) = len(schedule.calls), schedule.settings
-    settings = f"in a tree of {levels} levels (m {distance}, wait {wait}, patience {patience})"
-    return f"After {count} call{'s' * (count != 1)}, at clock {clock}, {settings}"
+    return f"After {count} call{'s' * (count != 1)}, at clock {clock}: {levels} levels, m {distance}, wait {wait}, patience {patience}"
 
 
 def refused_lines(refused, calls):
