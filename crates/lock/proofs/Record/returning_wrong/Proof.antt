@@ -1,8 +1,14 @@
 -- `lock::Record::returning_wrong` meets its contract. Assumes nothing.
+use Prim.Native.Nat.{_-_}
 use Rattle.lock.specs.laws.PhaseTests.{own-returning}
 use borrow.Author.Needs.{needs}
 use Rattle.lock.proofs.Record.returning_wrong.Statement.{statement}
 use Rattle.lock.proofs.Record.returning_wrong.Tie as tie
+use Rattle.lock.proofs.Record.returning_wrong.Reads as reads
+use Rattle.lock.proofs.Record.returning_wrong.Lts as lts
+use Rattle.lock.proofs.Record.grip_of.Reads as grip-of-reads
+use Rattle.lock.proofs.Record.past_notices.Reads as past-notices-reads
+use Rattle.lock.proofs.by_phase.lacks_returning.Reads as lacks-returning-reads
 
 past-notices-requires : tie.Need-past-notices-requires
 past-notices-requires c κs = search needs
@@ -15,7 +21,7 @@ grip-of-requires c κs = search needs
 
 returns : tie.Need-returns
 returns c =
-    own-returning (c .before .before .before .before .before .before .before .before .before .pre .0) (c .before .before .before .before .before .before .before .before .before .pre .3) (c .before .before .before .before .before .before .before .before .before .pre .2) (c .before .before .before .before .before .before .before .before .before .pre .1) (c .before .before .before .before .before .before .before .past-notices .ensures) (c .before .before .lacks-returning .ensures) (c .grip-of .ensures)
+    own-returning (c .before .before .before .before .before .before .before .before .before .before .before .pre .0) (c .before .before .before .before .before .before .before .before .before .before .before .pre .3) (c .before .before .before .before .before .before .before .before .before .before .before .pre .2) (c .before .before .before .before .before .before .before .before .before .before .before .pre .1) (c .before .before .before .before .before .before .before .before .before .past-notices .ensures) (c .before .before .before .before .lacks-returning .ensures) (c .before .before .grip-of .ensures)
 
 pub returning-wrong-spec : {M : Type 1} → statement M
 returning-wrong-spec =

@@ -3,6 +3,10 @@ use Rattle.schedule.specs.laws.Appended.{joined}
 use borrow.Author.Needs.{needs}
 use Rattle.rangepages.proofs.lines.put_times.Statement.{statement}
 use Rattle.rangepages.proofs.lines.put_times.Tie as tie
+use Rattle.rangepages.proofs.lines.put_times.Reads as reads
+use Rattle.rangepages.proofs.lines.put_times.Lts as lts
+use Rattle.schedule.proofs.put_bytes.Reads as put-bytes-reads
+use Rattle.schedule.proofs.put_spaced.Reads as put-spaced-reads
 
 put-spaced-requires : tie.Need-put-spaced-requires
 put-spaced-requires c κs = search needs
@@ -12,6 +16,9 @@ put-spaced-requires-2 c κs = search needs
 
 put-spaced-requires-3 : tie.Need-put-spaced-requires-3
 put-spaced-requires-3 c κs = search needs
+
+put-spaced-requires-4 : tie.Need-put-spaced-requires-4
+put-spaced-requires-4 c κs = search needs
 
 slice-aggregate-put-bytes : tie.Need-slice-aggregate-put-bytes
 slice-aggregate-put-bytes c = search needs
@@ -24,7 +31,7 @@ same-length c = search needs
 
 returns : tie.Need-returns
 returns c =
-    (joined (c .before .before .before .before .before .before .before .before .before .before .before .before .before .before .before .put-spaced .ensures .0) (joined (c .before .before .before .before .before .before .before .before .before .before .before .put-spaced2 .ensures .0) (joined (c .before .before .before .before .before .before .before .put-spaced3 .ensures .0) (c .before .before .put-bytes .ensures))), search needs)
+    (joined (c .before .before .before .before .before .before .before .before .before .before .before .before .before .before .before .before .before .before .before .put-spaced .ensures .0) (joined (c .before .before .before .before .before .before .before .before .before .before .before .before .before .before .before .put-spaced2 .ensures .0) (joined (c .before .before .before .before .before .before .before .before .before .before .before .put-spaced3 .ensures .0) (joined (c .before .before .before .before .before .before .before .put-spaced4 .ensures .0) (c .before .before .put-bytes .ensures)))), search needs)
 
 pub put-times-spec : {M : Type 1} → statement M
 put-times-spec =
@@ -33,6 +40,7 @@ put-times-spec =
     put-spaced-requires
     put-spaced-requires-2
     put-spaced-requires-3
+    put-spaced-requires-4
     slice-aggregate-put-bytes
     put-bytes-requires
     same-length

@@ -1,0 +1,20 @@
+-- `lock::Record::patience_spent` meets its contract. Assumes nothing.
+use mathlib.Core.Path.{refl}
+use Prim.Native.Nat.{_-_}
+use Rattle.lock.specs.rules.Steps.{patienceSpent}
+use borrow.Author.Needs.{needs}
+use Rattle.lock.proofs.Record.patience_spent.Statement.{statement}
+use Rattle.lock.proofs.Record.patience_spent.Tie as tie
+use Rattle.lock.proofs.Record.patience_spent.Reads as reads
+use Rattle.lock.proofs.Record.patience_spent.Lts as lts
+
+sub-result : tie.Need-sub-result
+sub-result c = search needs
+
+returns : tie.Need-returns
+unfolding patienceSpent
+returns c =
+    refl
+
+pub patience-spent-spec : {M : Type 1} → statement M
+patience-spent-spec = tie.close (tie.spec sub-result returns)
