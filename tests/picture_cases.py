@@ -31,7 +31,7 @@ NAMES["picture"] = ("place in the list of schedules", "by clock", "place in the 
 NAMES["broken picture"] = ("place in the list of edits", "by clock"), ("found out", "before the edit")
 NAMES["picture of nothing"] = ("place in the list of inputs",), ("exit status", "bytes written", "said as by run")
 NAMES["picture's size"] = (), ("under 2,000,000 bytes",)
-NAMES["marks drawn"] = (), ("kinds of marks",)
+NAMES["marks drawn"] = (), ("kinds of marks", "not in the legend, or in it alone")
 NAMES["picture in a file"] = ("place in the list of names",), ("exit status", "as on standard output", "name in the title")
 NAMES["picture that fails"] = ("place in the list of failures",), ("exit status", "bytes written", "said")
 NAMES["example in docs"] = (), ("as the tool draws it", "with an image", "of few bytes")
@@ -123,7 +123,7 @@ def no_schedules():
 def kinds_of_marks():
     """Every kind of mark stands in some page: a refused call, a late claim, patience that is over, and each way to become idle."""
     kinds = {mark.kind for model in expected() for mark in model.marks}
-    yield case("marks drawn", [], len(MARKED)), len(kinds & set(MARKED))
+    yield case("marks drawn", [], (7, 0)), (len(kinds), len(kinds ^ set(MARKED)))
 
 
 def sizes():

@@ -5,9 +5,11 @@ from collections import Counter
 
 from compare import NAMES, case
 from library import ROOT
+from model.history import Opened
+from model.record import IDLE
 from picture_checks import Expected, marks
 from picture_pages import Page
-from schedule_plan_cases import drawn_wishes, ended_by, held_times, not_as_wished, run
+from schedule_plan_cases import drawn_wishes, held_times, not_as_wished, run
 from schedule_tool import started
 from scheduling.planning import plan, plan_lines
 from scheduling.wishes import read_wishes
@@ -17,7 +19,7 @@ NAMES["window given up"] = ("place in the list of texts",), ("as expected",)
 NAMES["marks of patience"] = ("by clock",), ("out of patience", "idle, out of patience", "unlike the model", "unlike where shown as late")
 NAMES["plan with little patience"] = ("seed",), ("wishes not held as wished", "refused or late calls", "clients not idle")
 NAMES["plans with little patience"] = (), ("some run asks again",)
-NAMES["planned with little patience"] = ("place in the list of wishes",), ("out of patience", "cancels", "as wished")
+NAMES["planned with little patience"] = ("place in the list of wishes",), ("out of patience at the expected clocks", "cancels", "as wished")
 
 PATIENCE = ROOT / "schedules" / "patience"
 
@@ -109,46 +111,56 @@ def marked():
     for by in ("call", "clock"):
         page = Page(started("picture", "--by", by, PATIENCE.with_suffix(".txt")).written.decode())
         kinds, (_, unlike) = Counter(mark.kind for mark, _, _ in page.marks()), marks(page, model, by)
-        drawn = next(each for each in page.named("clients").iter("use") if each.get("href") == "#out-of-patience")
-        drawn.set("href", "#late")
+        for each in page.named("clients").iter("use"):
+            each.set("href", each.get("href").replace("#out-of-patience", "#late"))
         answer = kinds["out-of-patience"], kinds["idle-out-of-patience"], unlike, marks(page, model, by)[1]
         yield case("marks of patience", [int(by == "clock")], (1, 1, 0, 2)), answer
 
 
-# Wishes, how often a run is out of patience in their plan, and how many cancels it has.
+LONG_HELD = "run 1 wants 64 70 from 0 for 100\nrun 0 wants 60 70 from 5 for 10"
+
+# Wishes, the clocks at which a run is out of patience in their plan, and how many cancels it has.
 PLANS = {
-    "a leaf that is held for long": ("tree 2 m 1 wait 5 patience 20 clients 2\nrun 1 wants 64 70 from 0 for 100\nrun 0 wants 60 70 from 5 for 10", 1, 0),
-    "more patience than it is held": ("tree 2 m 1 wait 5 patience 200 clients 2\nrun 1 wants 64 70 from 0 for 100\nrun 0 wants 60 70 from 5 for 10", 0, 0),
-    "a node that is held for long": ("tree 3 m 1 wait 5 patience 20 clients 2\nrun 1 wants 256 512 from 0 for 300\nrun 0 wants 100 400 from 5 for 1", 1, 0),
-    "less patience than steps, a step a tick": ("tree 3 m 1 wait 5 patience 6 clients 1\nrun 0 wants 100 400 from 5 for 10", 0, 0),
-    "runs that block each other": ("tree 3 m 1 wait 5 patience 20 clients 2\nrun 0 wants 60 70 from 0 for 10\nrun 1 wants 0 256 from 0 for 10", 0, 1),
-    "without settings": ("run 1 wants 64 70 from 0 for 100000\nrun 0 wants 60 70 from 5 for 10", 0, 0),
+    "a leaf that is held for long": (f"tree 2 m 1 wait 5 patience 20 clients 2\n{LONG_HELD}", [28], 0),
+    "more patience than it is held": (f"tree 2 m 1 wait 5 patience 200 clients 2\n{LONG_HELD}", [], 0),
+    "a node that is held for long": ("tree 3 m 1 wait 5 patience 20 clients 2\nrun 1 wants 256 512 from 0 for 300\nrun 0 wants 100 400 from 5 for 1", [35], 0),
+    "less patience than a step a tick takes": ("tree 3 m 1 wait 5 patience 6 clients 1\nrun 0 wants 100 400 from 5 for 10", [], 0),
+    "just as much patience": ("tree 3 m 1 wait 5 patience 10 clients 1\nrun 0 wants 100 400 from 5 for 10", [], 0),
+    "a tick more patience": ("tree 3 m 1 wait 5 patience 11 clients 1\nrun 0 wants 100 400 from 5 for 10", [], 0),
+    "runs that block each other": ("tree 3 m 1 wait 5 patience 20 clients 2\nrun 0 wants 60 70 from 0 for 10\nrun 1 wants 0 256 from 0 for 10", [], 1),
+    "without settings": (LONG_HELD.replace("for 100", "for 100000"), [], 0),
 }
 
 
 def planned(text):
-    """A plan: the wishes not held as wished, the calls refused or late, the clients not idle, and how often patience ran out and somebody cancelled."""
+    """A plan: the wishes not held as wished, the calls refused or late and the clients not idle; the clocks at which patience was over; and
+    the cancels."""
     given, wishes = read_wishes(text.encode())
     calls, left = plan(given, wishes)
-    read, opened, made_calls = run("\n".join(plan_lines(given, wishes, calls, left)))
-    ends = []
-
-    def watched():
-        for made in made_calls:
-            ends.append((made.call.kind, ended_by(made, opened, 4)))
-            yield made
-
-    found, wrong = held_times(opened, watched())
+    _, opened, made_calls = run("\n".join(plan_lines(given, wishes, calls, left)))
+    found, wrong = held_times(opened, made_calls)
     not_idle = sum(record.phase != 0 for record in opened.records)
-    counted = Counter(kind for kind, _ in ends)
-    return (not_as_wished(wishes, found) + len(left), wrong, not_idle), sum(ended for _, ended in ends), counted["cancel"]
+    return (not_as_wished(wishes, found) + len(left), wrong, not_idle), clocks_of_ends(opened), sum(call.kind == "cancel" for call, _ in calls)
+
+
+def clocks_of_ends(opened):
+    """The clocks of the steps by which clients of a history were out of patience, found by making its calls again."""
+    again, clocks = Opened(opened.settings, [0] * len(opened.words), [IDLE] * len(opened.records)), []
+    for made in opened.history:
+        before = again.records[made.call.client].phase
+        again.make(made.call)
+        if before != 10 and again.records[made.call.client].outcome == 4 and made.call.kind == "step":
+            clocks.append(made.call.a)
+    return clocks
 
 
 def plans():
     """Where patience runs out the run asks again, and has its window in the end; a plan that need not wait for it does not."""
-    for place, (text, ended, cancels) in enumerate(PLANS.values()):
+    for place, (text, clocks, cancels) in enumerate(PLANS.values()):
         wrong, found, cancelled = planned(text)
-        yield case("planned with little patience", [place], (ended, cancels, 1)), (found, cancelled, int(not any(wrong)))
+        if found != clocks:
+            print(f"    out of patience at {found} in place of {clocks}")
+        yield case("planned with little patience", [place], (1, cancels, 1)), (int(found == clocks), cancelled, int(not any(wrong)))
 
 
 def hurried(seed):
@@ -166,7 +178,7 @@ def random_plans():
         if not next(drawn_wishes(seed)).startswith("tree"):
             continue
         wrong, ended, _ = planned(hurried(seed))
-        asked_again += ended
+        asked_again += len(ended)
         yield case("plan with little patience", [seed], (0, 0, 0)), wrong
     yield case("plans with little patience", [], 1), int(asked_again > 0)
 

@@ -83,18 +83,14 @@ def held_times(opened, made_calls):
     held, found, wrong = {}, Counter(), 0
     for made in made_calls:
         client, now = made.call.client, holds(opened.history, made.call.client)
-        wrong += made.number != 0 or ended_by(made, opened, 2)
+        late = made.phase == 0 and made.call.kind == "step" and opened.records[client].outcome == 2
+        wrong += made.number != 0 or late
         if now and client not in held:
             held[client] = now, opened.clock
         elif client in held and not now:
             window, start = held.pop(client)
             found[client, *window, start, opened.clock] += 1
     return found, wrong
-
-
-def ended_by(made, opened, outcome):
-    """Whether a step made its client idle with this outcome."""
-    return made.call.kind == "step" and made.phase == 0 and opened.records[made.call.client].outcome == outcome
 
 
 def not_as_wished(wishes, found):

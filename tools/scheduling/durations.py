@@ -12,13 +12,12 @@ def longest_claim(levels, distance):
 
 
 def later_piece(levels, distance, wait, level):
-    """The ticks that a later piece at a level takes from the one before it. A leaf has d - 1 climbs, the claim and the notices. An inner node
-    has also a ticket and a turn before, and after its claim the wait, or the notices if they take longer, and the checks."""
-    notices = len(tree.notify_levels(distance, level))
+    """The ticks that a later piece at a level takes from the one before it, with a wait in which its claim is not late. A leaf has d - 1
+    climbs, the claim and the notices. An inner node has a ticket, a turn, d - 1 climbs and the claim, then the wait, during which it
+    leaves its notices, and the checks."""
     if level == levels:
-        return level + notices
-    checks = len(tree.check_list(levels, distance, tree.first_node(level)))
-    return 2 + level + max(wait, notices + 1) + checks
+        return level + len(tree.notify_levels(distance, level))
+    return 2 + level + wait + len(tree.check_list(levels, distance, tree.first_node(level)))
 
 
 def longest_later_piece(levels, distance, wait):
