@@ -6,8 +6,6 @@ use Rattle.lock.specs.rules.Records.{withTaken}
 use Rattle.lock.specs.rules.Steps.{firstNoted}
 use Rattle.lock.proofs.Record.first_noted.Statement.{statement}
 use Rattle.lock.proofs.Record.first_noted.Tie as tie
-use Rattle.lock.proofs.Record.first_noted.Reads as reads
-use Rattle.lock.proofs.Record.first_noted.Lts as lts
 
 returns : tie.Need-returns
 unfolding firstNoted

@@ -7,10 +7,6 @@ use Rattle.lock.specs.laws.OwnTests.{notBegun}
 use borrow.Author.Needs.{needs}
 use Rattle.lock.proofs.Record.not_begun.Statement.{statement}
 use Rattle.lock.proofs.Record.not_begun.Tie as tie
-use Rattle.lock.proofs.Record.not_begun.Reads as reads
-use Rattle.lock.proofs.Record.not_begun.Lts as lts
-use Rattle.cover.proofs.not_cover.Reads as not-cover-reads
-use Rattle.lock.proofs.Record.piece_count.Reads as piece-count-reads
 
 not-cover-requires : tie.Need-not-cover-requires
 not-cover-requires c κs =
@@ -22,7 +18,9 @@ piece-count-requires c κs = search needs
 returns : tie.Need-returns
 unfolding notBegun notCovered noCurrent ticketTooLarge timeAhead takenFirst
 returns c =
-    let r = c .before .before .before .before .before .before .before .before .before .before .before .before .args .self in let last = c .before .before .before .before .before .before .before .before .before .before .before .before .args .last in λ i. c .before .before .before .before .before .before .before .before .before .before .before .not-cover .ensures i || leb (c .before .before .before .before .before .before .before .before .before .before .piece-count .ensures i) (r .current) || ltb 32767 (r .ticket) || (ltb last (r .t1) || ltb last (r .t0) || ltb last (r .taken)) || (ltb 0 (r .taken) && eqb (r .current) 0 && not (eqb (r .phase) 9 || eqb (r .phase) 10 && eqb (r .outcome) 1))
+    let r = c .before .before .before .before .before .before .before .before .before .before .before .before .args .self in
+    let last = c .before .before .before .before .before .before .before .before .before .before .before .before .args .last in
+    λ i. c .before .before .before .before .before .before .before .before .before .before .before .not-cover .ensures i || leb (c .before .before .before .before .before .before .before .before .before .before .piece-count .ensures i) (r .current) || ltb 32767 (r .ticket) || (ltb last (r .t1) || ltb last (r .t0) || ltb last (r .taken)) || (ltb 0 (r .taken) && eqb (r .current) 0 && not (eqb (r .phase) 9 || eqb (r .phase) 10 && eqb (r .outcome) 1))
 
 pub not-begun-spec : {M : Type 1} → statement M
 not-begun-spec = tie.close (tie.spec not-cover-requires piece-count-requires returns)

@@ -5,8 +5,6 @@ use Rattle.lock.specs.rules.Steps.{patienceSpent}
 use borrow.Author.Needs.{needs}
 use Rattle.lock.proofs.Record.patience_spent.Statement.{statement}
 use Rattle.lock.proofs.Record.patience_spent.Tie as tie
-use Rattle.lock.proofs.Record.patience_spent.Reads as reads
-use Rattle.lock.proofs.Record.patience_spent.Lts as lts
 
 sub-result : tie.Need-sub-result
 sub-result c = search needs

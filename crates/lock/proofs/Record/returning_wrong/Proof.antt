@@ -4,11 +4,6 @@ use Rattle.lock.specs.laws.PhaseTests.{own-returning}
 use borrow.Author.Needs.{needs}
 use Rattle.lock.proofs.Record.returning_wrong.Statement.{statement}
 use Rattle.lock.proofs.Record.returning_wrong.Tie as tie
-use Rattle.lock.proofs.Record.returning_wrong.Reads as reads
-use Rattle.lock.proofs.Record.returning_wrong.Lts as lts
-use Rattle.lock.proofs.Record.grip_of.Reads as grip-of-reads
-use Rattle.lock.proofs.Record.past_notices.Reads as past-notices-reads
-use Rattle.lock.proofs.by_phase.lacks_returning.Reads as lacks-returning-reads
 
 past-notices-requires : tie.Need-past-notices-requires
 past-notices-requires c κs = search needs

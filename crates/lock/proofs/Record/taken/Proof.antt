@@ -10,11 +10,6 @@ use Rattle.lock.specs.laws.StepLaws.{taken-more, taken-last}
 use borrow.Author.Needs.{needs}
 use Rattle.lock.proofs.Record.taken.Statement.{statement}
 use Rattle.lock.proofs.Record.taken.Tie as tie
-use Rattle.lock.proofs.Record.taken.Reads as reads
-use Rattle.lock.proofs.Record.taken.Lts as lts
-use Rattle.lock.proofs.Record.begin.Reads as begin-reads
-use Rattle.lock.proofs.Record.first_noted.Reads as first-noted-reads
-use Rattle.lock.proofs.Record.piece_count.Reads as piece-count-reads
 
 first-noted-requires : tie.Need-first-noted-requires
 first-noted-requires c κs = search needs
@@ -28,15 +23,18 @@ piece-count-requires c κs = search needs
 
 begin-requires : tie.Need-begin-requires
 begin-requires c κs =
-    let r = c .before .before .before .before .args .self in noted-pieced r (c .before .before .before .before .args .clock) _ (c .before .before .before .first-noted .ensures) (c .before .before .before .before .pre) _ (omega (arith, c .before .piece-count .ensures, c .if1 .taken))
+    let r = c .before .before .before .before .args .self in
+    noted-pieced r (c .before .before .before .before .args .clock) _ (c .before .before .before .first-noted .ensures) (c .before .before .before .before .pre) _ (omega (arith, c .before .piece-count .ensures, c .if1 .taken))
 
 returns : tie.Need-returns
 returns c =
-    let a = c .before .before .before .before .before .args in c .begin .ensures ∙ ap (λ x. begin (a .settings) x (a .self .current + 1)) (c .before .before .before .before .first-noted .ensures) ∙ sym (taken-more (a .settings) (a .self) (a .clock) (omega (arith, c .before .before .piece-count .ensures, c .before .if1 .taken)))
+    let a = c .before .before .before .before .before .args in
+    c .begin .ensures ∙ ap (λ x. begin (a .settings) x (a .self .current + 1)) (c .before .before .before .before .first-noted .ensures) ∙ sym (taken-more (a .settings) (a .self) (a .clock) (omega (arith, c .before .before .piece-count .ensures, c .before .if1 .taken)))
 
 returns-2 : tie.Need-returns-2
 returns-2 c =
-    let a = c .before .before .before .before .args in ap (toPhase 9) (c .before .before .before .first-noted .ensures) ∙ sym (taken-last (a .settings) (a .self) (a .clock) (omega (arith, c .before .piece-count .ensures, c .if1 .left)))
+    let a = c .before .before .before .before .args in
+    ap (toPhase 9) (c .before .before .before .first-noted .ensures) ∙ sym (taken-last (a .settings) (a .self) (a .clock) (omega (arith, c .before .piece-count .ensures, c .if1 .left)))
 
 pub taken-spec : {M : Type 1} → statement M
 taken-spec =

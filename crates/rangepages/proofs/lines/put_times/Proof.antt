@@ -3,10 +3,6 @@ use Rattle.schedule.specs.laws.Appended.{joined}
 use borrow.Author.Needs.{needs}
 use Rattle.rangepages.proofs.lines.put_times.Statement.{statement}
 use Rattle.rangepages.proofs.lines.put_times.Tie as tie
-use Rattle.rangepages.proofs.lines.put_times.Reads as reads
-use Rattle.rangepages.proofs.lines.put_times.Lts as lts
-use Rattle.schedule.proofs.put_bytes.Reads as put-bytes-reads
-use Rattle.schedule.proofs.put_spaced.Reads as put-spaced-reads
 
 put-spaced-requires : tie.Need-put-spaced-requires
 put-spaced-requires c κs = search needs

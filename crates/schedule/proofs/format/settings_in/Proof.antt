@@ -3,10 +3,6 @@ use Rattle.schedule.specs.rules.Format.{settingsIn}
 use borrow.Author.Needs.{needs}
 use Rattle.schedule.proofs.format.settings_in.Statement.{statement}
 use Rattle.schedule.proofs.format.settings_in.Tie as tie
-use Rattle.schedule.proofs.format.settings_in.Reads as reads
-use Rattle.schedule.proofs.format.settings_in.Lts as lts
-use Rattle.schedule.proofs.format.u16_at.Reads as u16-at-reads
-use Rattle.schedule.proofs.format.u32_at.Reads as u32-at-reads
 
 u16-at-requires : tie.Need-u16-at-requires
 u16-at-requires c κs = search needs
