@@ -19,7 +19,7 @@ use Rattle.lock.specs.declared.Settings.{Settings}
 use Rattle.lock.specs.rules.Records.{coverOf, Phase, phaseOf, pieces, pieceAt, gripOf, wordAt, written, toPhase, withOutcome, idleWith}
 use Rattle.lock.specs.laws.Phases.{on-phase}
 use Rattle.lock.specs.laws.Pieces.{piece-first, grip-before, grip-current, first-gripped}
-use Rattle.lock.specs.rules.Steps.{startPhase, touchedIn, movedIn, leaves, ownTouched, ownMoved, patienceSpent, touched, moved}
+use Rattle.lock.specs.rules.Steps.{startPhase, touchedIn, movedIn, leaves, ownTouched, ownMoved, patienceSpent, givenUp, touched, moved}
 use Rattle.lock.specs.rules.Calls.{requested, released, cancelled}
 use Rattle.lock.specs.rules.Table.{State, Call, request, step, release, cancel, clientOf, recordAt, numberOf, after, call}
 use Rattle.lock.specs.rules.History.{run}
@@ -113,7 +113,7 @@ module _ (s : Settings) (rs : List Record) (r : Record) (now : ℕ) (g : Settled
       })
       (λ t. returns 3 (λ z. omega arith) (omega arith) (λ z. absurd (omega arith)) (λ e _. rd .no-early-time e early (λ z. absurd (ahead z))) (neqb→ne (gripOf r 0) 0 t))
 
-  pub given-up-keeps : 0 < r .current → Keeps s rs r 0 w w (toPhase 10 (withOutcome 4 r)) now
+  pub given-up-keeps : 0 < r .current → Keeps s rs r 0 w w (givenUp r) now
   given-up-keeps b = returns 4 (λ z. omega arith) (omega arith) (λ _ z. omega arith) (λ z. absurd (omega arith)) (λ z. omega (arith, grip-before r 0 b))
 
 -- ---- the calls
@@ -175,9 +175,9 @@ module _ (s : Settings) (st : State) (inv : Invariant s st) (c : ℕ) where
         (λ b _. stays _)
 
     -- the work of the phase, or none where patience is spent: by the test, whatever it gives
-    step-by : (given-up : Bool) → (given-up ≡ true → Keeps s rs r 0 (wordAt (st .words) 0) (wordAt (st .words) 0) (toPhase 10 (withOutcome 4 r)) t)
+    step-by : (given-up : Bool) → (given-up ≡ true → Keeps s rs r 0 (wordAt (st .words) 0) (wordAt (st .words) 0) (givenUp r) t)
         → let x = choose given-up 0 (ownTouched s r) in
-        let m = choose given-up (leaves (wordAt (st .words) x) (toPhase 10 (withOutcome 4 r))) (ownMoved s r (wordAt (st .words) x) t) in
+        let m = choose given-up (leaves (wordAt (st .words) x) (givenUp r)) (ownMoved s r (wordAt (st .words) x) t) in
         m .number ≡ 0 → Keeps s rs r x (wordAt (st .words) x) (m .word) (m .next) t
     unfolding choose
     step-by true f e = f refl

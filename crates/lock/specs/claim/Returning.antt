@@ -11,7 +11,7 @@ use lib.ListN.{length, getD}
 use Rattle.base.specs.laws.ChoiceLaws.{on-choose, by-lt, by-eq, neqb→ne}
 use Rattle.base.specs.laws.TestLaws.{test-true}
 use Rattle.word.specs.rules.Word.{tcnt, addTcnt, addDcnt, giveBits, returnOcc}
-use Rattle.tree.specs.rules.Tree.{left, level, Node}
+use Rattle.tree.specs.rules.Tree.{level, Node}
 use Rattle.tree.specs.rules.Lists.{notifyList}
 use Rattle.lock.specs.declared.Moved.{Moved}
 use Rattle.lock.specs.declared.Record.{Record}

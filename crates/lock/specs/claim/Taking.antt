@@ -63,7 +63,7 @@ module _ (s : Settings) (rs : List Record) (r : Record) (c last now : ℕ) (late
         fits = record {
           readable = readable-held s q now g
               (asked-kin s r q last now rd (kin r q refl refl refl refl) (rd .active .exists) (rd .active .ticket-most) (omega (arith, rd .active .t1-past)) (omega (arith, rd .active .t0-past)) past (λ _ d. absurd (d refl)))
-               (rd .no-outcome ahead) (rd .no-giving ahead)
+              (rd .no-outcome ahead) (rd .no-giving ahead)
               grip (omega arith) refl refl (omega arith);
           all-noticed = λ _ _. whole;
         };

@@ -18,9 +18,9 @@ use Rattle.cover.specs.rules.Search.{before, lesser, behind, leastOf, rest, sea
 use Rattle.cover.specs.rules.Answer.{levelsOutside, windowOutside}
 use Rattle.lock.specs.declared.Record.{Record}
 use Rattle.lock.specs.declared.Settings.{Settings}
-use Rattle.lock.specs.rules.Records.{phaseOf, pieces, pieceAt, isLeaf, gripOf, noticesOf, wordAt, written, toPhase, withOutcome, idleWith}
+use Rattle.lock.specs.rules.Records.{phaseOf, pieces, pieceAt, isLeaf, gripOf, noticesOf, wordAt, written, idleWith}
 use Rattle.lock.specs.rules.Unreadable.{differ, numberTooLarge, idleFilled, notCovered, noCurrent, ticketTooLarge, fieldsWrong, listLength, placePast, noticesWrong, timeAhead, phaseElsewhere, heldEarly, outcomeWrong, lacksGrip, givingWrong, impatientFirst, takenFirst, unreadable}
-use Rattle.lock.specs.rules.Steps.{touchedIn, startPhase, begin, firstNoted, taken, ticketTaken, turnAwaited, goUp, climbed, unblocked, bitsClaimed, occClaimed, allNotified, noticeGiven, waited, checkPassed, pieceReturned, wordReturned, turnReturned, claimPiece, returnBits, returnInner, giveBack, movedIn, leaves, ownTouched, ownMoved, patienceSpent, touched, moved}
+use Rattle.lock.specs.rules.Steps.{touchedIn, startPhase, begin, firstNoted, taken, ticketTaken, turnAwaited, goUp, climbed, unblocked, bitsClaimed, occClaimed, allNotified, noticeGiven, waited, checkPassed, pieceReturned, wordReturned, turnReturned, claimPiece, returnBits, returnInner, giveBack, movedIn, leaves, ownTouched, ownMoved, patienceSpent, givenUp, touched, moved}
 use Rattle.lock.specs.rules.Calls.{firstCause, settingsOutside, treeTests, clientsOutside, clientTests, requestTests, stepTests, releaseTests, cancelTests, requested, released, cancelled}
 use Rattle.lock.specs.rules.History.{run}
 use Rattle.lock.specs.laws.CallLaws.{cause-skip, tree-passed}
@@ -114,7 +114,7 @@ waiting t = record { words = 4611686022722355201 ∷ 17293822569102704640 ∷ 0 
 
 -- client 0 touches no word and goes to returning with outcome 4
 abbrev pub given-up : State
-given-up = record { words = waiting 0 .words; records = toPhase 10 (withOutcome 4 blocked-0) ∷ checking-1 ∷ []; clock = 21 }
+given-up = record { words = waiting 0 .words; records = givenUp blocked-0 ∷ checking-1 ∷ []; clock = 21 }
 
 -- client 0 gives back its leaf and its notice, client 1's check passes and it holds; it releases and returns, and client 0 asks again and takes both leaves
 abbrev pub end : List Call

@@ -16,9 +16,9 @@ use Rattle.lock.specs.declared.Record.{Record}
 use Rattle.lock.specs.declared.Settings.{Settings}
 use Rattle.lock.specs.declared.Moved.{Moved}
 use Rattle.lock.specs.declared.Stepped.{Stepped}
-use Rattle.lock.specs.rules.Records.{wordAt, written, toPhase, withOutcome}
+use Rattle.lock.specs.rules.Records.{wordAt, written}
 use Rattle.lock.specs.rules.Unreadable.{differ, unreadable}
-use Rattle.lock.specs.rules.Steps.{leaves, ownTouched, ownMoved, patienceSpent, touched, moved}
+use Rattle.lock.specs.rules.Steps.{leaves, ownTouched, ownMoved, patienceSpent, givenUp, touched, moved}
 use Rattle.lock.specs.rules.Calls.{Tests, firstCause, treeTests, requestTests, stepTests, releaseTests, cancelTests, requested, released, cancelled, answered, requestNumber, requestAnswer, releaseAnswer, cancelAnswer, stepNumber, stepAnswer, stepWords}
 use Rattle.lock.specs.rules.Table.{Call, request, step, release, cancel, clientOf}
 use Rattle.lock.specs.rules.ByValue.{callOf, answerTo, wordsAfter}
@@ -198,7 +198,7 @@ step-work s r words clock e n found m i j k =
     k ∙ ap (λ (x : ℕ). ownMoved s r x clock) (j ∙ ap (wordAt words) (i ∙ sym (own-touched s r clock e))) ∙ sym (own-moved s r clock e _)
 
 -- patience is spent
-pub step-given-up : (s : Settings) (r : Record) (words : List ℕ) (last clock : ℕ) → patienceSpent s r clock ≡ true → (q : Record) → q ≡ toPhase 10 (withOutcome 4 r)
+pub step-given-up : (s : Settings) (r : Record) (words : List ℕ) (last clock : ℕ) → patienceSpent s r clock ≡ true → (q : Record) → q ≡ givenUp r
     → (record { number = 0; clock = clock; next = q } ≡ answered (clearBit s r words clock) r last (moved s r (wordAt words (touched s r clock)) clock .next) clock)
     × (words ≡ leftBy s r words clock)
 unfolding written

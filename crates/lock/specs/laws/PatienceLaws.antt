@@ -12,8 +12,8 @@ use Rattle.base.specs.laws.ChoiceLaws.{on-choose}
 use Rattle.base.specs.laws.TestLaws.{both-true, second-false}
 use Rattle.lock.specs.declared.Record.{Record}
 use Rattle.lock.specs.declared.Settings.{Settings}
-use Rattle.lock.specs.rules.Records.{pieces, wordAt, toPhase, withOutcome, withTaken}
-use Rattle.lock.specs.rules.Steps.{firstNoted, leaves, ownTouched, ownMoved, patienceSpent, touched, moved}
+use Rattle.lock.specs.rules.Records.{pieces, wordAt, withTaken}
+use Rattle.lock.specs.rules.Steps.{firstNoted, leaves, ownTouched, ownMoved, patienceSpent, givenUp, touched, moved}
 use Rattle.lock.specs.laws.Placed.{Pieced}
 use Rattle.lock.specs.laws.StepLaws.{pieced-kept}
 
@@ -54,16 +54,16 @@ module _ (s : Settings) (r : Record) (t : ℕ) where
 
     pub own-moved : (w : ℕ) → moved s r w t ≡ ownMoved s r w t
     unfolding choose
-    own-moved w = ap (λ (b : Bool). choose b (leaves w (toPhase 10 (withOutcome 4 r))) (ownMoved s r w t)) e
+    own-moved w = ap (λ (b : Bool). choose b (leaves w (givenUp r)) (ownMoved s r w t)) e
 
   module _ (e : patienceSpent s r t ≡ true) where
     pub spent-touched : touched s r t ≡ 0
     unfolding choose
     spent-touched = ap (λ (b : Bool). choose b 0 (ownTouched s r)) e
 
-    pub spent-moved : (w : ℕ) → moved s r w t ≡ leaves w (toPhase 10 (withOutcome 4 r))
+    pub spent-moved : (w : ℕ) → moved s r w t ≡ leaves w (givenUp r)
     unfolding choose
-    spent-moved w = ap (λ (b : Bool). choose b (leaves w (toPhase 10 (withOutcome 4 r))) (ownMoved s r w t)) e
+    spent-moved w = ap (λ (b : Bool). choose b (leaves w (givenUp r)) (ownMoved s r w t)) e
 
 -- where it is not spent, and the work of the phase leaves word and record as they are, so does the step
 pub unmoved : (s : Settings) (r : Record) (words : List ℕ) (t : ℕ) → patienceSpent s r t ≡ false

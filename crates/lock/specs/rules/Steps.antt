@@ -181,9 +181,13 @@ ownMoved s r w t = movedIn s r w t (phaseOf (r .phase))
 unfoldable pub patienceSpent : Settings → Record → ℕ → Bool
 patienceSpent s r t = leb 1 (r .phase) && leb (r .phase) 8 && ltb 0 (r .current) && leb (s .patience) (t - r .taken)
 
--- "touches no word, sets outcome 4 and goes to returning instead of the phase's own work"
+-- "sets outcome 4 and goes to returning"
+abbrev pub givenUp : Record → Record
+givenUp r = toPhase 10 (withOutcome 4 r)
+
+-- "touches no word, .. instead of the phase's own work"
 abbrev pub touched : Settings → Record → ℕ → ℕ
 touched s r t = choose (patienceSpent s r t) 0 (ownTouched s r)
 
 abbrev pub moved : Settings → Record → ℕ → ℕ → Moved
-moved s r w t = choose (patienceSpent s r t) (leaves w (toPhase 10 (withOutcome 4 r))) (ownMoved s r w t)
+moved s r w t = choose (patienceSpent s r t) (leaves w (givenUp r)) (ownMoved s r w t)

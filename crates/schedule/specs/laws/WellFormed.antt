@@ -30,15 +30,15 @@ module _ (bytes : List ℕ) where
   too-long h = true-first _ _ (lt-ltb _ _ h)
 
   module _ (short : length bytes ≤ 65536) where
-    pub too-short : length bytes < 16 → true ≡ malformed bytes
+    pub too-short : length bytes < 20 → true ≡ malformed bytes
     unfolding malformed
     too-short h = next-test _ _ _ (le-ltb _ _ short) (true-first _ _ (lt-ltb _ _ h))
 
     module _ (header : 20 ≤ length bytes) (offset : ℕ) (eo : offset ≡ offsetIn bytes) where
-      pub offset-low : offset < 16 → true ≡ malformed bytes
+      pub offset-low : offset < 20 → true ≡ malformed bytes
       unfolding malformed
       offset-low h =
-          next-test _ _ _ (le-ltb _ _ short) (next-test _ _ _ (le-ltb _ _ header) (true-first _ _ (lt-ltb _ _ (subst (λ (n : ℕ). n < 16) eo h))))
+          next-test _ _ _ (le-ltb _ _ short) (next-test _ _ _ (le-ltb _ _ header) (true-first _ _ (lt-ltb _ _ (subst (λ (n : ℕ). n < 20) eo h))))
 
       module _ (high : 20 ≤ offset) (end : ℕ) (ee : end ≡ placeOf bytes (countIn bytes)) where
         from-end : (x : Bool) → x ≡ (ltb (length bytes) (placeOf bytes (countIn bytes)) || anyWrong bytes (countIn bytes)) → x ≡ malformed bytes
@@ -74,7 +74,7 @@ module _ (bytes : List ℕ) where
 
   pub long-enough : malformed bytes ≡ false → 20 ≤ length bytes
   unfolding malformed
-  long-enough e = ltb-false _ _ (both-false (ltb (length bytes) 16) _ (both-false (ltb 65536 (length bytes)) _ e .1) .0)
+  long-enough e = ltb-false _ _ (both-false (ltb (length bytes) 20) _ (both-false (ltb 65536 (length bytes)) _ e .1) .0)
 
 none-true : (m l : Bool) → firstCause ((m, 10) ∷ (l, 11) ∷ []) ≡ 0 → (m ≡ false) × (l ≡ false)
 unfolding firstCause choose
@@ -96,12 +96,12 @@ module _ (bytes : List ℕ) (e : fileCause bytes ≡ 0) where
   unfolding malformed tooLarge
   well-formed =
       let f2 = both-false (ltb 65536 (length bytes)) _ right-form .1 in
-      let f3 = both-false (ltb (length bytes) 16) _ f2 .1 in
-      let f4 = both-false (ltb (offsetIn bytes) 16) _ f3 .1 in
+      let f3 = both-false (ltb (length bytes) 20) _ f2 .1 in
+      let f4 = both-false (ltb (offsetIn bytes) 20) _ f3 .1 in
       record {
         short = ltb-false _ _ (both-false (ltb 65536 (length bytes)) _ right-form .0);
-        header = ltb-false _ _ (both-false (ltb (length bytes) 16) _ f2 .0);
-        offset = ltb-false _ _ (both-false (ltb (offsetIn bytes) 16) _ f3 .0);
+        header = ltb-false _ _ (both-false (ltb (length bytes) 20) _ f2 .0);
+        offset = ltb-false _ _ (both-false (ltb (offsetIn bytes) 20) _ f3 .0);
         inside = ltb-false _ _ (both-false (ltb (length bytes) (placeOf bytes (countIn bytes))) _ f4 .0);
         right = both-false (ltb (length bytes) (placeOf bytes (countIn bytes))) _ f4 .1;
         levels = ltb-false _ _ (both-false (ltb 6 (settingsIn bytes .levels)) _ right-size .0);

@@ -3,11 +3,9 @@ use mathlib.Core.Path.{sym, ap, _∙_, subst}
 use Prim.Native.Nat.{ℕ}
 use native.Mathlib.Omega.{arith}
 use lib.ListN.{length}
-use Rattle.word.specs.rules.Word.{dcnt, dmax}
 use Rattle.tree.specs.rules.Tree.{Node}
 use Rattle.tree.specs.rules.Lists.{checkList}
 use Rattle.lock.specs.rules.Records.{currentPiece}
-use Rattle.lock.specs.rules.Steps.{taken}
 use Rattle.lock.specs.laws.StepLaws.{check-stays, check-more, check-last, check-small}
 use borrow.Author.Needs.{needs}
 use Rattle.lock.proofs.Record.check_passed.Statement.{statement}

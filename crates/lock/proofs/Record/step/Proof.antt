@@ -1,60 +1,50 @@
 -- `lock::Record::step` meets its contract. Assumes nothing.
-use mathlib.Core.Path.{_≡_, refl, sym, ap, _∙_, subst}
-use mathlib.Core.Bool.{Bool, not, _&&_, _||_}
-use Prim.Native.Nat.{ℕ, _+_, _-_}
+use mathlib.Core.Path.{sym, ap, _∙_}
+use Prim.Native.Nat.{ℕ, _-_}
 use native.Mathlib.Omega.{arith}
-use lib.Dec.{eqb, leb, ltb}
-use lib.ListN.{length}
-use Rattle.base.specs.laws.ChoiceLaws.{choose-eq, choose-ne}
-use Rattle.word.specs.rules.Word.{dcnt, dmax}
-use Rattle.tree.specs.rules.Tree.{Node}
-use Rattle.tree.specs.rules.Lists.{checkList}
-use Rattle.lock.specs.rules.Records.{currentPiece, isLeaf, wordAt, written, withTaken, toPhase}
-use Rattle.lock.specs.rules.Steps.{begin, firstNoted, patienceSpent, taken, touched, moved, ownTouched, ownMoved}
-use Rattle.lock.specs.rules.Unreadable.{notCovered, noCurrent, ticketTooLarge, timeAhead, takenFirst}
-use Rattle.lock.specs.laws.OwnTests.{notBegun}
-use Rattle.lock.specs.laws.PhaseTests.{own-returning}
-use Rattle.lock.specs.laws.Pieces.{few-pieces}
-use Rattle.lock.specs.laws.PatienceLaws.{noted-pieced, own-touched}
-use Rattle.lock.specs.laws.StepLaws.{taken-more, taken-last, check-stays, check-more, check-last, check-small, notified-late, notified-leaf, notified-inner}
+use Rattle.lock.specs.rules.Records.{written}
+use Rattle.lock.specs.laws.PatienceLaws.{own-touched}
 use Rattle.lock.specs.laws.Touched.{touched-counted, readable}
 use Rattle.lock.specs.laws.ByKind.{step-work, step-refused, step-taken, step-given-up}
 use borrow.Author.Needs.{needs}
 use Rattle.lock.proofs.Record.step.Statement.{statement}
 use Rattle.lock.proofs.Record.step.Tie as tie
-use Rattle.lock.proofs.Record.step.Reads as reads
-use Rattle.lock.proofs.Record.step.Lts as lts
-use Rattle.lock.proofs.Record.moved.Reads as moved-reads
-use Rattle.lock.proofs.Record.patience_spent.Reads as patience-spent-reads
-use Rattle.lock.proofs.Record.refused.Reads as refused-reads
-use Rattle.lock.proofs.Record.sent_back.Reads as sent-back-reads
-use Rattle.lock.proofs.Record.touched.Reads as touched-reads
-use Rattle.lock.proofs.calls.put_word.Reads as put-word-reads
-use Rattle.lock.proofs.calls.word_at.Reads as word-at-reads
 
 patience-spent-requires : tie.Need-patience-spent-requires
 patience-spent-requires c κs =
-    let a = c .before .args in let q = c .before .pre in let f = readable (a .settings) (a .self) (a .call .last) (q .0) (q .2) in omega (arith, f .taken-past, q .3)
+    let a = c .before .args in
+    let q = c .before .pre in
+    let f = readable (a .settings) (a .self) (a .call .last) (q .0) (q .2) in
+    omega (arith, f .taken-past, q .3)
 
 sent-back-requires : tie.Need-sent-back-requires
-sent-back-requires c κs =
-    search needs
+sent-back-requires c κs = search needs
 
 returns : tie.Need-returns
 returns c =
-    let a = c .before .before .before .before .args in step-given-up (a .settings) (a .self) (a .words .now) (a .call .last) (a .call .a) (sym (c .before .before .patience-spent .ensures) ∙ c .before .if1 .taken) _ (c .sent-back .ensures)
+    let a = c .before .before .before .before .args in
+    step-given-up (a .settings) (a .self) (a .words .now) (a .call .last) (a .call .a) (sym (c .before .before .patience-spent .ensures) ∙ c .before .if1 .taken) _ (c .sent-back .ensures)
 
 touched-requires : tie.Need-touched-requires
 touched-requires c κs =
-    let a = c .before .before .before .args in let q = c .before .before .before .pre in let f = readable (a .settings) (a .self) (a .call .last) (q .0) (q .2) in (q .0, f .sound)
+    let a = c .before .before .before .args in
+    let q = c .before .before .before .pre in
+    let f = readable (a .settings) (a .self) (a .call .last) (q .0) (q .2) in
+    (q .0, f .sound)
 
 word-at-requires : tie.Need-word-at-requires
 word-at-requires c κs =
-    let a = c .before .before .before .before .before .args in let q = c .before .before .before .before .before .pre in let f = readable (a .settings) (a .self) (a .call .last) (q .0) (q .2) in omega (arith, touched-counted (a .settings) (a .self) (q .0) (f .sound), c .before .touched .ensures, q .1)
+    let a = c .before .before .before .before .before .args in
+    let q = c .before .before .before .before .before .pre in
+    let f = readable (a .settings) (a .self) (a .call .last) (q .0) (q .2) in
+    omega (arith, touched-counted (a .settings) (a .self) (q .0) (f .sound), c .before .touched .ensures, q .1)
 
 moved-requires : tie.Need-moved-requires
 moved-requires c κs =
-    let a = c .before .before .before .before .before .before .args in let q = c .before .before .before .before .before .before .pre in let f = readable (a .settings) (a .self) (a .call .last) (q .0) (q .2) in (q .0, f .sound, omega (arith, f .t1-past, q .3), omega (arith, f .t0-past, q .3), c .before .before .touched .ensures)
+    let a = c .before .before .before .before .before .before .args in
+    let q = c .before .before .before .before .before .before .pre in
+    let f = readable (a .settings) (a .self) (a .call .last) (q .0) (q .2) in
+    (q .0, f .sound, omega (arith, f .t1-past, q .3), omega (arith, f .t0-past, q .3), c .before .before .touched .ensures)
 
 refused-requires : tie.Need-refused-requires
 refused-requires c κs = search needs
@@ -64,18 +54,31 @@ same-length c = search needs
 
 returns-2 : tie.Need-returns-2
 returns-2 c =
-    let s = c .before .before .before .before .before .before .before .before .before .before .args .settings in let r = c .before .before .before .before .before .before .before .before .before .before .args .self in let ws = c .before .before .before .before .before .before .before .before .before .before .args .words .now in let t = c .before .before .before .before .before .before .before .before .before .before .args .call .a in let p = sym (c .before .before .before .before .before .before .before .before .patience-spent .ensures) ∙ c .before .before .before .before .before .before .before .if1 .left in step-refused s r ws (c .before .before .before .before .before .before .before .before .before .before .args .call .last) t _ (step-work s r ws t p _ _ _ (c .before .before .before .before .before .before .touched .ensures) (c .before .before .before .before .word-at .ensures) (c .before .before .before .moved .ensures)) (c .refused .result) (c .before .if2 .taken) (c .refused .ensures)
+    let s = c .before .before .before .before .before .before .before .before .before .before .args .settings in
+    let r = c .before .before .before .before .before .before .before .before .before .before .args .self in
+    let ws = c .before .before .before .before .before .before .before .before .before .before .args .words .now in
+    let t = c .before .before .before .before .before .before .before .before .before .before .args .call .a in
+    let p = sym (c .before .before .before .before .before .before .before .before .patience-spent .ensures) ∙ c .before .before .before .before .before .before .before .if1 .left in
+    step-refused s r ws (c .before .before .before .before .before .before .before .before .before .before .args .call .last) t _ (step-work s r ws t p _ _ _ (c .before .before .before .before .before .before .touched .ensures) (c .before .before .before .before .word-at .ensures) (c .before .before .before .moved .ensures)) (c .refused .result) (c .before .if2 .taken) (c .refused .ensures)
 
 put-word-requires : tie.Need-put-word-requires
 put-word-requires c κs =
-    let a = c .before .before .before .before .before .before .before .before .before .before .args in let q = c .before .before .before .before .before .before .before .before .before .before .pre in let f = readable (a .settings) (a .self) (a .call .last) (q .0) (q .2) in omega (arith, touched-counted (a .settings) (a .self) (q .0) (f .sound), c .before .before .before .before .before .before .touched .ensures, q .1)
+    let a = c .before .before .before .before .before .before .before .before .before .before .args in
+    let q = c .before .before .before .before .before .before .before .before .before .before .pre in
+    let f = readable (a .settings) (a .self) (a .call .last) (q .0) (q .2) in
+    omega (arith, touched-counted (a .settings) (a .self) (q .0) (f .sound), c .before .before .before .before .before .before .touched .ensures, q .1)
 
 same-length-2 : tie.Need-same-length-2
 same-length-2 c = search needs
 
 returns-3 : tie.Need-returns-3
 returns-3 c =
-    let s = c .before .before .before .before .before .before .before .before .before .before .before .before .before .before .args .settings in let r = c .before .before .before .before .before .before .before .before .before .before .before .before .before .before .args .self in let ws = c .before .before .before .before .before .before .before .before .before .before .before .before .before .before .args .words .now in let t = c .before .before .before .before .before .before .before .before .before .before .before .before .before .before .args .call .a in let p = sym (c .before .before .before .before .before .before .before .before .before .before .before .before .patience-spent .ensures) ∙ c .before .before .before .before .before .before .before .before .before .before .before .if1 .left in step-taken s r ws (c .before .before .before .before .before .before .before .before .before .before .before .before .before .before .args .call .last) t _ (step-work s r ws t p _ _ _ (c .before .before .before .before .before .before .before .before .before .before .touched .ensures) (c .before .before .before .before .before .before .before .before .word-at .ensures) (c .before .before .before .before .before .before .before .moved .ensures)) _ (c .before .before .before .before .before .if2 .left) (c .before .before .before .put-word .ensures ∙ ap (λ (x : ℕ). written ws x (c .before .before .before .before .before .before .before .moved .result .word)) (c .before .before .before .before .before .before .before .before .before .before .touched .ensures ∙ sym (own-touched s r t p)))
+    let s = c .before .before .before .before .before .before .before .before .before .before .before .before .before .before .args .settings in
+    let r = c .before .before .before .before .before .before .before .before .before .before .before .before .before .before .args .self in
+    let ws = c .before .before .before .before .before .before .before .before .before .before .before .before .before .before .args .words .now in
+    let t = c .before .before .before .before .before .before .before .before .before .before .before .before .before .before .args .call .a in
+    let p = sym (c .before .before .before .before .before .before .before .before .before .before .before .before .patience-spent .ensures) ∙ c .before .before .before .before .before .before .before .before .before .before .before .if1 .left in
+    step-taken s r ws (c .before .before .before .before .before .before .before .before .before .before .before .before .before .before .args .call .last) t _ (step-work s r ws t p _ _ _ (c .before .before .before .before .before .before .before .before .before .before .touched .ensures) (c .before .before .before .before .before .before .before .before .word-at .ensures) (c .before .before .before .before .before .before .before .moved .ensures)) _ (c .before .before .before .before .before .if2 .left) (c .before .before .before .put-word .ensures ∙ ap (λ (x : ℕ). written ws x (c .before .before .before .before .before .before .before .moved .result .word)) (c .before .before .before .before .before .before .before .before .before .before .touched .ensures ∙ sym (own-touched s r t p)))
 
 pub step-spec : {M : Type 1} → statement M
 step-spec =

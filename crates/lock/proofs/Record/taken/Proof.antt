@@ -1,32 +1,15 @@
 -- `lock::Record::taken` meets its contract. Assumes nothing.
-use mathlib.Core.Path.{_≡_, refl, sym, ap, _∙_, subst}
-use mathlib.Core.Bool.{Bool, not, _&&_, _||_}
-use Prim.Native.Nat.{ℕ, _+_, _-_}
+use mathlib.Core.Path.{sym, ap, _∙_}
+use Prim.Native.Nat.{_+_, _-_}
 use native.Mathlib.Omega.{arith}
-use lib.Dec.{eqb, leb, ltb}
-use lib.ListN.{length}
-use Rattle.base.specs.laws.ChoiceLaws.{choose-eq, choose-ne}
-use Rattle.word.specs.rules.Word.{dcnt, dmax}
-use Rattle.tree.specs.rules.Tree.{Node}
-use Rattle.tree.specs.rules.Lists.{checkList}
-use Rattle.lock.specs.rules.Records.{currentPiece, isLeaf, wordAt, written, withTaken, toPhase}
-use Rattle.lock.specs.rules.Steps.{begin, firstNoted, patienceSpent, taken, touched, moved, ownTouched, ownMoved}
-use Rattle.lock.specs.rules.Unreadable.{notCovered, noCurrent, ticketTooLarge, timeAhead, takenFirst}
-use Rattle.lock.specs.laws.OwnTests.{notBegun}
-use Rattle.lock.specs.laws.PhaseTests.{own-returning}
+use Rattle.lock.specs.rules.Records.{toPhase}
+use Rattle.lock.specs.rules.Steps.{begin, taken}
 use Rattle.lock.specs.laws.Pieces.{few-pieces}
-use Rattle.lock.specs.laws.PatienceLaws.{noted-pieced, own-touched}
-use Rattle.lock.specs.laws.StepLaws.{taken-more, taken-last, check-stays, check-more, check-last, check-small, notified-late, notified-leaf, notified-inner}
-use Rattle.lock.specs.laws.Touched.{touched-counted, readable}
-use Rattle.lock.specs.laws.ByKind.{step-work, step-refused, step-taken, step-given-up}
+use Rattle.lock.specs.laws.PatienceLaws.{noted-pieced}
+use Rattle.lock.specs.laws.StepLaws.{taken-more, taken-last}
 use borrow.Author.Needs.{needs}
 use Rattle.lock.proofs.Record.taken.Statement.{statement}
 use Rattle.lock.proofs.Record.taken.Tie as tie
-use Rattle.lock.proofs.Record.taken.Reads as reads
-use Rattle.lock.proofs.Record.taken.Lts as lts
-use Rattle.lock.proofs.Record.begin.Reads as begin-reads
-use Rattle.lock.proofs.Record.first_noted.Reads as first-noted-reads
-use Rattle.lock.proofs.Record.piece_count.Reads as piece-count-reads
 
 first-noted-requires : tie.Need-first-noted-requires
 first-noted-requires c κs = search needs
@@ -40,15 +23,18 @@ piece-count-requires c κs = search needs
 
 begin-requires : tie.Need-begin-requires
 begin-requires c κs =
-    let r = c .before .before .before .before .args .self in noted-pieced r (c .before .before .before .before .args .clock) _ (c .before .before .before .first-noted .ensures) (c .before .before .before .before .pre) _ (omega (arith, c .before .piece-count .ensures, c .if1 .taken))
+    let r = c .before .before .before .before .args .self in
+    noted-pieced r (c .before .before .before .before .args .clock) _ (c .before .before .before .first-noted .ensures) (c .before .before .before .before .pre) _ (omega (arith, c .before .piece-count .ensures, c .if1 .taken))
 
 returns : tie.Need-returns
 returns c =
-    let a = c .before .before .before .before .before .args in c .begin .ensures ∙ ap (λ x. begin (a .settings) x (a .self .current + 1)) (c .before .before .before .before .first-noted .ensures) ∙ sym (taken-more (a .settings) (a .self) (a .clock) (omega (arith, c .before .before .piece-count .ensures, c .before .if1 .taken)))
+    let a = c .before .before .before .before .before .args in
+    c .begin .ensures ∙ ap (λ x. begin (a .settings) x (a .self .current + 1)) (c .before .before .before .before .first-noted .ensures) ∙ sym (taken-more (a .settings) (a .self) (a .clock) (omega (arith, c .before .before .piece-count .ensures, c .before .if1 .taken)))
 
 returns-2 : tie.Need-returns-2
 returns-2 c =
-    let a = c .before .before .before .before .args in ap (toPhase 9) (c .before .before .before .first-noted .ensures) ∙ sym (taken-last (a .settings) (a .self) (a .clock) (omega (arith, c .before .piece-count .ensures, c .if1 .left)))
+    let a = c .before .before .before .before .args in
+    ap (toPhase 9) (c .before .before .before .first-noted .ensures) ∙ sym (taken-last (a .settings) (a .self) (a .clock) (omega (arith, c .before .piece-count .ensures, c .if1 .left)))
 
 pub taken-spec : {M : Type 1} → statement M
 taken-spec =
