@@ -123,11 +123,13 @@ LONG_HELD = "run 1 wants 64 70 from 0 for 100\nrun 0 wants 60 70 from 5 for 10"
 PLANS = {
     "a leaf that is held for long": (f"tree 2 m 1 wait 5 patience 20 clients 2\n{LONG_HELD}", [28], 0),
     "more patience than it is held": (f"tree 2 m 1 wait 5 patience 200 clients 2\n{LONG_HELD}", [], 0),
-    "a node that is held for long": ("tree 3 m 1 wait 5 patience 20 clients 2\nrun 1 wants 256 512 from 0 for 300\nrun 0 wants 100 400 from 5 for 1", [35], 0),
+    "a node that is held for long": ("tree 3 m 1 wait 5 patience 20 clients 2\nrun 1 wants 256 512 from 0 for 300\n"
+                                     "run 0 wants 100 400 from 5 for 1", [35], 0),
     "less patience than a step a tick takes": ("tree 3 m 1 wait 5 patience 6 clients 1\nrun 0 wants 100 400 from 5 for 10", [], 0),
     "just as much patience": ("tree 3 m 1 wait 5 patience 10 clients 1\nrun 0 wants 100 400 from 5 for 10", [], 0),
     "a tick more patience": ("tree 3 m 1 wait 5 patience 11 clients 1\nrun 0 wants 100 400 from 5 for 10", [], 0),
-    "runs that block each other": ("tree 3 m 1 wait 5 patience 20 clients 2\nrun 0 wants 60 70 from 0 for 10\nrun 1 wants 0 256 from 0 for 10", [], 1),
+    "runs that block each other": ("tree 3 m 1 wait 5 patience 20 clients 2\nrun 0 wants 60 70 from 0 for 10\n"
+                                   "run 1 wants 0 256 from 0 for 10", [], 1),
     "without settings": (LONG_HELD.replace("for 100", "for 100000"), [], 0),
 }
 
