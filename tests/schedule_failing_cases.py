@@ -10,10 +10,10 @@ from tempfile import TemporaryDirectory
 
 from compare import NAMES, case
 from library import ROOT, SECONDS
-from schedule_files import WHOLE_CASE
 from schedule_tool import TOOL, started
 
 WHOLE_TEXT = (ROOT / "schedules" / "whole-case.txt").read_bytes()
+WHOLE_FILE = (ROOT / "schedules" / "whole-case.bin").read_bytes()
 LOG = (ROOT / "schedules" / "whole-case.log").read_text()
 RESULTS = ("exit status", "said as expected", "bytes written")
 MEMORY = 2 ** 29
@@ -147,7 +147,7 @@ def output_files():
         wrong = started("pack", "-o", path, data=b"stop")
         kept = path.read_bytes() == b"before"
         right = started("pack", "-o", link, data=WHOLE_TEXT)
-        written = path.read_bytes() == WHOLE_CASE and link.is_symlink() and sorted(os.listdir(folder)) == ["case.bin", "link"]
+        written = path.read_bytes() == WHOLE_FILE and link.is_symlink() and sorted(os.listdir(folder)) == ["case.bin", "link"]
         mode = path.stat().st_mode & 0o777
         fresh = started("pack", "-o", Path(folder) / "fresh", data=WHOLE_TEXT)
         fresh_mode = (Path(folder) / "fresh").stat().st_mode & 0o777
