@@ -85,7 +85,7 @@ def refused_tables():
 
 
 # After the last call of the whole case client 0 is idle with outcome 1. Client 1 holds [0, 256) by the root, of which nothing is beyond it,
-# with Occ as its grip, ticket 0 and no notices, claimed at clock 3 and taken at 10. It is the only one in phase 9, and the last clock is 10.
+# with Occ as its grip, ticket 0 and no notices, claimed at 3 and taken at 10. It is the only one in phase 9, and the last clock is 10.
 WHOLE_CASE = WHOLE_CASE_SETTINGS, [IDLE._replace(outcome=1), Record(phase=9, right=256, first=1, grip=3, t0=3, taken=10)], 10
 WHOLE_CASE_ROWS = [Row(), Row(9, 0, 256, 1, 0, 0)]
 

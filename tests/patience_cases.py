@@ -58,7 +58,7 @@ def third_time(record, after, clock):
 
 
 def with_patience():
-    """Any other step sets no outcome 4. The third time is the clock of the step that takes the first piece, of a window of one piece too."""
+    """Any other step sets no outcome 4. The third time is the clock of the step that takes the first piece, also of a single one."""
     for state, clock in steps(False):
         number, _, after = answer(state, Sparse(state.count, state.words), Call("step", 0, clock))
         if number == 0:

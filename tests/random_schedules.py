@@ -25,7 +25,8 @@ def driven(shape, seed):
 
 def contended(rng, seed):
     """Few clients that want few windows of a small tree."""
-    settings = Settings(rng.choice([2, 2, 3, 4]), rng.choice(tree.DISTANCES), rng.choice([1, 2, 4, 9]), rng.choice([1, 3, 8, 30, MOST_PATIENCE]))
+    wait, patience = rng.choice([1, 2, 4, 9]), rng.choice([1, 3, 8, 30, MOST_PATIENCE])
+    settings = Settings(rng.choice([2, 2, 3, 4]), rng.choice(tree.DISTANCES), wait, patience)
     return encode(driven(Shape(settings, rng.choice([2, 3, 5]), rng.choice([60, 150, 300])), seed))
 
 

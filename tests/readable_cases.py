@@ -1,5 +1,5 @@
-"""The paragraph "Unreadable" and what request 2.2 adds to it, in the model: for each clause records just inside and just outside it. The library takes
-no part."""
+"""The paragraph "Unreadable" and what request 2.2 adds to it, in the model: for each clause records just inside and just outside it. The
+library takes no part."""
 
 from random import Random
 
@@ -38,7 +38,8 @@ READABLE = [
     TICKET, TURN, TURN._replace(phase=3, grip=2), TURN._replace(phase=10, outcome=3),
     CHECK, CHECK._replace(phase=7), CHECK._replace(phase=9), CHECK._replace(phase=10, outcome=2, place=1),
     ROOT, ROOT._replace(phase=7, grip=3), NEXT, NEXT._replace(phase=10, outcome=3, place=1),
-    NEXT._replace(taken=1), NEXT._replace(taken=LAST), HELD._replace(taken=LAST), GIVING._replace(taken=7), GIVING._replace(outcome=2, taken=7),
+    NEXT._replace(taken=1), NEXT._replace(taken=LAST), HELD._replace(taken=LAST),
+    GIVING._replace(taken=7), GIVING._replace(outcome=2, taken=7),
     SINGLE, SINGLE._replace(taken=1), SINGLE._replace(phase=10, outcome=1), RUN_OUT, RUN_OUT._replace(place=1), RUN_OUT._replace(taken=0),
 ]
 

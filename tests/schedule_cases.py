@@ -22,7 +22,7 @@ FEW_SEEDS = 40
 # The header line, and a line for each call, as the document writes them.
 WHOLE_LOG = "\n".join(["tree 2 m 1 wait 5 clients 2", *WHOLE_CASE_LINES, ""]).encode()
 
-# After the last call client 0 is idle with outcome 1, and client 1 holds the whole tree by the root, which it claimed at clock 3 and took at 10.
+# After the last call client 0 is idle with outcome 1, and client 1 holds the whole tree by the root, claimed at clock 3 and taken at 10.
 WHOLE_PAGES = b"""\
 0 0 0 0 0 0 0
 1 9 0 256 1 0 0

@@ -192,8 +192,8 @@ BOTH_WAIT = [
 
 
 def patience():
-    """Patience that runs out in each phase of a second piece, inner or leaf; at the clock at which it does and beside it; where a claim is late
-    as well. It does not run out for a window of one piece, nor where both are held or a release or a cancel came first."""
+    """Patience that runs out in each phase of a second piece, inner or leaf; at the clock at which it does and beside it; where a claim is
+    late as well. It does not run out for a window of one piece, nor where both are held or a release or a cancel came first."""
     inner, leaves, single = ([Call("request", 0, left, right), *steps(0, 1, 40)] for left, right in ((100, 400), (60, 70), (0, 256)))
     for allowed in range(1, 12):
         yield f"P {allowed}, two inner pieces", File(of_calls(*inner, levels=3, patience=allowed))
@@ -210,7 +210,8 @@ def patience():
     asked_again = [*steps(0, 23, 3), *steps(1, 26, 1), Call("request", 0, 60, 70), Call("release", 1), *steps(1, 27, 2), *steps(0, 29, 6)]
     yield "both wait, P 20, and both windows are taken", File(of_calls(*BOTH_WAIT, *asked_again, patience=20))
     for allowed in (6, 7):
-        yield f"P {allowed}, a claim late 6 after the first piece", File(of_calls(*leaves[:6], Call("step", 0, 9), *steps(0, 9, 4), patience=allowed))
+        late = [*leaves[:6], Call("step", 0, 9), *steps(0, 9, 4)]
+        yield f"P {allowed}, a claim late 6 after the first piece", File(of_calls(*late, patience=allowed))
     cancelled = [Call("step", 1, 50), Call("cancel", 0), *steps(0, 51, 1)]
     yield "both wait, P 20, and a cancel after 47", File(of_calls(*BOTH_WAIT, *cancelled, patience=20))
 
