@@ -2,6 +2,7 @@
 ghost use mathlib.Core.Path.{_≡_};
 ghost use Prim.Native.Nat.{_≤_};
 ghost use Rattle.lock.specs.rules.Steps.{firstNoted, patienceSpent};
+ghost use Rattle.lock.specs.rules.Unreadable.{takenFirst};
 use crate::Record;
 use crate::Settings;
 
@@ -22,9 +23,22 @@ impl Record {
         requires { ⌜ self .taken ≤ clock ⌝ }
         ensures { λ b. ⌜ b ≡ patienceSpent settings self clock ⌝ }
     {
-        (1 <= self.phase)
-            & (self.phase <= 8)
-            & (0 < self.current)
-            & (settings.patience <= clock - self.taken)
+        if self.current == 0 {
+            return false;
+        }
+        (1 <= self.phase) & (self.phase <= 8) & (settings.patience <= clock - self.taken)
+    }
+
+    // "a nonzero time at a first piece, save in 9 or in 10 with outcome 1"
+    pub fn taken_first(self) -> bool
+        ensures { λ b. ⌜ b ≡ takenFirst self ⌝ }
+    {
+        if self.taken == 0 {
+            return false;
+        }
+        if self.current != 0 {
+            return false;
+        }
+        !((self.phase == 9) | ((self.phase == 10) & (self.outcome == 1)))
     }
 }

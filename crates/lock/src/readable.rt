@@ -43,9 +43,7 @@ impl Record {
             | (self.piece_count() <= self.current)
             | (32767 < self.ticket)
             | ((last < self.t1) | (last < self.t0) | (last < self.taken))
-            | ((0 < self.taken)
-                & (self.current == 0)
-                & !((self.phase == 9) | ((self.phase == 10) & (self.outcome == 1))))
+            | self.taken_first()
     }
 
     pub fn unreadable(self, settings: Settings, last: u64) -> bool

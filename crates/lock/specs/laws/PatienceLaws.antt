@@ -1,10 +1,11 @@
 -- Laws of patience: where it is not spent a step does the work of its phase, and where it is the record begins to return. Assumes nothing.
 use mathlib.Core.Path.{_≡_, refl, sym, ap, subst, _∙_}
-use mathlib.Core.Bool.{Bool, true, false, _&&_}
+use mathlib.Core.Logic.{_≢_}
+use mathlib.Core.Bool.{Bool, true, false, not, _&&_, _||_, and-true}
 use mathlib.Core.List.{List}
 use Prim.Native.Nat.{ℕ, _-_, _≤_, _<_}
 use native.Mathlib.Omega.{arith}
-use borrow.Author.Tests.{leb-true, ltb-true, lt-leb}
+use borrow.Author.Tests.{leb-true, ltb-true, lt-leb, lt-ltb, le-ltb, eq-eqb, ne-eqb}
 use lib.Dec.{eqb, leb, ltb}
 use lib.ListN.{length}
 use Rattle.base.specs.rules.Choice.{choose}
@@ -14,6 +15,7 @@ use Rattle.lock.specs.declared.Record.{Record}
 use Rattle.lock.specs.declared.Settings.{Settings}
 use Rattle.lock.specs.rules.Records.{pieces, wordAt, withTaken}
 use Rattle.lock.specs.rules.Steps.{firstNoted, leaves, ownTouched, ownMoved, patienceSpent, givenUp, touched, moved}
+use Rattle.lock.specs.rules.Unreadable.{nonzero, takenFirst}
 use Rattle.lock.specs.laws.Placed.{Pieced}
 use Rattle.lock.specs.laws.StepLaws.{pieced-kept}
 
@@ -38,7 +40,18 @@ module _ (s : Settings) (r : Record) (t : ℕ) where
         long = leb-true (s .patience) (t - r .taken) (p .1);
       }
 
-  -- idle, held and returning records have no patience to spend
+  -- a first piece has no patience to spend
+  pub unspent-first : r .current ≡ 0 → patienceSpent s r t ≡ false
+  unfolding patienceSpent
+  unspent-first e = ap (λ b. b && leb (s .patience) (t - r .taken)) (second-false (leb 1 (r .phase) && leb (r .phase) 8) _ (le-ltb 0 (r .current) (omega arith)))
+
+  pub spent-later : r .current ≢ 0 → (leb 1 (r .phase) && leb (r .phase) 8 && leb (s .patience) (t - r .taken)) ≡ patienceSpent s r t
+  unfolding patienceSpent
+  spent-later d =
+      let phases = leb 1 (r .phase) && leb (r .phase) 8 in
+      ap (λ b. b && leb (s .patience) (t - r .taken)) (sym (and-true phases) ∙ ap (λ b. phases && b) (sym (lt-ltb 0 (r .current) (omega arith))))
+
+  -- idle, held and returning records have none either
   pub unspent-idle : r .phase ≡ 0 → patienceSpent s r t ≡ false
   unfolding patienceSpent
   unspent-idle e = ap (λ b. b && leb (r .phase) 8 && ltb 0 (r .current) && leb (s .patience) (t - r .taken)) (lt-leb 1 (r .phase) (omega arith))
@@ -71,6 +84,24 @@ pub unmoved : (s : Settings) (r : Record) (words : List ℕ) (t : ℕ) → patie
     → let w = wordAt words (touched s r t) in moved s r w t ≡ leaves w r
 unmoved s r words t e f =
     subst (λ (n : ℕ). moved s r (wordAt words n) t ≡ leaves (wordAt words n) r) (sym (own-touched s r t e)) (own-moved s r t e _ ∙ f)
+
+-- ---- the third time at a first piece
+
+module _ (r : Record) where
+  abbrev released : Bool
+  released = eqb (r .phase) 9 || eqb (r .phase) 10 && eqb (r .outcome) 1
+
+  pub no-time : r .taken ≡ 0 → takenFirst r ≡ false
+  unfolding takenFirst
+  no-time z = ap (λ b. b && eqb (r .current) 0 && not released) (le-ltb 0 (r .taken) (omega arith))
+
+  pub later-time : r .current ≢ 0 → takenFirst r ≡ false
+  unfolding takenFirst
+  later-time d = ap (λ b. b && not released) (second-false (nonzero (r .taken)) _ (ne-eqb (r .current) 0 d))
+
+  pub first-time : r .taken ≢ 0 → r .current ≡ 0 → not (eqb (r .phase) 9 || eqb (r .phase) 10 && eqb (r .outcome) 1) ≡ takenFirst r
+  unfolding takenFirst
+  first-time d e = λ i. sym (lt-ltb 0 (r .taken) (omega arith)) i && sym (eq-eqb (r .current) 0 e) i && not released
 
 -- ---- noting the third time changes no piece
 

@@ -9,7 +9,7 @@ use lib.Dec.{eqb, ltb}
 use lib.ListN.{length, getD}
 use Rattle.base.specs.rules.Choice.{choose}
 use Rattle.base.specs.laws.ChoiceLaws.{choose-eq, choose-ne, by-lt, by-eq}
-use Rattle.base.specs.laws.TestLaws.{both-false, second-false}
+use Rattle.base.specs.laws.TestLaws.{true-later, both-false, second-false}
 use Rattle.tree.specs.rules.Tree.{level}
 use Rattle.tree.specs.rules.Lists.{ancestors, notifyList, checkList}
 use Rattle.tree.specs.laws.Ancestors.{ancestors-count}
@@ -21,6 +21,7 @@ use Rattle.lock.specs.rules.Records.{coverOf, pieces, pieceAt, currentPi
 use Rattle.lock.specs.rules.Unreadable.{nonzero, differ, idleFilled, notCovered, noCurrent, ticketTooLarge, timeAhead, takenFirst, unreadable}
 use Rattle.lock.specs.rules.Steps.{startPhase}
 use Rattle.lock.specs.laws.Active.{Settled, NoEarlyTime}
+use Rattle.lock.specs.laws.PatienceLaws.{no-time, later-time, first-time}
 use Rattle.lock.specs.laws.Pieces.{piece-first, second-is}
 use Rattle.lock.specs.laws.StepLaws.{start-leaf, start-inner}
 use Rattle.lock.specs.laws.ReadableLaws.{Begun, grip-ticket, grip-turn}
@@ -69,21 +70,19 @@ module _ (s : Settings) (r : Record) where
       (ap₂ _||_ (window-right (s .levels) (r .left) (r .right) w) (alike (r .first) _ (sym (piece-first r) ∙ ap (λ c. getD c 0 0) e)))
       (alike (r .second) _ (second-is r ∙ ap (λ c. getD c 1 0) e))
 
-  first-time : NoEarlyTime r → takenFirst r ≡ false
-  unfolding takenFirst
-  first-time f =
-      let kept = eqb (r .phase) 9 || eqb (r .phase) 10 && eqb (r .outcome) 1 in
-      let early = nonzero (r .taken) && eqb (r .current) 0 in
-      let nothing : r .taken ≡ 0 → takenFirst r ≡ false = λ z. ap (λ b. b && eqb (r .current) 0 && not kept) (none (r .taken) z) in
+  not-early : NoEarlyTime r → takenFirst r ≡ false
+  not-early f =
+      by-eq (r .taken) 0 (no-time r) (λ some.
       by-eq (r .current) 0
-      (λ e. by-eq (r .phase) 9
-      (λ n. second-false early (not kept) (ap (λ b. not (b || eqb (r .phase) 10 && eqb (r .outcome) 1)) (eq-eqb (r .phase) 9 n)))
+      (λ e. let kept : (eqb (r .phase) 9 || eqb (r .phase) 10 && eqb (r .outcome) 1) ≡ true = by-eq (r .phase) 9
+      (λ n. ap (λ b. b || eqb (r .phase) 10 && eqb (r .outcome) 1) (eq-eqb (r .phase) 9 n))
       (λ d. by-eq (r .phase) 10
       (λ t. by-eq (r .outcome) 1
-      (λ o. second-false early (not kept) (λ i. not (ne-eqb (r .phase) 9 d i || eq-eqb (r .phase) 10 t i && eq-eqb (r .outcome) 1 o i)))
-      (λ o. nothing (f e d (λ _. o))))
-      (λ t. nothing (f e d (λ z. absurd (t z))))))
-      (λ d. ap (λ b. b && not kept) (second-false (nonzero (r .taken)) _ (ne-eqb (r .current) 0 d)))
+      (λ o. sym (true-later (eqb (r .phase) 9) _ (λ i. sym (eq-eqb (r .phase) 10 t) i && sym (eq-eqb (r .outcome) 1 o) i)))
+      (λ o. absurd (some (f e d (λ _. o)))))
+      (λ t. absurd (some (f e d (λ z. absurd (t z)))))) in
+      sym (first-time r some e) ∙ ap not kept)
+      (later-time r))
 
   module _ (last : ℕ) where
     pub asked : Window (s .levels) (r .left) (r .right) → pieces r ≡ coverOf s (r .left) (r .right) → r .current < length (pieces r) → r .ticket ≤ 32767 → r .t1 ≤ last
@@ -93,7 +92,7 @@ module _ (s : Settings) (r : Record) where
         ap₂ _||_
         (ap₂ _||_ (ap₂ _||_ (ap₂ _||_ (covered w e) (lt-leb (length (pieces r)) (r .current) x)) (le-ltb 32767 (r .ticket) k))
         (ap₂ _||_ (ap₂ _||_ (le-ltb last (r .t1) a) (le-ltb last (r .t0) b)) (le-ltb last (r .taken) c)))
-        (first-time f)
+        (not-early f)
 
     module _ (g : Settled s) (every : notBegun s r last ≡ false) where
       pub asked-begun : Begun s r
