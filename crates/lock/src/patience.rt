@@ -11,10 +11,10 @@ impl Record {
     pub fn first_noted(mut self, clock: u64) -> Record
         ensures { λ r. ⌜ r ≡ firstNoted self clock ⌝ }
     {
-        if self.current == 0 {
-            self.taken = clock;
+        if 0 < self.current {
             return self;
         }
+        self.taken = clock;
         self
     }
 
