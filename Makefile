@@ -34,6 +34,8 @@ PROGRAMS = target/bin/rangelog target/bin/rangepages
 # The proved parts of the library: each archive has the exported functions of its crate.
 PROVED = target/staticlib/libtable.a target/staticlib/libpages.a
 MANUALS = $(wildcard man/*.1)
+# The declarations and `Table`: for each language the file that a program names, and beside it the one that this file has.
+TABLES = $(wildcard include/*.rs) $(wildcard python/*.py)
 
 # Folders too, whose times tell of files that are gone.
 CRATES := crates.txt $(shell find crates)
@@ -85,7 +87,7 @@ install: all
 	install -m 644 include/nolthewyr.h $(DESTDIR)$(INCLUDEDIR)
 	sed -e 's|@PREFIX@|$(PREFIX)|; s|@LIBDIR@|$(LIBDIR)|; s|@INCLUDEDIR@|$(INCLUDEDIR)|; s|@DATADIR@|$(DATADIR)|; s|@VERSION@|$(VERSION)|' \
 	    packaging/nolthewyr.pc.in > $(DESTDIR)$(PKGCONFIGDIR)/nolthewyr.pc
-	install -m 644 include/nolthewyr.rs python/nolthewyr.py $(DESTDIR)$(DATADIR)
+	install -m 644 $(TABLES) $(DESTDIR)$(DATADIR)
 	install -m 644 $(MANUALS) $(DESTDIR)$(MANDIR)
 
 uninstall:
@@ -93,7 +95,7 @@ uninstall:
 	rm -f $(addprefix $(DESTDIR)$(LIBDIR)/libnolthewyr.,a so so.$(SERIES) so.$(VERSION))
 	rm -f $(DESTDIR)$(INCLUDEDIR)/nolthewyr.h $(DESTDIR)$(PKGCONFIGDIR)/nolthewyr.pc
 	rm -f $(addprefix $(DESTDIR)$(MANDIR)/,$(notdir $(MANUALS)))
-	rm -f $(addprefix $(DESTDIR)$(DATADIR)/nolthewyr.,rs py)
+	rm -f $(addprefix $(DESTDIR)$(DATADIR)/,$(notdir $(TABLES)))
 	rm -rf $(DESTDIR)$(DATADIR)/__pycache__
 	rmdir $(DESTDIR)$(DATADIR) || true
 

@@ -60,21 +60,23 @@ fn damage(random: &mut Random, tables: &mut Tables, client: usize) {
     }
 }
 
-/// How often each number was answered, and how often a record was in each phase after an accepted call.
+/// How often each number was answered, and how often a record was in each phase and had each outcome after an accepted call.
 #[derive(Default)]
 struct Met {
     numbers: [usize; 10],
     phases: [usize; 11],
+    outcomes: [usize; 5],
 }
 
 /// Openings and calls that are refused for their settings (1), for the count of words (2) or for that of clients (3).
 fn compare_refused(met: &mut Met) {
-    let of = |levels, distance, wait| Settings { levels, distance, wait };
-    let outside = [of(0, 1, 1), of(1, 1, 1), of(13, 1, 1), of(2, 0, 1), of(2, 5, 1), of(2, 1, 0), of(2, 1, 1 << 32)];
-    let by_settings = outside.map(|settings| (1, settings, 5, 1));
+    let of = |levels, distance, wait, patience| Settings { levels, distance, wait, patience };
+    let of_tree = [of(0, 1, 1, 1), of(1, 1, 1, 1), of(13, 1, 1, 1), of(2, 0, 1, 1), of(2, 5, 1, 1)];
+    let of_times = [of(2, 1, 0, 1), of(2, 1, 1 << 32, 1), of(2, 1, 1, 0), of(2, 1, 1, 1 << 32), of(2, 1, 1, u64::MAX)];
+    let by_settings = of_tree.into_iter().chain(of_times).map(|settings| (1, settings, 5, 1));
     let by_counts = [(2, 4, 1), (2, 6, 0), (2, 21, 1), (3, 5, 0), (3, 5, 32768)];
-    let by_counts = by_counts.map(|(number, words, clients)| (number, of(2, 1, 1), words, clients));
-    for (number, settings, words, clients) in by_settings.into_iter().chain(by_counts) {
+    let by_counts = by_counts.map(|(number, words, clients)| (number, of(2, 1, 1, 1), words, clients));
+    for (number, settings, words, clients) in by_settings.chain(by_counts) {
         let mut tables = SIDES.map(|side| Lent::filled(side, settings, words, clients));
         for lent in &mut tables {
             assert_eq!(lent.open(), number, "{settings:?}, {words} words, {clients} clients");
@@ -94,7 +96,9 @@ fn compare_call(tables: &mut Tables, planned: Planned, met: &mut Met) -> u64 {
     assert!(agree(tables), "{planned:?}: words or records differ");
     met.numbers[rattle.number as usize] += 1;
     if rattle.number == 0 {
-        met.phases[tables[0].records[planned.client as usize].phase.0 as usize] += 1;
+        let record = &tables[0].records[planned.client as usize];
+        met.phases[record.phase.0 as usize] += 1;
+        met.outcomes[record.outcome.0 as usize] += 1;
     }
     rattle.number
 }
@@ -117,17 +121,19 @@ fn compare_history(seed: u64, settings: Settings, damaging: bool, met: &mut Met)
     }
 }
 
-/// Histories on small trees for every m, with and without damage. Every number that a call can answer and every phase must
-/// have occurred.
+/// Histories on small trees for every m, with and without damage. Every number that a call can answer, every phase and every outcome
+/// must have occurred.
 pub fn compare_sides() {
     let mut met = Met::default();
     compare_refused(&mut met);
     for seed in 0..40 {
-        let settings = Settings { levels: 2 + seed % 5, distance: 1 + seed / 5 % 4, wait: [1, 5, 25][seed as usize % 3] };
+        let (wait, patience) = ([1, 5, 25][seed as usize % 3], [2, 20, 200][seed as usize / 3 % 3]);
+        let settings = Settings { levels: 2 + seed % 5, distance: 1 + seed / 5 % 4, wait, patience };
         compare_history(seed, settings, seed >= 20, &mut met);
     }
     assert!(!met.numbers.contains(&0), "a number was never answered: {:?}", met.numbers);
     assert!(!met.phases.contains(&0), "a phase was never reached: {:?}", met.phases);
+    assert!(!met.outcomes.contains(&0), "an outcome never occurred: {:?}", met.outcomes);
     println!("{} calls left equal answers, words and records", met.numbers.iter().sum::<usize>());
     println!("they were answered 0 to 9 so often: {:?}", met.numbers);
 }

@@ -61,8 +61,9 @@ impl Random {
             notices,
             t1,
             t0,
+            taken,
         } = &mut record;
-        let fields = [phase, outcome, left, right, first, second, current, giving, grip, ticket, place, notices, t1, t0];
+        let fields = [phase, outcome, left, right, first, second, current, giving, grip, ticket, place, notices, t1, t0, taken];
         let (field, small) = (self.below(fields.len() as u64) as usize, self.below(12));
         let number = *fields[field];
         *fields[field] = self.one_of(&[small, number.wrapping_add(1), number.wrapping_sub(1), 32767, 32768, u64::MAX]);

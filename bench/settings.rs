@@ -3,7 +3,8 @@
 use crate::lent::Window;
 use crate::nolthewyr::Settings;
 
-pub const SETTINGS: Settings = Settings { levels: 12, distance: 2, wait: 1 };
+/// Nobody's patience runs out: only in a wait does the clock move on, by a tick.
+pub const SETTINGS: Settings = Settings { levels: 12, distance: 2, wait: 1, patience: 100 };
 pub const MOST_CLIENTS: usize = 32767;
 
 /// A window and what it is called in the tables.

@@ -55,7 +55,7 @@ impl Side for Linked {
 /// Settings and call as single numbers. C's convention on x86-64 puts a struct of more than 16 bytes on the stack, and numbers too
 /// once six stand in registers: after two that nobody reads, the fields of the structs lie where the structs would.
 type ByNumbers =
-    unsafe extern "C" fn(*mut Record, usize, *mut u64, usize, u64, u64, u64, u64, u64, u64, u64, u64, u64, u64) -> Answer;
+    unsafe extern "C" fn(*mut Record, usize, *mut u64, usize, u64, u64, u64, u64, u64, u64, u64, u64, u64, u64, u64) -> Answer;
 
 /// A side whose caller writes the fields of settings and call where the function reads them, in place of copying the structs there.
 pub struct Written(pub Linked);
@@ -66,12 +66,12 @@ impl Side for Written {
     }
 
     fn make(&mut self, kind: Kind, records: &mut [Record], words: &mut [u64], settings: Settings, call: Call) -> Answer {
-        let Settings { levels, distance, wait } = settings;
+        let Settings { levels, distance, wait, patience } = settings;
         let Call { kind: number, client, a, b, last } = call;
         let (records, clients, words, count) = (records.as_mut_ptr(), records.len(), words.as_mut_ptr(), words.len());
         unsafe {
             let on_table: ByNumbers = transmute(self.0.calls[kind as usize]);
-            on_table(records, clients, words, count, 0, 0, levels, distance, wait, number, client, a, b, last)
+            on_table(records, clients, words, count, 0, 0, levels, distance, wait, patience, number, client, a, b, last)
         }
     }
 }

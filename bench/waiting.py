@@ -1,24 +1,34 @@
 #!/usr/bin/env python3
 """How many clients wait for each other for ever if none gives up, and what cancel and back-off make of the same wishes: the table of
-docs/WAITING.md: make && bench/waiting.py
+docs/WAITING.md: make && bench/waiting.py [PATIENCE]
 
 40 clients with windows of all sizes (the logarithm of the length is uniform) ask at the same time and step in turn, one step a tick; who
-holds releases after 20 ticks. A client that is late asks again at once.
+holds releases after 20 ticks. A client that is late asks again at once. The patience is in ticks; without it it is the longest there is, so
+that none runs out. A client whose patience has run out has given up, as one that cancels: it pauses if it has a way to, and asks again.
+
+With --model the calls are made by the model, which needs no library and takes longer.
 """
 
+import argparse
 import sys
 from pathlib import Path
 from random import Random
 
-sys.path.insert(0, str(Path(__file__).resolve().parent.parent / "python"))
+ROOT = Path(__file__).resolve().parent.parent
+sys.path[:0] = [str(ROOT), str(ROOT / "python")]
 
-from nolthewyr import Phase, Settings, Table
+import nolthewyr
+from model import history, record, tree
+from nolthewyr import Outcome, Phase
 
 CLIENTS, LEVELS, WAIT, HOLD, RUNS = 40, 6, 40, 20, 20
 UNITS = 64 * 4 ** (LEVELS - 1)
 MOST_STEPS, FIRST_LIMIT, LAST_LIMIT = 300, 200, 1600
 
-# How a client that has given up pauses, below a limit in ticks that doubles each time; None if it never gives up.
+LONGEST = 2 ** 32 - 1
+GAVE_UP = Outcome.CANCELLED, Outcome.OUT_OF_PATIENCE
+
+# How a client that has given up pauses, below a limit in ticks that doubles each time; None if it never cancels, and does not pause.
 WAYS = {
     "nobody gives up": None,
     "cancel, pause for the whole limit": lambda rng, limit: limit,
@@ -28,23 +38,54 @@ WAYS = {
 LONG = 10000
 
 
+class ModelTable:
+    """The model's table, with the calls of the library's. None of the clients' calls is refused."""
+
+    def __init__(self, settings, clients):
+        of_lock = record.Settings(*settings)
+        self.lock = history.Opened(of_lock, [0] * tree.node_count(of_lock.levels), [record.IDLE] * clients)
+
+    def make(self, kind, client, *numbers):
+        number, self.lock.clock = self.lock.answer(history.Call(kind, client, *numbers))
+        assert number == 0, f"{kind} of client {client} is refused by {number}"
+        return self.lock.records[client].phase
+
+    def request(self, client, left, right):
+        return self.make("request", client, left, right)
+
+    def step(self, client, clock):
+        return self.make("step", client, clock)
+
+    def release(self, client):
+        return self.make("release", client)
+
+    def cancel(self, client):
+        return self.make("cancel", client)
+
+    def record(self, client):
+        return self.lock.records[client]
+
+
 class Client:
     """A client with one window to take. With a way to pause it cancels after MOST_STEPS."""
 
     def __init__(self, table, number, window, pause):
         self.table, self.number, self.window, self.pause, self.rng = table, number, window, pause, Random(number)
-        self.phase, self.steps, self.limit, self.wake, self.held, self.gave_up = Phase.IDLE, 0, FIRST_LIMIT, 0, None, False
+        self.phase, self.steps, self.limit, self.wake, self.held = Phase.IDLE, 0, FIRST_LIMIT, 0, None
 
     def done(self):
         return self.phase == Phase.IDLE and self.held is not None
+
+    def gave_up(self):
+        return self.phase == Phase.IDLE and self.table.record(self.number).outcome in GAVE_UP
 
     def tick(self, clock):
         """One call, if there is one to make; whether the client came to its window, or to its end."""
         if self.done() or clock < self.wake:
             return False
         before, self.phase = self.phase, self.call(clock)
-        if self.phase == Phase.IDLE and self.gave_up:
-            self.wake, self.limit, self.gave_up = clock + self.pause(self.rng, self.limit), min(2 * self.limit, LAST_LIMIT), False
+        if self.pause and self.gave_up():
+            self.wake, self.limit = clock + self.pause(self.rng, self.limit), min(2 * self.limit, LAST_LIMIT)
         if self.phase == Phase.HELD and before != Phase.HELD:
             self.held = clock
             return True
@@ -57,7 +98,6 @@ class Client:
         if self.phase == Phase.HELD:
             return self.table.release(self.number) if clock - self.held >= HOLD else self.phase
         if self.pause and self.steps >= MOST_STEPS and self.phase != Phase.RETURNING:
-            self.gave_up = True
             return self.table.cancel(self.number)
         self.steps += 1
         return self.table.step(self.number, clock)
@@ -71,9 +111,9 @@ def windows(seed):
         yield left, left + size
 
 
-def run(seed, pause):
+def run(seed, pause, patience, table_of):
     """How many clients never had their window, and the clock at which the last had given its window back."""
-    table = Table(Settings(LEVELS, 1, WAIT), CLIENTS)
+    table = table_of(nolthewyr.Settings(LEVELS, 1, WAIT, patience), CLIENTS)
     clients = [Client(table, number, window, pause) for number, window in enumerate(windows(seed))]
     clock, last = 0, 0
     while not all(client.done() for client in clients) and clock - last < LONG:
@@ -83,11 +123,20 @@ def run(seed, pause):
     return sum(not client.done() for client in clients), last
 
 
+def arguments():
+    parser = argparse.ArgumentParser(description="How many clients wait for each other for ever, and what back-off makes of it.")
+    parser.add_argument("patience", nargs="?", type=int, default=LONGEST, help="in ticks, 1 to 4294967295; the longest if it is not said")
+    parser.add_argument("--model", action="store_true", help="make the calls by the model instead of the library")
+    return parser.parse_args()
+
+
 def main():
-    print(f"| {CLIENTS} clients, {RUNS} runs | runs in which all had their windows | clients without, least to most | ticks until all were idle, least to most |")
+    asked = arguments()
+    table_of = ModelTable if asked.model else nolthewyr.Table
+    print(f"| {CLIENTS} clients, {RUNS} runs, patience {asked.patience:,} | runs in which all had their windows | clients without, least to most | ticks until all were idle, least to most |")
     print("|---|---|---|---|")
     for name, pause in WAYS.items():
-        ran = [run(seed, pause) for seed in range(RUNS)]
+        ran = [run(seed, pause, asked.patience, table_of) for seed in range(RUNS)]
         left = [count for count, _ in ran]
         ticks = [last for count, last in ran if count == 0]
         took = f"{min(ticks):,} to {max(ticks):,}" if ticks else "-"

@@ -8,11 +8,13 @@
 #include <stdio.h>
 #include <stdlib.h>
 
-/* The wait is longer than a claim takes: from its first climb to its last notice at most 23 steps. No window takes MOST_STEPS if nobody is
- * in its way. */
-enum { CLIENTS = 2, WAIT = 30, MOST_STEPS = 300, FIRST_LIMIT = 200, LAST_LIMIT = 1600, WORK = 800 };
+/* The wait is longer than a claim takes: from its first climb to its last notice at most 23 steps. The patience is longer than a second
+ * piece takes if nobody is in its way: at most 47 steps after the first. A client that has its first piece keeps others waiting, perhaps
+ * those for whom it waits, so that it is to give up sooner than one that has nothing. No window takes MOST_STEPS if nobody is in its
+ * way. */
+enum { CLIENTS = 2, WAIT = 30, PATIENCE = 100, MOST_STEPS = 300, FIRST_LIMIT = 200, LAST_LIMIT = 1600, WORK = 800 };
 
-static nolthewyr_settings settings = {.levels = 3, .distance = 2, .wait = WAIT};
+static nolthewyr_settings settings = {.levels = 3, .distance = 2, .wait = WAIT, .patience = PATIENCE};
 static nolthewyr_record records[CLIENTS];
 static uint64_t *words;
 static size_t count;
@@ -46,7 +48,8 @@ static void step_until_idle(uint64_t client)
     printf("client %" PRIu64 " is idle at %" PRIu64 ": %s\n", client, now, nolthewyr_outcome_text(records[client].outcome));
 }
 
-/* Whether the client holds the window after a limited number of steps. If not it is idle again: it was late, or it gave up. */
+/* Whether the client holds the window after a limited number of steps. If not it is idle again: it was late, its patience ran out, or it
+ * gave up. It has then given everything back, and whoever waited for that comes on; so it may well have the window next time. */
 static bool attempt(uint64_t client, uint64_t left, uint64_t right)
 {
     uint64_t phase = make(nolthewyr_request, client, left, right);

@@ -7,6 +7,9 @@ from nolthewyr import Phase, Refused, Settings, Table, outcome_text, phase_text
 
 # Longer than a claim takes: from its first climb to its last notice at most 23 steps.
 WAIT = 30
+# Longer than a second piece takes if nobody is in its way: at most 47 steps after the first. A client that has its first piece keeps others
+# waiting, perhaps those for whom it waits, so that it is to give up sooner than one that has nothing.
+PATIENCE = 100
 # No window takes so many if nobody is in its way.
 MOST_STEPS = 300
 FIRST_LIMIT = 200
@@ -31,7 +34,8 @@ class Clients:
         print(f"client {client} is idle at {self.now}: {outcome_text(self.table.record(client).outcome)}")
 
     def attempt(self, client, left, right):
-        """Whether the client holds the window after a limited number of steps. If not it is idle again: it was late, or it gave up."""
+        """Whether the client holds the window after a limited number of steps. If not it is idle again: it was late, its patience ran out,
+        or it gave up. It has then given everything back, and whoever waited for that comes on; so it may well have the window next time."""
         phase, steps = self.table.request(client, left, right), 0
         while steps < MOST_STEPS and phase not in (Phase.HELD, Phase.IDLE):
             phase, steps = self.step(client), steps + 1
@@ -88,7 +92,7 @@ def run(table):
 def main():
     levels = int(sys.argv[1]) if len(sys.argv) > 1 else 3
     try:
-        run(Table(Settings(levels, distance=2, wait=WAIT), clients=2))
+        run(Table(Settings(levels, distance=2, wait=WAIT, patience=PATIENCE), clients=2))
     except Refused as refused:
         sys.exit(str(refused))
 

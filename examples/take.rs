@@ -6,6 +6,9 @@ use std::process::exit;
 
 /// Longer than a claim takes: from its first climb to its last notice at most 23 steps.
 const WAIT: u64 = 30;
+/// Longer than a second piece takes if nobody is in its way: at most 47 steps after the first. A client that has its first piece keeps
+/// others waiting, perhaps those for whom it waits, so that it is to give up sooner than one that has nothing.
+const PATIENCE: u64 = 100;
 /// No window takes so many if nobody is in its way.
 const MOST_STEPS: usize = 300;
 const FIRST_LIMIT: u64 = 200;
@@ -38,7 +41,8 @@ impl Clients {
         Ok(())
     }
 
-    /// Whether the client holds the window after a limited number of steps. If not it is idle again: it was late, or it gave up.
+    /// Whether the client holds the window after a limited number of steps. If not it is idle again: it was late, its patience ran out, or
+    /// it gave up. It has then given everything back, and whoever waited for that comes on; so it may well have the window next time.
     fn attempt(&mut self, client: usize, left: u64, right: u64) -> Result<bool, Cause> {
         let mut phase = self.table.request(client, left, right)?;
         for _ in 0..MOST_STEPS {
@@ -103,7 +107,7 @@ impl Clients {
 }
 
 fn run(levels: u64) -> Result<(), Cause> {
-    let table = Table::open(Settings { levels, distance: 2, wait: WAIT }, 2)?;
+    let table = Table::open(Settings { levels, distance: 2, wait: WAIT, patience: PATIENCE }, 2)?;
     let mut clients = Clients { table, now: 0, state: 88172645463325252 };
     clients.take(0, 10, 20)?;
     clients.take(1, 15, 30)?;

@@ -20,7 +20,7 @@ extern "C" {
 
 /* The version of this header. Records grow between versions: a program goes with a library whose first two numbers are the same, and
  * whose third, which grows with new functions, is not lower if the program calls one of these. */
-#define NOLTHEWYR_VERSION "0.1.1"
+#define NOLTHEWYR_VERSION "0.2.0"
 
 /* Where a client is. It holds its window exactly while its phase is 9. */
 enum nolthewyr_phase {
@@ -37,12 +37,15 @@ enum nolthewyr_phase {
     NOLTHEWYR_PHASE_RETURNING = 10
 };
 
-/* How a client's last window ended, from phase 10 on until its next request. */
+/* How a client's last window ended, from phase 10 on until its next request. After 2 and 4 nothing is wrong with the window: once idle, the
+ * client asks for it again. It is late if its claim took the wait or longer, and out of patience if it had its first piece, and not the
+ * later one within the patience: it gives the first back, since those for whom it waits may wait for that. */
 enum nolthewyr_outcome {
     NOLTHEWYR_OUTCOME_NONE = 0,
     NOLTHEWYR_OUTCOME_RELEASED = 1,
     NOLTHEWYR_OUTCOME_LATE = 2,
-    NOLTHEWYR_OUTCOME_CANCELLED = 3
+    NOLTHEWYR_OUTCOME_CANCELLED = 3,
+    NOLTHEWYR_OUTCOME_OUT_OF_PATIENCE = 4
 };
 
 /* The number that a call answers: accepted, or why it is refused. nolthewyr_cause_text says each in words. */
@@ -59,14 +62,16 @@ enum nolthewyr_cause {
     NOLTHEWYR_CAUSE_CLEAR_BIT = 9
 };
 
-/* The levels H of the tree (2..12), the distance m of notices (1..4) and the wait T (1..2^32 - 1). */
+/* The levels H of the tree (2..12), the distance m of notices (1..4), the wait T and the patience P (both 1..2^32 - 1). */
 typedef struct nolthewyr_settings {
     uint64_t levels;
     uint64_t distance;
     uint64_t wait;
+    uint64_t patience;
 } nolthewyr_settings;
 
-/* A client record. A caller reads the phase, the outcome and the window [left, right), and writes nothing. */
+/* A client record. A caller reads the phase, the outcome and the window [left, right), and writes nothing. `taken` is the clock at which
+ * the first piece was taken. */
 typedef struct nolthewyr_record {
     uint64_t phase;
     uint64_t outcome;
@@ -82,6 +87,7 @@ typedef struct nolthewyr_record {
     uint64_t notices;
     uint64_t t1;
     uint64_t t0;
+    uint64_t taken;
 } nolthewyr_record;
 
 /* A request has its edges in a and b, a step its clock in a. `last` is the clock that the call before answered, 0 after an opening.
@@ -136,7 +142,8 @@ uint64_t nolthewyr_open(nolthewyr_record *records, size_t clients, uint64_t *wor
 nolthewyr_answer nolthewyr_request(nolthewyr_record *records, size_t clients, uint64_t *words, size_t count,
                                    nolthewyr_settings settings, nolthewyr_call call);
 
-/* Does the one thing that the client's phase says, at clock a, touches at most one word, and answers a as the clock. */
+/* Does the one thing that the client's phase says, at clock a, touches at most one word, and answers a as the clock. In place of that, a
+ * client in phases 1 to 8 of a later piece whose first was taken the patience or longer ago goes to phase 10, with outcome 4. */
 nolthewyr_answer nolthewyr_step(nolthewyr_record *records, size_t clients, uint64_t *words, size_t count,
                                 nolthewyr_settings settings, nolthewyr_call call);
 

@@ -1,109 +1,12 @@
 //! Locks on windows of one long table of units, for Rust 1.82 and later. `Table` is the way to use them: it owns all that the calls
-//! need. The functions over slices are the same calls on memory that the caller keeps, and below them are the functions as they are
-//! linked. include/nolthewyr.h says what each struct and function is.
+//! need. The functions over slices are the same calls on memory that the caller keeps. The structs, and the functions as they are linked,
+//! are in nolthewyr_linked.rs, which stands beside this file; a program finds them here too.
 #![allow(dead_code)]
 
-use std::ffi::{c_char, CStr};
-use std::fmt;
+#[path = "nolthewyr_linked.rs"]
+mod linked;
 
-/// A number that has a name for each of its values. It is written by the library's text, which an unknown number has too.
-macro_rules! named_number {
-    ($name:ident by $text:ident: $($constant:ident = $number:literal),+) => {
-        #[repr(transparent)]
-        #[derive(Clone, Copy, Debug, Default, Eq, Hash, Ord, PartialEq, PartialOrd)]
-        pub struct $name(pub u64);
-
-        impl $name {
-            $(pub const $constant: $name = $name($number);)+
-        }
-
-        impl fmt::Display for $name {
-            fn fmt(&self, f: &mut fmt::Formatter) -> fmt::Result {
-                f.pad(library_text($text(self.0)))
-            }
-        }
-    };
-}
-
-named_number!(Phase by nolthewyr_phase_text: IDLE = 0, TICKET = 1, TURN = 2, CLIMB = 3, BLOCKED = 4, CLAIM = 5, NOTIFY = 6, WAIT = 7,
-    CHECK = 8, HELD = 9, RETURNING = 10);
-named_number!(Outcome by nolthewyr_outcome_text: NONE = 0, RELEASED = 1, LATE = 2, CANCELLED = 3);
-named_number!(Cause by nolthewyr_cause_text: ACCEPTED = 0, SETTINGS = 1, WORD_COUNT = 2, CLIENT_COUNT = 3, CLIENT = 4, CLOCK = 5,
-    UNREADABLE = 6, WINDOW = 7, PHASE = 8, CLEAR_BIT = 9);
-
-impl std::error::Error for Cause {}
-
-#[repr(C)]
-#[derive(Clone, Copy, Debug, PartialEq)]
-pub struct Settings {
-    pub levels: u64,
-    pub distance: u64,
-    pub wait: u64,
-}
-
-#[repr(C)]
-#[derive(Clone, Copy, Debug, Default, PartialEq)]
-pub struct Record {
-    pub phase: Phase,
-    pub outcome: Outcome,
-    pub left: u64,
-    pub right: u64,
-    pub first: u64,
-    pub second: u64,
-    pub current: u64,
-    pub giving: u64,
-    pub grip: u64,
-    pub ticket: u64,
-    pub place: u64,
-    pub notices: u64,
-    pub t1: u64,
-    pub t0: u64,
-}
-
-#[repr(C)]
-#[derive(Clone, Copy, Debug, Default, PartialEq)]
-pub struct Call {
-    pub kind: u64,
-    pub client: u64,
-    pub a: u64,
-    pub b: u64,
-    pub last: u64,
-}
-
-#[repr(C)]
-#[derive(Clone, Copy, Debug, PartialEq)]
-pub struct Answer {
-    pub number: u64,
-    pub clock: u64,
-}
-
-#[repr(C)]
-#[derive(Clone, Copy, Debug, Default, PartialEq)]
-pub struct CoverAnswer {
-    pub number: u64,
-    pub first: u64,
-    pub second: u64,
-    pub over: u64,
-}
-
-#[repr(C)]
-#[derive(Clone, Copy, Debug, Default, PartialEq)]
-pub struct Row {
-    pub phase: Phase,
-    pub left: u64,
-    pub right: u64,
-    pub first: u64,
-    pub second: u64,
-    pub over: u64,
-}
-
-#[repr(C)]
-#[derive(Clone, Copy, Debug, Default, PartialEq)]
-pub struct RunPageAnswer {
-    pub number: u64,
-    pub own: Record,
-    pub held: u64,
-}
+pub use linked::*;
 
 /// More clients than a table has.
 const TOO_MANY_CLIENTS: usize = 32_768;
@@ -194,16 +97,11 @@ pub fn cover(levels: u64, left: u64, right: u64) -> Result<CoverAnswer, Cause> {
 }
 
 /// How many words a tree of so many levels has; 0 for levels that no tree has.
-pub use self::nolthewyr_word_count as word_count;
+pub use linked::nolthewyr_word_count as word_count;
 
 /// The version of the library.
 pub fn version() -> &'static str {
     library_text(nolthewyr_version())
-}
-
-/// A text that the library owns: plain letters, ended by 0, and there as long as the program runs.
-fn library_text(text: *const c_char) -> &'static str {
-    unsafe { CStr::from_ptr(text) }.to_str().unwrap_or_default()
 }
 
 // The slices of these functions give what the proof assumes: lengths that are true, records that overlap neither words nor rows, and
@@ -228,22 +126,4 @@ pub fn planners_page(records: &[Record], rows: &mut [Row], settings: Settings, l
 
 pub fn run_page(records: &[Record], settings: Settings, client: u64, last: u64) -> RunPageAnswer {
     unsafe { nolthewyr_run_page(records.as_ptr(), records.len(), settings, client, last) }
-}
-
-// Those that take no lent memory may be called with any numbers.
-#[rustfmt::skip]
-unsafe extern "C" {
-    pub fn nolthewyr_open(records: *mut Record, clients: usize, words: *mut u64, count: usize, settings: Settings) -> u64;
-    pub fn nolthewyr_request(records: *mut Record, clients: usize, words: *mut u64, count: usize, settings: Settings, call: Call) -> Answer;
-    pub fn nolthewyr_step(records: *mut Record, clients: usize, words: *mut u64, count: usize, settings: Settings, call: Call) -> Answer;
-    pub fn nolthewyr_release(records: *mut Record, clients: usize, words: *mut u64, count: usize, settings: Settings, call: Call) -> Answer;
-    pub fn nolthewyr_cancel(records: *mut Record, clients: usize, words: *mut u64, count: usize, settings: Settings, call: Call) -> Answer;
-    pub fn nolthewyr_planners_page(records: *const Record, clients: usize, rows: *mut Row, count: usize, settings: Settings, last: u64) -> u64;
-    pub fn nolthewyr_run_page(records: *const Record, clients: usize, settings: Settings, client: u64, last: u64) -> RunPageAnswer;
-    pub safe fn nolthewyr_cover(levels: u64, left: u64, right: u64) -> CoverAnswer;
-    pub safe fn nolthewyr_word_count(levels: u64) -> u64;
-    pub safe fn nolthewyr_phase_text(number: u64) -> *const c_char;
-    pub safe fn nolthewyr_outcome_text(number: u64) -> *const c_char;
-    pub safe fn nolthewyr_cause_text(number: u64) -> *const c_char;
-    pub safe fn nolthewyr_version() -> *const c_char;
 }

@@ -23,12 +23,13 @@ static const char *const outcomes[] = {
     [NOLTHEWYR_OUTCOME_RELEASED] = "released",
     [NOLTHEWYR_OUTCOME_LATE] = "late",
     [NOLTHEWYR_OUTCOME_CANCELLED] = "cancelled",
+    [NOLTHEWYR_OUTCOME_OUT_OF_PATIENCE] = "out of patience",
 };
 
 /* 10 and 11 have no name: only rangelog and rangepages give them. */
 static const char *const causes[] = {
     [NOLTHEWYR_CAUSE_ACCEPTED] = "accepted",
-    [NOLTHEWYR_CAUSE_SETTINGS] = "levels not 2 to 12, distance not 1 to 4, or wait not 1 to 4294967295",
+    [NOLTHEWYR_CAUSE_SETTINGS] = "levels not 2 to 12, distance not 1 to 4, or wait or patience not 1 to 4294967295",
     [NOLTHEWYR_CAUSE_WORD_COUNT] = "word count not the tree's, (4^levels - 1) / 3; or not one row for each client",
     [NOLTHEWYR_CAUSE_CLIENT_COUNT] = "no clients, or over 32767",
     [NOLTHEWYR_CAUSE_CLIENT] = "client not below the table's count",

@@ -10,7 +10,7 @@ from model.record import IDLE, Record
 from model.step import begun, returning
 from model.step import step as row_of_the_phase
 
-WAITS = range(1, 2 ** 32)
+WAITS = PATIENCES = range(1, 2 ** 32)
 TAKEN_BY_CANCEL = range(1, 9)
 
 
@@ -23,12 +23,13 @@ class Answer(NamedTuple):
 
 
 def settings_outside(settings):
-    """H, m or T outside its range."""
-    return settings.levels not in tree.LEVELS or settings.distance not in tree.DISTANCES or settings.wait not in WAITS
+    """H, m, T or P outside its range."""
+    ranges = tree.LEVELS, tree.DISTANCES, WAITS, PATIENCES
+    return any(value not in values for value, values in zip(settings, ranges, strict=True))
 
 
 def settings_or_words_refused(settings, words):
-    """1: H, m or T outside its range. 2: word count not the tree's. Otherwise 0."""
+    """1: H, m, T or P outside its range. 2: word count not the tree's. Otherwise 0."""
     if settings_outside(settings):
         return 1
     return 0 if len(words) == tree.node_count(settings.levels) else 2

@@ -37,8 +37,8 @@ class Opened:
             raise ValueError(f"the opening is refused by {number}")
 
     def answer(self, call):
-        """Every call is made with that opening's H, m and T, on the words, records and last clock that the call before
-        left."""
+        """Every call is made with that opening's H, m, T and P, on the words, records and last clock that the call
+        before left."""
         lent = self.settings, self.words, self.records, call.client
         if call.kind == "request":
             return table.request(*lent, call.a, call.b, self.clock)

@@ -1,5 +1,5 @@
-"""The paragraph "Unreadable": a function for each clause, in its order. Each speaks of a record that no clause before
-it finds unreadable."""
+"""The paragraph "Unreadable" and what request 2.2 of document 02 adds to it: a function for each clause, in its order. Each speaks of a
+record that no clause before it finds unreadable."""
 
 from model import record as records
 from model import tree
@@ -10,9 +10,9 @@ def phase_over_10(settings, record, last):
     return record.phase > 10
 
 
-def outcome_over_3(settings, record, last):
-    """Or outcome over 3."""
-    return record.outcome > 3
+def outcome_over_4(settings, record, last):
+    """Or outcome over 4."""
+    return record.outcome > 4
 
 
 def idle_with_a_nonzero_field(settings, record, last):
@@ -63,7 +63,7 @@ def notices_unlike_the_place(settings, record, last):
 
 def noted_time_after_the_last_clock(settings, record, last):
     """A noted time after the last clock."""
-    return record.t1 > last or record.t0 > last
+    return record.t1 > last or record.t0 > last or record.taken > last
 
 
 def phase_not_of_a_leaf(settings, record, last):
@@ -120,7 +120,18 @@ def giving_with_grip_0(settings, record, last):
     return record.phase == 10 and records.grip_of(record, record.giving) == 0
 
 
-FOR_EVERY_RECORD = (phase_over_10, outcome_over_3, idle_with_a_nonzero_field)
+def outcome_4_at_a_first_piece(settings, record, last):
+    """4 in phase 10 at a first piece."""
+    return record.phase == 10 and record.outcome == 4 and record.current == 0
+
+
+def taken_at_a_first_piece(settings, record, last):
+    """A nonzero time at a first piece, save in 9 or in 10 with outcome 1."""
+    held_or_released = record.phase == 9 or (record.phase == 10 and record.outcome == 1)
+    return record.taken != 0 and record.current == 0 and not held_or_released
+
+
+FOR_EVERY_RECORD = (phase_over_10, outcome_over_4, idle_with_a_nonzero_field)
 
 UNLESS_IDLE = (
     window_outside_the_tree,
@@ -140,6 +151,8 @@ UNLESS_IDLE = (
     giving_past_the_current_piece,
     giving_outside_10,
     giving_with_grip_0,
+    outcome_4_at_a_first_piece,
+    taken_at_a_first_piece,
 )
 
 
@@ -150,5 +163,5 @@ def cause(settings, record, last):
 
 
 def unreadable(settings, record, last):
-    """Whether any clause finds the record unreadable; H, m and T are within their ranges."""
+    """Whether any clause finds the record unreadable; H, m, T and P are within their ranges."""
     return cause(settings, record, last) is not None

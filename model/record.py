@@ -9,17 +9,19 @@ CACHED = 2 ** 16
 
 
 class Settings(NamedTuple):
-    """H, m and wait T (1..2^32 - 1)."""
+    """H, m, wait T and patience P (1..2^32 - 1 both)."""
 
     levels: int
     distance: int
     wait: int
+    patience: int
 
 
 class Record(NamedTuple):
     """Phase, outcome, window, the numbers of its two pieces (0 for none), the current piece (0 or 1, the last begun),
     the piece being given back, the current piece's grip (0 nothing, 1 ticket, 2 turn, 3 leaf bits or Occ), ticket, its
-    place from 0 in the list it walks, how many notices the current piece gave, and noted times t1 and t0."""
+    place from 0 in the list it walks, how many notices the current piece gave, noted times t1 and t0, and a third noted
+    time, the clock at which its first piece was taken."""
 
     phase: int = 0
     outcome: int = 0
@@ -35,6 +37,7 @@ class Record(NamedTuple):
     notices: int = 0
     t1: int = 0
     t0: int = 0
+    taken: int = 0
 
 
 IDLE = Record()

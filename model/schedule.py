@@ -16,14 +16,14 @@ LONGEST = 65536
 MOST_LEVELS = 6
 MOST_CLIENTS = 64
 
-# Little-endian: u16 H, u16 m, u32 T, u16 clients, u16 count of calls, u32 offset of the first.
-HEADER = Struct("<HHIHHI")
+# Little-endian: u16 H, u16 m, u32 T, u16 clients, u16 count of calls, u32 offset of the first, u32 P.
+HEADER = Struct("<HHIHHII")
 # u8 kind, u8 0, u16 client, u32 0, u64 a, u64 b.
 CALL = Struct("<BBHIQQ")
 
 
 class Header(NamedTuple):
-    """Header of 16 bytes."""
+    """Header of 16 bytes, which gains u32 P at byte 16."""
 
     levels: int
     distance: int
@@ -31,6 +31,7 @@ class Header(NamedTuple):
     clients: int
     count: int
     offset: int
+    patience: int
 
 
 class Entry(NamedTuple):
@@ -67,8 +68,8 @@ def too_long_or_short(data):
     return len(data) > LONGEST or len(data) < HEADER.size
 
 
-def offset_below_16(header):
-    """An offset below 16."""
+def offset_below_20(header):
+    """Its least offset is 20."""
     return header.offset < HEADER.size
 
 
@@ -89,12 +90,12 @@ def zero_fields(entry):
 
 
 def refused_by_10(data):
-    """A file too long or short, an offset below 16, an offset plus 24 * calls over the file's length, an unknown kind or
+    """A file too long or short, an offset below 20, an offset plus 24 * calls over the file's length, an unknown kind or
     a filled zero field."""
     if too_long_or_short(data):
         return True
     header = header_of(data)
-    if offset_below_16(header) or calls_past_the_end(data, header):
+    if offset_below_20(header) or calls_past_the_end(data, header):
         return True
     return any(unknown_kind(entry) or any(zero_fields(entry)) for entry in entries_of(data, header))
 
@@ -111,7 +112,7 @@ def decode(data):
     header = header_of(data)
     if refused_by_11(header):
         return 11
-    settings = Settings(header.levels, header.distance, header.wait)
+    settings = Settings(header.levels, header.distance, header.wait, header.patience)
     calls = (Call(KINDS[entry.kind], entry.client, entry.a, entry.b) for entry in entries_of(data, header))
     return Schedule(settings, header.clients, tuple(calls))
 
@@ -119,9 +120,9 @@ def decode(data):
 def encode(schedule, between=b"", after=b""):
     """The file of a schedule, with these bytes between header and first call, and after the last."""
     offset = HEADER.size + len(between)
-    header = HEADER.pack(*schedule.settings, schedule.clients, len(schedule.calls), offset)
+    header = Header(**schedule.settings._asdict(), clients=schedule.clients, count=len(schedule.calls), offset=offset)
     entries = (CALL.pack(KINDS.index(call.kind), 0, call.client, 0, call.a, call.b) for call in schedule.calls)
-    return b"".join([header, between, *entries, after])
+    return b"".join([HEADER.pack(*header), between, *entries, after])
 
 
 def refused(number):
@@ -131,8 +132,8 @@ def refused(number):
 
 def header_line(schedule):
     """The header line gives H, m, T and the clients, no other setting."""
-    h, m, wait = schedule.settings
-    return f"tree {h} m {m} wait {wait} clients {schedule.clients}\n"
+    settings = schedule.settings
+    return f"tree {settings.levels} m {settings.distance} wait {settings.wait} clients {schedule.clients}\n"
 
 
 def record_after(made, records):

@@ -6,6 +6,8 @@ from model import record as records
 from model import tree, word
 from model.record import IDLE
 
+WITH_PATIENCE = range(1, 9)
+
 
 class Step(NamedTuple):
     """The number (0 accepted), the record after, and the node whose word is written (0 for none) with that word."""
@@ -46,8 +48,14 @@ def begun(settings, record, i):
     return to(record, phase, current=i, grip=0, ticket=0, notices=0, t1=0, t0=0)
 
 
-def taken(settings, record):
+def noted_if_first(record, clock):
+    """The third noted time is the clock at which its first piece was taken."""
+    return record._replace(taken=clock) if record.current == 0 else record
+
+
+def taken(settings, record, clock):
     """A taken piece starts the next the same way, or gives 9."""
+    record = noted_if_first(record, clock)
     return to(record, 9) if records.is_last(record) else begun(settings, record, record.current + 1)
 
 
@@ -64,6 +72,11 @@ def late(settings, record, clock):
 def waited(settings, record, clock):
     """clock - t0 >= T."""
     return clock - record.t0 >= settings.wait
+
+
+def patience_run_out(settings, record, clock):
+    """A step in phases 1 to 8 of a second piece, with clock less that time at least P. Every later piece is meant, not the second alone."""
+    return record.phase in WITH_PATIENCE and record.current > 0 and clock - record.taken >= settings.patience
 
 
 def nothing(settings, record, words, clock):
@@ -142,7 +155,7 @@ def after_the_last_notice(settings, record, clock):
     """After the last: clock - t1 >= T gives outcome 2 and 10; else inner to 7, a leaf is taken."""
     if late(settings, record, clock):
         return returning(record, 2)
-    return taken(settings, record) if records.at_leaf(settings, record) else to(record, 7)
+    return taken(settings, record, clock) if records.at_leaf(settings, record) else to(record, 7)
 
 
 def wait(settings, record, words, clock):
@@ -157,7 +170,7 @@ def check(settings, record, words, clock):
     if inner.dcnt != inner.dmax:
         return read(record)
     if record.place + 1 == len(nodes):
-        return read(taken(settings, record))
+        return read(taken(settings, record, clock))
     return read(record._replace(place=record.place + 1))
 
 
@@ -218,5 +231,8 @@ ROWS = {
 
 
 def step(settings, record, words, clock):
-    """One step of a readable record at a clock that is not below the last."""
+    """One step of a readable record at a clock that is not below the last. Patience that has run out touches no word, sets outcome 4 and
+    goes to returning instead of the phase's own work."""
+    if patience_run_out(settings, record, clock):
+        return read(returning(record, 4))
     return ROWS[record.phase](settings, record, words, clock)

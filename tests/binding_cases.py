@@ -14,8 +14,9 @@ from model import cover, pages, tree
 from model.history import Opened
 from model.record import IDLE, Settings
 
-NAMES["opening of a table"] = ("language", "levels", "distance", "wait", "clients"), ("number",)
+NAMES["opening of a table"] = ("language", "levels", "distance", "wait", "patience", "clients"), ("number",)
 NAMES["call on a table"] = ("language", "history", "call"), ("number", "clock, or of a page the run's number", "fields unlike")
+NAMES["outcome of the histories"] = ("outcome",), ("occurs",)
 NAMES["asked of the levels"] = ("language", "levels", "left", "right"), ("number", "first", "second", "over-cover")
 NAMES["word count"] = ("language", "levels"), ("words",)
 NAMES["text in Rust"] = ("enumeration", "number"), ("that of the library",)
@@ -25,12 +26,14 @@ EDITIONS = "2021", "2024"
 # After this share of the calls the pages are looked at.
 SHARE_WITH_PAGES = 0.1
 
-# Levels, distance, wait and clients, and the number: the first cause in the order of testing.
+# Levels, distance, wait, patience and clients, and the number: the first cause in the order of testing.
 OPENINGS = {
-    (2, 1, 5, 1): 0, (3, 4, 2 ** 32 - 1, 2): 0, (12, 1, 1, 3): 0, (2, 1, 5, 32767): 0,
-    (0, 1, 5, 1): 1, (1, 1, 5, 1): 1, (13, 1, 5, 1): 1, (TOP, 1, 5, 1): 1, (2 ** 32 + 2, 1, 5, 1): 1,
-    (2, 0, 5, 1): 1, (2, 5, 5, 1): 1, (2, 1, 0, 1): 1, (2, 1, 2 ** 32, 1): 1, (12, TOP, TOP, TOP): 1, (TOP, TOP, TOP, 0): 1,
-    (2, 1, 5, 0): 3, (2, 1, 5, 32768): 3, (12, 4, 9, 2 ** 32 + 1): 3, (2, 1, 5, 2 ** 63): 3, (2, 1, 5, TOP): 3,
+    (2, 1, 5, 9, 1): 0, (3, 4, 2 ** 32 - 1, 1, 2): 0, (12, 1, 1, 2 ** 32 - 1, 3): 0, (2, 1, 5, 9, 32767): 0,
+    (0, 1, 5, 9, 1): 1, (1, 1, 5, 9, 1): 1, (13, 1, 5, 9, 1): 1, (TOP, 1, 5, 9, 1): 1, (2 ** 32 + 2, 1, 5, 9, 1): 1,
+    (2, 0, 5, 9, 1): 1, (2, 5, 5, 9, 1): 1, (2, 1, 0, 9, 1): 1, (2, 1, 2 ** 32, 9, 1): 1,
+    (2, 1, 5, 0, 1): 1, (2, 1, 5, 2 ** 32, 1): 1, (2, 1, 5, TOP, 1): 1, (2, 1, 5, 0, 0): 1,
+    (12, TOP, TOP, TOP, TOP): 1, (TOP, TOP, TOP, TOP, 0): 1,
+    (2, 1, 5, 9, 0): 3, (2, 1, 5, 9, 32768): 3, (12, 4, 9, 1, 2 ** 32 + 1): 3, (2, 1, 5, 9, 2 ** 63): 3, (2, 1, 5, 9, TOP): 3,
 }
 WINDOWS = (60, 70), (0, 129), (10, 300), (100, 700), (0, 1024), (0, 1025), (5, 5), (5, 4), (TOP, 0), (0, TOP), (10, 20)
 
@@ -68,8 +71,8 @@ def refused(call, *arguments, **named):
     return 0
 
 
-def python_opening(levels, distance, wait, clients):
-    return refused(nolthewyr.Table, nolthewyr.Settings(levels, distance, wait), clients)
+def python_opening(*settings, clients):
+    return refused(nolthewyr.Table, nolthewyr.Settings(*settings), clients)
 
 
 def openings():
@@ -77,7 +80,8 @@ def openings():
     library()
     by_rust = numbers_of_rust([("open", *asked) for asked in OPENINGS])
     for (asked, expected), (by_rust,) in zip(OPENINGS.items(), by_rust, strict=True):
-        yield case("opening of a table", [0, *asked], expected), python_opening(*asked)
+        *settings, clients = asked
+        yield case("opening of a table", [0, *asked], expected), python_opening(*settings, clients=clients)
         yield case("opening of a table", [1, *asked], expected), by_rust
 
 
@@ -96,17 +100,19 @@ class History:
 
     def __init__(self, seed):
         rng = Random(f"binding {seed}")
-        self.settings = Settings(rng.choice([2, 3, 4, 6]), rng.choice(tree.DISTANCES), rng.choice([1, 2, 5, 9]))
+        waits, patiences = (1, 2, 5, 9), (1, 5, 20, 2 ** 32 - 1)
+        self.settings = Settings(rng.choice([2, 3, 4, 6]), rng.choice(tree.DISTANCES), rng.choice(waits), rng.choice(patiences))
         self.clients = rng.choice([1, 2, 3, 6])
         lock = Opened(self.settings, [0] * tree.node_count(self.settings.levels), [IDLE] * self.clients)
         driver = Driver(lock, seed)
-        self.calls, self.answers = [], []
+        self.calls, self.answers, self.outcomes = [], [], set()
         for _ in range(1000):
             call = driver.next_call()
             numbers = call[1:4] if call.kind == "request" else call[1:3] if call.kind == "step" else call[1:2]
             self.calls.append((call.kind, *numbers))
             number = lock.make(call).number
             record = lock.records[call.client] if call.client < self.clients else ()
+            self.outcomes.update(record[1:2])
             self.answers.append((number, lock.clock, *record))
             if rng.random() < SHARE_WITH_PAGES:
                 self.calls.append(("pages", call.client))
@@ -142,13 +148,18 @@ def compared(place, seed, history, answers):
 
 
 def calls_of_histories():
-    """Ten random histories in Python and in both editions of Rust: each call and each page gives what the model gives."""
+    """Ten random histories in Python and in both editions of Rust: each call and each page gives what the model gives. Every outcome
+    occurs in them."""
     library()
+    outcomes = set()
     for seed in range(10):
         history = History(seed)
+        outcomes |= history.outcomes
         yield from compared(0, seed, history, list(python_answers(history)))
         for place, edition in enumerate(EDITIONS, 1):
             yield from compared(place, seed, history, rust_answers(history, edition))
+    for outcome in nolthewyr.Outcome:
+        yield case("outcome of the histories", [outcome], 1), int(outcome in outcomes)
 
 
 def python_cover(*asked):

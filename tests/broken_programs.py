@@ -1,19 +1,20 @@
-"""Programs broken on purpose: the model with one sentence of "The schedule program" or of request 2.1 read wrongly, or one rule of the
-lock broken. The files must find each of them out."""
+"""Programs broken on purpose: the model with one sentence of "The schedule program" or of request 2.1 or 2.2 read wrongly, or one rule of
+the lock broken. The files must find each of them out."""
 
 from contextlib import contextmanager
 from struct import Struct
 from unittest.mock import patch
 
 import broken_pages
+import broken_patience
 import broken_rules
 from model import schedule
 from model.history import KINDS, Call
 from model.record import IDLE, Settings
 from model.schedule import CALL, HEADER, Schedule, header_of
 
-entries_of, line, printed, record_after, zero_fields = (
-    schedule.entries_of, schedule.line, schedule.printed, schedule.record_after, schedule.zero_fields)
+entries_of, header_line, line, printed, record_after, zero_fields = (
+    schedule.entries_of, schedule.header_line, schedule.line, schedule.printed, schedule.record_after, schedule.zero_fields)
 
 
 def eleven_before_ten(data):
@@ -25,7 +26,7 @@ def eleven_before_ten(data):
 
 def well_read(data, header):
     calls = tuple(Call(KINDS[e.kind], e.client, e.a, e.b) for e in schedule.entries_of(data, header))
-    return Schedule(Settings(header.levels, header.distance, header.wait), header.clients, calls)
+    return Schedule(Settings(header.levels, header.distance, header.wait, header.patience), header.clients, calls)
 
 
 def opening_before_eleven(data):
@@ -33,12 +34,13 @@ def opening_before_eleven(data):
     if schedule.refused_by_10(data):
         return 10
     header = header_of(data)
-    number = 1 if header.distance not in range(1, 5) or header.wait == 0 or header.levels < 2 else 3 * (header.clients == 0)
+    outside = header.distance not in range(1, 5) or 0 in (header.wait, header.patience) or header.levels < 2
+    number = 1 if outside else 3 * (header.clients == 0)
     return number or (11 if schedule.refused_by_11(header) else well_read(data, header))
 
 
 def three_before_one(data, lines_of):
-    """No clients tested before H, m and T."""
+    """No clients tested before H, m, T and P."""
     read = schedule.decode(data)
     return schedule.refused(3) if isinstance(read, Schedule) and read.clients == 0 else printed(data, lines_of)
 
@@ -62,8 +64,8 @@ def as_far_as_there_are(data, header):
     return entries_of(data, header._replace(count=min(header.count, there)))
 
 
-def from_16(data, header):
-    """The first call is read from byte 16."""
+def from_20(data, header):
+    """The first call is read from byte 20."""
     return entries_of(data, header._replace(offset=HEADER.size))
 
 
@@ -117,19 +119,41 @@ def wrapped_sum(bits):
             yield
 
 
+def exchanged(header):
+    return header._replace(offset=header.patience, patience=header.offset)
+
+
+def in_16_bits(header):
+    return header._replace(patience=header.patience % 2 ** 16)
+
+
+@contextmanager
+def header_of_16_bytes():
+    """A header of 16 bytes is whole, with the greatest patience where the file has none, and calls may begin behind it."""
+    def read(data):
+        return header_of(data) if len(data) >= HEADER.size else header_of(data + b"\xff" * 4)
+    changes = {"header_of": read, "too_long_or_short": lambda data: not 16 <= len(data) <= schedule.LONGEST}
+    with patch.multiple(schedule, offset_below_20=lambda header: header.offset < 16, **changes):
+        yield
+
+
 READING = {
     "11 tested before 10": in_place("decode", eleven_before_ten),
     "a refused opening before 11": in_place("decode", opening_before_eleven),
-    "no clients tested before H, m and T": in_place("printed", three_before_one),
+    "no clients tested before H, m, T and P": in_place("printed", three_before_one),
     "65,535 bytes at most": in_place("LONGEST", 65535),
     "65,537 bytes at most": in_place("LONGEST", 65537),
-    "an offset of 15 taken": in_place("offset_below_16", lambda header: header.offset < 15),
-    "an offset of 16 refused": in_place("offset_below_16", lambda header: header.offset <= 16),
+    "an offset of 16 taken": in_place("offset_below_20", lambda header: header.offset < 16),
+    "an offset of 19 taken": in_place("offset_below_20", lambda header: header.offset < 19),
+    "an offset of 20 refused": in_place("offset_below_20", lambda header: header.offset <= 20),
+    "a header of 16 bytes, P where it is long enough": header_of_16_bytes,
+    "P before the offset": in_place("header_of", lambda data: exchanged(header_of(data))),
+    "P in 16 bits": in_place("header_of", lambda data: in_16_bits(header_of(data))),
     "an end at the file's length refused": in_place("calls_past_the_end", at_the_end_or_past),
     "an offset past the end taken without calls": in_place("calls_past_the_end", past_the_end_if_any),
     "the end in 16 bits": lambda: wrapped_sum(16),
     "the end in 32 bits": lambda: wrapped_sum(32),
-    "calls read from byte 16": in_place("entries_of", from_16),
+    "calls read from byte 20": in_place("entries_of", from_20),
     "calls read to the end": in_place("entries_of", to_the_end),
     "kind 4 taken": in_place("KINDS", (*KINDS, "release")),
     "a kind's lower bits": in_place("entries_of", lambda d, h: [e._replace(kind=e.kind % 128) for e in entries_of(d, h)]),
@@ -139,7 +163,7 @@ READING = {
     "H 7 taken": in_place("MOST_LEVELS", 7),
     "64 clients refused": in_place("MOST_CLIENTS", 63),
     "65 clients taken": in_place("MOST_CLIENTS", 65),
-    "a big-endian header": in_place("HEADER", Struct(">HHIHHI")),
+    "a big-endian header": in_place("HEADER", Struct(">HHIHHII")),
     "big-endian calls": in_place("CALL", Struct(">BBHIQQ")),
     "the last line without its end": in_place("printed", last_line_without_end),
     "the header line before a refused opening": in_place("printed", header_line_before_refusal),
@@ -151,6 +175,7 @@ LOGS = {
     "zeros after every refused call": in_place("record_after", zeros_if_refused),
     "a record shown where 4 refuses": in_place("record_after", last_client_if_refused_by_4),
     "the header line without the clients": in_place("header_line", lambda s: "tree {} m {} wait {}\n".format(*s.settings)),
+    "the header line with P": in_place("header_line", lambda s: f"{header_line(s)[:-1]} patience {s.settings.patience}\n"),
 }
 
 
@@ -161,12 +186,12 @@ def broken(name):
         with broken_rules.broken(name):
             yield
     else:
-        with {**READING, **LOGS, **broken_pages.RULES, **broken_pages.PRINTED}[name]():
+        with {**READING, **LOGS, **broken_pages.RULES, **broken_pages.PRINTED, **broken_patience.RULES}[name]():
             yield
 
 
 # The broken programs that each program's files must find out.
 BROKEN = {
-    "rangelog": [*READING, *LOGS, *broken_rules.RULES],
-    "rangepages": [*READING, *broken_pages.PRINTED, *broken_pages.IN_HISTORIES, *broken_rules.RULES],
+    "rangelog": [*READING, *LOGS, *broken_rules.RULES, *broken_patience.IN_LOGS],
+    "rangepages": [*READING, *broken_pages.PRINTED, *broken_pages.IN_HISTORIES, *broken_rules.RULES, *broken_patience.IN_PAGES],
 }

@@ -4,7 +4,7 @@ claim."""
 from contextlib import contextmanager
 from unittest.mock import patch
 
-from histories import Shape
+from histories import MOST_PATIENCE, Shape
 from model import record as records
 from model import step, tree
 from model.record import Settings
@@ -45,7 +45,7 @@ def only_itself(h, m, n):
     return [n]
 
 
-def held_after_any_piece(settings, record):
+def held_after_any_piece(settings, record, clock):
     """A taken first piece gives 9."""
     return step.to(record, 9)
 
@@ -86,16 +86,16 @@ RULES = {
 
 # Settings and clients with which a few ten histories find each out.
 SHAPES = {
-    "late tested with > for >=": Shape(Settings(2, 1, 2), 5, 600),
-    "a wait of T - 1": Shape(Settings(2, 1, 1), 2, 600),
-    "no notice at level m": Shape(Settings(3, 1, 2), 3, 600),
-    "a node checks only itself": Shape(Settings(3, 2, 2), 3, 600),
-    "a cancelled ticket passed on out of turn": Shape(Settings(2, 1, 2), 5, 600),
-    "a climb that goes on after a wait": Shape(Settings(4, 2, 9), 4, 600),
-    "t1 noted at the root": Shape(Settings(3, 1, 9), 3, 600),
-    "bits taken without comparing": Shape(Settings(2, 1, 9), 3, 600),
-    "a taken first piece gives 9": Shape(Settings(2, 1, 2), 3, 600),
-    "no notice is given back": Shape(Settings(2, 1, 2), 3, 600),
+    "late tested with > for >=": Shape(Settings(2, 1, 2, MOST_PATIENCE), 5, 600),
+    "a wait of T - 1": Shape(Settings(2, 1, 1, MOST_PATIENCE), 2, 600),
+    "no notice at level m": Shape(Settings(3, 1, 2, MOST_PATIENCE), 3, 600),
+    "a node checks only itself": Shape(Settings(3, 2, 2, MOST_PATIENCE), 3, 600),
+    "a cancelled ticket passed on out of turn": Shape(Settings(2, 1, 2, MOST_PATIENCE), 5, 600),
+    "a climb that goes on after a wait": Shape(Settings(4, 2, 9, MOST_PATIENCE), 4, 600),
+    "t1 noted at the root": Shape(Settings(3, 1, 9, MOST_PATIENCE), 3, 600),
+    "bits taken without comparing": Shape(Settings(2, 1, 9, MOST_PATIENCE), 3, 600),
+    "a taken first piece gives 9": Shape(Settings(2, 1, 2, MOST_PATIENCE), 3, 600),
+    "no notice is given back": Shape(Settings(2, 1, 2, MOST_PATIENCE), 3, 600),
 }
 
 

@@ -67,5 +67,5 @@ def lines(levels):
     library()
     written = StringIO()
     with redirect_stdout(written):
-        example().run(ModelTable(Settings(levels, DISTANCE, example().WAIT), CLIENTS))
+        example().run(ModelTable(Settings(levels, DISTANCE, example().WAIT, example().PATIENCE), CLIENTS))
     return written.getvalue().splitlines()

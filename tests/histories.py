@@ -11,6 +11,8 @@ from model.owned import conserved
 from model.record import IDLE, Settings
 
 TOP = 2 ** 64 - 1
+# The greatest that there may be.
+MOST_PATIENCE = 2 ** 32 - 1
 TICKS = (0, 0.02, 0.1, 0.4)
 JUMPS = (0.03, 0.1, 0.2)
 CANCELS = (0.003, 0.02, 0.1)
@@ -82,9 +84,10 @@ class Driver:
         return last + (1 if self.rng.random() < self.ticks else 0)
 
     def moments(self):
-        """When some client's wait is over or its claim is late, and one before."""
-        record = self.rng.choice(self.opened.records)
-        ends = record.t1 + self.opened.settings.wait, record.t0 + self.opened.settings.wait
+        """When some client's wait is over, its claim is late or, at a second piece, its patience runs out, and one before."""
+        record, settings = self.rng.choice(self.opened.records), self.opened.settings
+        ends = [record.t1 + settings.wait, record.t0 + settings.wait]
+        ends += [record.taken + settings.patience] if record.current > 0 else []
         return [end - before for end in ends for before in (0, 1)]
 
     def refused(self):
@@ -137,6 +140,7 @@ class Watch:
         self.opened = opened
         self.windows = [None] * len(opened.records)
         self.idles = [True] * len(opened.records)
+        self.phases = [0] * len(opened.records)
         self.counts = Counter()
 
     def look(self, made):
@@ -154,10 +158,13 @@ class Watch:
         self.counts["unlike what is owned"] += not conserved(self.opened.settings, self.opened.words, self.opened.records)
 
     def count_kind(self, made):
-        """Counts what the call shows: its phase and outcome, its number, two holders at once, and all idle again."""
+        """Counts what the call shows: its phase and outcome, its number, two holders at once, all idle again, and in which phase patience
+        has run out."""
         self.counts["number", made.number] += 1
         if made.number == 0:
             record = self.opened.records[made.call.client]
+            before, self.phases[made.call.client] = self.phases[made.call.client], record.phase
+            self.counts["patience run out in", before] += before != 10 and (record.phase, record.outcome) == (10, 4)
             self.counts["phase", record.phase] += 1
             self.counts["outcome", record.outcome] += 1
             self.counts["both pieces begun"] += record.current

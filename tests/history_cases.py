@@ -3,10 +3,11 @@ random histories. The library takes no part."""
 
 from collections import Counter
 from functools import lru_cache
+from itertools import cycle
 
 from broken_rules import RULES, SHAPES, broken
 from compare import NAMES, case
-from histories import Shape, breaks_a_claim, counts_of, history_of
+from histories import MOST_PATIENCE, Shape, breaks_a_claim, counts_of, history_of
 from model import table
 from model.history import Call, Opened
 from model.owned import conserved
@@ -15,7 +16,7 @@ from model.record import IDLE, Record, Settings
 NAMES["line"] = ("call",), ("number", "phase", "left", "right")
 NAMES["opening"] = ("clients",), ("number", "clock")
 NAMES["refusal"] = ("kind", "causes taken away"), ("number", "changed")
-SHAPE = ("levels", "distance", "wait", "clients", "calls", "seed")
+SHAPE = (*Settings._fields, "clients", "calls", "seed")
 NAMES["history"] = SHAPE, ("overlaps", "words left", "refused by 6", "refused by 9")
 NAMES["owned"] = SHAPE, ("unlike what is owned",)
 NAMES["changed word"] = ("node", "bit"), ("unlike what is owned",)
@@ -39,6 +40,9 @@ WHOLE_CASE = """\
 13 step 1 0 9 0 256
 """.splitlines()
 
+# H 2, m 1, T 5, of which the document speaks; no window of it has two pieces.
+WHOLE_CASE_SETTINGS = Settings(2, 1, 5, MOST_PATIENCE)
+
 
 def whole_case(clock_of_call_7):
     """H 2, m 1, T 5, two clients; request 0 [10, 20); request 1 [0, 256); then the steps as client/clock, and the
@@ -52,7 +56,7 @@ def whole_case(clock_of_call_7):
 
 def lines(calls):
     """A line for each call, and what it says beside the call: number, phase after, left and right edge after."""
-    lock = Opened(Settings(2, 1, 5), [1] * 5, [IDLE._replace(outcome=3)] * 2)
+    lock = Opened(WHOLE_CASE_SETTINGS, [1] * 5, [IDLE._replace(outcome=3)] * 2)
     for place, call in enumerate(calls):
         number = lock.make(call).number
         record = lock.records[call.client]
@@ -78,7 +82,7 @@ def openings():
     for clients, expected in [(1, (0, 0)), (32767, (0, 0)), (0, (3, 77)), (32768, (3, 77))]:
         records = [Record(phase=9)] * clients
         words = [1] * 5
-        answer = table.opening(Settings(2, 1, 5), words, records, 77)
+        answer = table.opening(WHOLE_CASE_SETTINGS, words, records, 77)
         zeroed = not any(words) and set(records) == {IDLE}
         yield case("opening", [clients], expected), tuple(answer) if zeroed == (answer.number == 0) else (99, 99)
 
@@ -96,7 +100,7 @@ RETURNING = Record(phase=10, outcome=1, left=0, right=64, first=2, grip=3, notic
 
 def lent_with_causes(kind, causes):
     """A call that has all of these causes: its settings, words, records and client, and its other arguments."""
-    settings = Settings(2, 1, 0 if 1 in causes else 5)
+    settings = WHOLE_CASE_SETTINGS._replace(wait=0 if 1 in causes else 5)
     words = [0] * (4 if 2 in causes else 5)
     record = RETURNING._replace(ticket=32768 if 6 in causes else 0)
     records = [] if 3 in causes else [record] * 2
@@ -117,14 +121,19 @@ def refusals_in_order():
             yield case("refusal", [place, away], (causes[away], 0)), (number, int(changed))
 
 
+# Small ones, which run out often, and the greatest.
+PATIENCES = 1, 2, 5, 12, 40, MOST_PATIENCE, 3
+
+
 def shapes():
-    """H 2 to 4 with m 1 to 3, and H 6 with m 4; T from 1 up; 2 to 6 clients."""
+    """H 2 to 4 with m 1 to 3, and H 6 with m 4; T from 1 up; P from 1 up in turn; 2 to 6 clients."""
+    patience = cycle(PATIENCES)
     for h, m, clients in [(h, m, 2 + (h + m) % 2 + more) for h in (2, 3, 4) for m in (1, 2, 3) for more in (0, 3)]:
         for wait in (1, 2, 4, 9):
-            yield Shape(Settings(h, m, wait), clients, 1000)
+            yield Shape(Settings(h, m, wait, next(patience)), clients, 1000)
     for clients in (2, 3, 4, 5, 6, 6):
         for wait in (3, 8, 20, 60):
-            yield Shape(Settings(6, 4, wait), clients, 2000)
+            yield Shape(Settings(6, 4, wait, next(patience)), clients, 2000)
 
 
 @lru_cache(maxsize=None)
@@ -149,7 +158,7 @@ def owned():
 
 def changed_words():
     """In the middle of a history any one bit changed in any word makes it unlike what the records own."""
-    lock = history_of(Shape(Settings(3, 2, 4), 5, 300), 1)
+    lock = history_of(Shape(Settings(3, 2, 4, MOST_PATIENCE), 5, 300), 1)
     for place, found in enumerate(lock.words):
         for bit in range(64):
             lock.words[place] = found ^ 1 << bit
@@ -160,7 +169,8 @@ def changed_words():
 
 MUST_OCCUR = [
     *(("phase", phase) for phase in range(11)),
-    *(("outcome", outcome) for outcome in range(4)),
+    *(("outcome", outcome) for outcome in range(5)),
+    *(("patience run out in", phase) for phase in range(1, 9)),
     *(("number", number) for number in (0, 4, 5, 7, 8)),
     "both pieces begun", "two holders", "all idle again",
 ]

@@ -25,7 +25,11 @@ LEVELS = 3, 12
 DOCUMENT = ROOT / "docs" / "LINKING.md"
 CASE = ROOT / "schedules" / "whole-case"
 PROGRAMS = "rangelog", "rangepages", "schedule"
-OTHER_VERSIONS = "0.2.0", "0.1.0", "1.0.1", "0.10.1"
+RUST_FILES = "nolthewyr.rs", "nolthewyr_linked.rs"
+PYTHON_FILES = "nolthewyr.py", "nolthewyr_linked.py"
+# Versions that the Python files do not use, each with the least third number that they ask for: of other series, the one before among them,
+# one without a third number, and a lower one.
+OTHER_VERSIONS = {"0.1.1": 0, "0.3.0": 0, "1.2.0": 0, "0.20.0": 0, "0.2.x": 0, "0.2.1": 2}
 
 
 def compared(name, before, expected, found):
@@ -66,7 +70,7 @@ def expected_files():
     shared = [f"lib/libnolthewyr.so{ending}" for ending in ("", f".{nolthewyr.SERIES}", f".{version}")]
     return {
         *(f"bin/{program}" for program in PROGRAMS), *(f"share/man/man1/{program}.1" for program in PROGRAMS), "include/nolthewyr.h",
-        "lib/libnolthewyr.a", *shared, "lib/pkgconfig/nolthewyr.pc", "share/nolthewyr/nolthewyr.py", "share/nolthewyr/nolthewyr.rs",
+        "lib/libnolthewyr.a", *shared, "lib/pkgconfig/nolthewyr.pc", *(f"share/nolthewyr/{name}" for name in (*RUST_FILES, *PYTHON_FILES)),
     }
 
 
@@ -86,14 +90,15 @@ ASK = "import nolthewyr; print(nolthewyr.library_file(), nolthewyr.version())"
 
 
 def found_by_python():
-    """NOLTHEWYR_LIBRARY names the file; else it is beside the Python file, where it is installed, in the repository, or where the system
+    """NOLTHEWYR_LIBRARY names the file; else it is beside the Python files, where it is installed, in the repository, or where the system
     looks."""
     [share], [libraries], [version] = asked("--variable=pkgdatadir"), asked("--variable=libdir"), asked("--modversion")
     name = f"libnolthewyr.so.{nolthewyr.SERIES}"
     alone, beside = place("alone"), place("beside")
     for copy in (alone, beside):
         copy.mkdir(exist_ok=True)
-        shutil.copy(f"{share}/nolthewyr.py", copy)
+        for file in PYTHON_FILES:
+            shutil.copy(f"{share}/{file}", copy)
     shutil.copy(f"{libraries}/{name}", beside)
     ways = [
         (f"{libraries}/libnolthewyr.so", {"PYTHONPATH": str(beside), "NOLTHEWYR_LIBRARY": f"{libraries}/libnolthewyr.so"}),
@@ -117,11 +122,12 @@ def of_another_version(version):
 def another_version():
     """A library of another series is not used, since its records may have another size, and none of a lower version, since it has not all
     functions. Both are refused by their version, whatever functions they have."""
-    for way, version in enumerate(OTHER_VERSIONS, 5):
+    for way, (version, least) in enumerate(OTHER_VERSIONS.items(), 5):
         made = of_another_version(version)
         named = environment(PYTHONPATH=asked("--variable=pkgdatadir")[0], NOLTHEWYR_LIBRARY=str(made))
-        ran = subprocess.run(["python3", "-c", ASK], env=named, capture_output=True, text=True)
-        wanted = f"{nolthewyr.SERIES}, from {nolthewyr.SERIES}.{nolthewyr.LEAST} on"
+        ask = f"import nolthewyr_linked; nolthewyr_linked.LEAST = {least}; {ASK}"
+        ran = subprocess.run(["python3", "-c", ask], env=named, capture_output=True, text=True)
+        wanted = f"{nolthewyr.SERIES}, from {nolthewyr.SERIES}.{least} on"
         said = f"ImportError: {made} has version {version}, and this file is for {wanted}\n"
         yield case("found by Python", [way], 1), int(ran.stderr.endswith(said))
 

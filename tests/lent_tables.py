@@ -6,11 +6,11 @@ from random import Random
 from typing import NamedTuple
 
 from histories import TOP, Driver, Shape, opened
-from history_cases import RETURNING
+from history_cases import PATIENCES, RETURNING, WHOLE_CASE_SETTINGS
 from model import tree
 from model.record import IDLE, Record, Settings
 from readable_cases import HELD, LAST, SETTINGS
-from record_states import State, any_clock, any_number, any_settings, built, perturbed
+from record_states import State, any_clock, any_number, any_settings, built, one_outside, perturbed
 from vector_cases import all_states
 
 HISTORIES = 60
@@ -18,7 +18,7 @@ CALLS = 80
 TABLES = 50
 MOST = 32767
 # Under these settings and at this clock a client may be at many places.
-VARIED = Settings(6, 2, 50)
+VARIED = Settings(6, 2, 50, 200)
 VARIED_LAST = 1000
 
 
@@ -41,7 +41,7 @@ def in_histories():
     """After every call of random histories, for a client that it named or for another."""
     for seed in range(HISTORIES):
         rng = Random(f"pages {seed}")
-        settings = Settings(rng.choice([2, 3, 4, 6]), rng.choice(tree.DISTANCES), rng.choice([1, 2, 5, 9]))
+        settings = Settings(rng.choice([2, 3, 4, 6]), rng.choice(tree.DISTANCES), rng.choice([1, 2, 5, 9]), rng.choice(PATIENCES))
         lock = opened(Shape(settings, rng.choice([1, 2, 3, 6, 9]), CALLS))
         driver = Driver(lock, seed)
         for _ in range(CALLS):
@@ -89,7 +89,7 @@ CAUSES = {"planners' page": (1, 2, 3, 6), "run's page": (1, 3, 4, 6)}
 
 def with_causes(causes, outside):
     """A table that has all of these causes; of clients it then has a number that is outside: none, or too many."""
-    settings = Settings(2, 1, 0 if 1 in causes else 5)
+    settings = WHOLE_CASE_SETTINGS._replace(wait=0 if 1 in causes else 5)
     records = [RETURNING._replace(ticket=32768 if 6 in causes else 0)] * (outside if 3 in causes else 3)
     rows = len(records) + 1 if 2 in causes else len(records)
     client = len(records) if 4 in causes else 1
@@ -98,10 +98,8 @@ def with_causes(causes, outside):
 
 def settings_outside():
     """Each setting just outside its range, and far, with all else right."""
-    right = SETTINGS._asdict()
-    for name, values in {"levels": (0, 1, 13, TOP), "distance": (0, 5, TOP), "wait": (0, 2 ** 32, TOP)}.items():
-        for value in values:
-            yield lent(Settings(**right | {name: value}), [HELD, IDLE], 0, LAST)
+    for settings in one_outside(SETTINGS):
+        yield lent(settings, [HELD, IDLE], 0, LAST)
 
 
 def clients_and_rows():

@@ -5,6 +5,8 @@ import subprocess
 from array import array
 from pathlib import Path
 
+from model.record import Record, Settings
+
 ROOT = Path(__file__).resolve().parent.parent
 HEADER = ROOT / "tests" / "probe.h"
 SOURCE = ROOT / "tests" / "probe.c"
@@ -12,8 +14,10 @@ RECORDS = ROOT / "tests" / "records.c"
 
 QUERY = 8
 ANSWER = 4
-BEFORE_PAIRS = 23
-RECORD_ANSWER = 19
+# Of a query about a record: settings, record, word count, kind, client, a, b and last clock. Of its answer: number, clock, record, how many
+# words are changed, and the changed node with its word.
+BEFORE_PAIRS = len(Settings._fields) + len(Record._fields) + 6
+RECORD_ANSWER = len(Record._fields) + 5
 SECONDS = 30
 
 RESULTS = {"uint64_t": ("result",), "struct swap": ("done", "word"), "struct cover": ("number", "first", "second", "over")}

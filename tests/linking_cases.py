@@ -17,7 +17,9 @@ NAMES["compiled without a warning"] = ("place in the list of compilers",), ("exi
 NAMES["version"] = ("place",), ("that of the header",)
 
 HEADER = ROOT / "include" / "nolthewyr.h"
+# What a program has of Rust, and the file beside it with the structs, names and functions.
 RUST = ROOT / "include" / "nolthewyr.rs"
+RUST_LINKED = ROOT / "include" / "nolthewyr_linked.rs"
 TEXTS = ROOT / "library" / "texts.c"
 
 # Each struct of the header, and the crate and the name that it has in the Rattle source.
@@ -32,16 +34,17 @@ LINKED = "table", "pages"
 LENGTHS = {"records": "clients", "words": "count", "rows": "count"}
 C_TYPES = {"uint64_t": "u64", "size_t": "usize"}
 
-# What the documents call each number. The names of causes are short ones for the rows of document 01's table.
+# What the documents call each number, outcome 4 by document 02's patience that has run out. The names of causes are short ones for the rows
+# of document 01's table.
 ENUMERATIONS = {
     "phase": "idle ticket turn climb blocked claim notify wait check held returning".split(),
-    "outcome": "none released late cancelled".split(),
+    "outcome": "none released late cancelled out_of_patience".split(),
     "cause": "accepted settings word_count client_count client clock unreadable window phase clear_bit".split(),
 }
 
 # Words of document 01's table that the texts of the causes have.
 CAUSE_WORDS = [
-    "accepted", "levels not 2 to 12, distance not 1 to 4, or wait not 1 to 4294967295",
+    "accepted", "levels not 2 to 12, distance not 1 to 4, or wait or patience not 1 to 4294967295",
     "word count not the tree's, (4^levels - 1) / 3; or not one row for each client",
     "no clients, or over 32767", "client not below the table's count", "step clock below the last clock", "client's record unreadable",
     "window", "request when not idle, release when not held, or cancel", "returning leaf finds a wanted bit clear", "schedule",
@@ -81,7 +84,7 @@ def c_fields(name):
 
 
 def rust_fields(name):
-    return rattle_fields(title(name), RUST.read_text())
+    return rattle_fields(title(name), RUST_LINKED.read_text())
 
 
 def python_fields(name):
@@ -138,7 +141,7 @@ def declared_parameters():
     """The functions that C and Rust declare have the parameters of the source in the same order, by name and by type."""
     declared = [
         functions_in(HEADER.read_text(), r"^\w[\w ]*[ *](nolthewyr_\w+)\(([^)]*)\);", by_c),
-        functions_in(RUST.read_text(), r"fn (nolthewyr_\w+)\(([^)]*)\)", by_rust),
+        functions_in(RUST_LINKED.read_text(), r"fn (nolthewyr_\w+)\(([^)]*)\)", by_rust),
     ]
     for place, functions in enumerate(declared):
         for number, (name, expected) in enumerate(exported_by_source().items()):
@@ -159,7 +162,7 @@ def declared_functions():
     expected = set(exported_by_source())
     found = [
         set(re.findall(r"^\w[\w ]*[ *](nolthewyr_\w+)\(", HEADER.read_text(), re.MULTILINE)),
-        set(re.findall(r"fn (nolthewyr_\w+)\(", RUST.read_text())),
+        set(re.findall(r"fn (nolthewyr_\w+)\(", RUST_LINKED.read_text())),
         {f"nolthewyr_{name}" for name in nolthewyr.FUNCTIONS},
         exported(made("build/libnolthewyr.a")),
         exported(made("build/libnolthewyr.so"), "--dynamic"),
@@ -173,7 +176,7 @@ def c_names(name):
 
 
 def rust_names(name):
-    [listed] = re.findall(rf"named_number!\({title(name)} by nolthewyr_{name}_text: ([^)]*)\);", RUST.read_text())
+    [listed] = re.findall(rf"named_number!\({title(name)} by nolthewyr_{name}_text: ([^)]*)\);", RUST_LINKED.read_text())
     return re.findall(r"(\w+) = (\d+)", listed)
 
 
@@ -197,7 +200,7 @@ def texts():
     for place, (name, said) in enumerate(words.items()):
         text = getattr(nolthewyr, f"{name}_text")
         for number in (*range(len(said) + 1), *UNKNOWN):
-            expected = said[number] if number < len(said) else f"unknown {name}"
+            expected = said[number].replace("_", " ") if number < len(said) else f"unknown {name}"
             as_said = expected in text(number) if name == "cause" else expected == text(number)
             yield case("text", [place, number], 1), int(as_said)
 

@@ -9,10 +9,11 @@ from broken_pages import RULES
 from broken_rules import by_broken
 from compare import NAMES, case, unlike
 from compiled_table import Table
+from history_cases import WHOLE_CASE_SETTINGS
 from lent_tables import CAUSES, MOST, Lent, with_causes
 from model import pages
 from model.pages import Row
-from model.record import IDLE, Record, Settings
+from model.record import IDLE, Record
 
 NAMES["planners' page"] = ("place", *Lent._fields[2:]), ("number", "rows unlike", "rows past the lent ones changed", "records changed")
 NAMES["run's page"] = ("place", *Lent._fields[2:]), ("number", "held", "fields unlike", "records changed")
@@ -84,8 +85,8 @@ def refused_tables():
 
 
 # After the last call of the whole case client 0 is idle with outcome 1. Client 1 holds [0, 256) by the root, of which nothing is beyond it,
-# with Occ as its grip, ticket 0 and no notices, and claimed at clock 3. It is the only one in phase 9, and the last clock is 10.
-WHOLE_CASE = Settings(2, 1, 5), [IDLE._replace(outcome=1), Record(phase=9, right=256, first=1, grip=3, t0=3)], 10
+# with Occ as its grip, ticket 0 and no notices, claimed at 3 and taken at 10. It is the only one in phase 9, and the last clock is 10.
+WHOLE_CASE = WHOLE_CASE_SETTINGS, [IDLE._replace(outcome=1), Record(phase=9, right=256, first=1, grip=3, t0=3, taken=10)], 10
 WHOLE_CASE_ROWS = [Row(), Row(9, 0, 256, 1, 0, 0)]
 
 
@@ -142,7 +143,7 @@ MUST_OCCUR = [
     *(("planners' page", number) for number in (0, 1, 2, 3, 6)),
     *(("run's page", number) for number in (0, 1, 3, 4, 6)),
     *(("phase of a row", phase) for phase in range(11)),
-    *(("outcome of a run", outcome) for outcome in range(4)),
+    *(("outcome of a run", outcome) for outcome in range(5)),
     *(("held", held) for held in (0, 1, 2, 3, MOST)),
     "two pieces", "over-cover of one piece", "over-cover of two pieces", "accepted where another is unreadable",
 ]

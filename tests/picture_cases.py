@@ -21,8 +21,9 @@ from picture_schedules import FAR, STILL, Busy, at_the_edges, busy_schedule, gre
 from programs import RANGELOG
 from random_schedules import drawn
 from schedule_files import WHOLE_CASE, at_call, changed, with_header
+from schedule_tool import TOOL
+from scheduling.legend import MARKED
 
-TOOL = ROOT / "tools" / "schedule"
 EXAMPLE = ROOT / "docs" / "whole-case"
 MOST_BYTES = 2_000_000
 MOST_OF_IMAGE = 150_000
@@ -30,6 +31,7 @@ NAMES["picture"] = ("place in the list of schedules", "by clock", "place in the 
 NAMES["broken picture"] = ("place in the list of edits", "by clock"), ("found out", "before the edit")
 NAMES["picture of nothing"] = ("place in the list of inputs",), ("exit status", "bytes written", "said as by run")
 NAMES["picture's size"] = (), ("under 2,000,000 bytes",)
+NAMES["marks drawn"] = (), ("kinds of marks", "not in the legend, or in it alone")
 NAMES["picture in a file"] = ("place in the list of names",), ("exit status", "as on standard output", "name in the title")
 NAMES["picture that fails"] = ("place in the list of failures",), ("exit status", "bytes written", "said")
 NAMES["example in docs"] = (), ("as the tool draws it", "with an image", "of few bytes")
@@ -44,8 +46,9 @@ def started(*arguments, data=b"", **environment):
 def files():
     """The schedules to draw: those under schedules/, busy ones of 1 to 64 clients, those of the other tests, and the edges."""
     found = [path.read_bytes() for path in sorted((ROOT / "schedules").glob("*.bin"))]
-    shapes = [Shape(Settings(levels, distance, wait), clients, calls) for levels, distance, wait, clients, calls in
-              ((2, 1, 5, 1, 40), (2, 1, 9, 3, 120), (3, 2, 30, 7, 200), (4, 2, 60, 10, 300), (5, 4, 20, 40, 400), (6, 3, 60, 64, 600))]
+    shapes = [Shape(Settings(*settings), clients, calls) for *settings, clients, calls in
+              ((2, 1, 5, 9, 1, 40), (2, 1, 9, 3, 3, 120), (3, 2, 30, 32, 7, 200), (4, 2, 60, 70, 10, 300), (5, 4, 20, 30, 40, 400),
+               (6, 3, 60, 4000, 64, 600))]
     found += [encode(busy_schedule(place, shape, busy)) for place, shape in enumerate(shapes) for busy in (Busy(), STILL, FAR)]
     found += [drawn(kind, seed) for seed in range(12) for kind in ("contended", "well-formed")]
     return found + [encode(each) for each in (*at_the_edges(), great())]
@@ -108,13 +111,19 @@ def fit_to_be_broken(model):
 
 def no_schedules():
     """Texts and files that are no schedules, or are refused as a whole: exit status 1, nothing written, and said what `run` says."""
-    inputs = [b"", b"tree 2 m 1 wait 5\n", b"tree 2 m 1 wait 5 clients 2\nstop 0\nstep 0\n", WHOLE_CASE[:-1], WHOLE_CASE + bytes(65536),
-              changed(WHOLE_CASE, at_call(3), 4), b"tree 7 m 1 wait 5 clients 2\n", with_header(clients=65), with_header(distance=0),
-              with_header(clients=0)]
+    inputs = [b"", b"tree 2 m 1 wait 5 clients 2\n", b"tree 2 m 1 wait 5 patience 20 clients 2\nstop 0\nstep 0\n", WHOLE_CASE[:-1],
+              WHOLE_CASE + bytes(65536), changed(WHOLE_CASE, at_call(3), 4), b"tree 7 m 1 wait 5 patience 20 clients 2\n",
+              with_header(clients=65), with_header(distance=0), with_header(patience=0), with_header(clients=0)]
     inputs += [data for data in (drawn("damaged", seed) for seed in range(60)) if isinstance(decode(data), int)]
     for place, data in enumerate(inputs):
         status, written, said = started("picture", data=data)
         yield case("picture of nothing", [place], (1, 0, 1)), (status, len(written), int(said == started("run", data=data)[2] != b""))
+
+
+def kinds_of_marks():
+    """Every kind of mark stands in some page: a refused call, a late claim, patience that is over, and each way to become idle."""
+    kinds = {mark.kind for model in expected() for mark in model.marks}
+    yield case("marks drawn", [], (7, 0)), (len(kinds), len(kinds ^ set(MARKED)))
 
 
 def sizes():
@@ -156,6 +165,7 @@ SUITES = {
     "tools/schedule picture, by clock, shows what the model says": lambda: shown("clock"),
     "tools/schedule picture, a page with one thing wrong is found out": broken_pictures,
     "tools/schedule picture, no page of what is no schedule": no_schedules,
+    "tools/schedule picture, pages with every kind of mark": kinds_of_marks,
     "tools/schedule picture, the greatest page": sizes,
     "tools/schedule picture, in a file, with the name of what was read": in_files,
     "tools/schedule picture, what cannot be run or written": failures,

@@ -11,20 +11,21 @@ from model import tree
 from model.history import holds
 from picture_pages import HELD, Mark, Told
 
-OUTCOMES = {"release": "idle-released", "step": "idle-late", "cancel": "idle-cancelled"}
+OUTCOMES = {1: "released", 2: "late", 3: "cancelled", 4: "out-of-patience"}
 END = float("inf")
 WAITS = re.compile(r"client (\d+) \[(\d+), (\d+)\), phase (\d+) .*waits .+")
 OUTSIDE = re.compile(r"url\((?!#)|@import|<script|javascript:|\ssrc=", re.IGNORECASE)
 
 
 class Expected:
-    """What the model says of a schedule: the holdings by `holds` after each call, and the rest by the lines of its log."""
+    """What the model says of a schedule: the holdings by `holds` after each call, how a client ended by the outcome in its record, and the
+    rest by the lines of its log."""
 
     def __init__(self, data):
         self.schedule = schedules.decode(data)
         self.lines = [line.split() for line in schedules.log(data).splitlines()[1:]]
         self.clocks = list(self.clocks_after())
-        self.holdings = self.from_history()
+        self.holdings, self.outcomes = self.from_history()
         self.stretches, self.marks = self.from_log()
 
     def clocks_after(self):
@@ -38,22 +39,26 @@ class Expected:
         return told._replace(end=place, end_clock=self.clocks[place])
 
     def from_history(self):
-        """Each window that a client holds, from the first call after which it does to the first after which it does not."""
-        lock, current, found = opened(Shape(self.schedule.settings, self.schedule.clients, 0)), {}, []
+        """Each window that a client holds, from the first call after which it does to the first after which it does not; and the outcome
+        after each call in the record of its client."""
+        lock, current, found, outcomes = opened(Shape(self.schedule.settings, self.schedule.clients, 0)), {}, [], []
         for place, call in enumerate(self.schedule.calls):
             lock.make(call)
+            outcomes.append(lock.records[call.client].outcome if call.client < self.schedule.clients else 0)
             window, held = holds(lock.history, call.client), current.get(call.client)
             if held and window != (held.left, held.right):
                 found.append(self.ended(current.pop(call.client), place))
             if window and call.client not in current:
                 current[call.client] = Told(call.client, HELD, *window, place, None, self.clocks[place], None)
-        return sorted([*found, *current.values()], key=str)
+        return sorted([*found, *current.values()], key=str), outcomes
 
     def from_log(self):
-        """Each stretch in a phase, and the marks: refused calls, steps that end in 10 (late), and how each client became idle."""
-        current, found, marks, gives_back = {}, [], [], {}
+        """Each stretch in a phase, and the marks: refused calls, steps that end in 10 (late or out of patience), and how each client became
+        idle."""
+        current, found, marks = {}, [], []
         for place, (_, kind, client, number, *rest) in enumerate(self.lines):
             client, (phase, left, right) = int(client), map(int, rest)
+            ended = OUTCOMES.get(self.outcomes[place])
             before = current[client].phase if client in current else 0
             if number != "0":
                 marks.append(Mark("refused", place))
@@ -63,12 +68,10 @@ class Expected:
                 found.append(self.ended(current.pop(client), place))
             if phase:
                 current[client] = Told(client, phase, left, right, place, None, self.clocks[place], None)
-            if phase == 10:
-                gives_back[client] = kind
             if phase == 10 and kind == "step":
-                marks.append(Mark("late", place))
+                marks.append(Mark(ended, place))
             if phase == 0:
-                marks.append(Mark(OUTCOMES[gives_back.pop(client, kind)], place))
+                marks.append(Mark(f"idle-{ended}", place))
         return sorted([*found, *current.values()], key=str), sorted(marks)
 
 
@@ -213,8 +216,8 @@ def by_itself(page, expected, by):
 def counted(expected):
     """How the windows ended and which calls were refused, as the page must say it."""
     kinds = Counter(line[1] for line in expected.lines if line[3] == "0")
-    late = sum(mark.kind == "late" for mark in expected.marks)
-    yield f"{kinds['release']} released, {late} late, {kinds['cancel']} cancelled"
+    marked = Counter(mark.kind for mark in expected.marks)
+    yield f"{kinds['release']} released, {marked['late']} late, {kinds['cancel']} cancelled, {marked['out-of-patience']} out of patience"
     refused = Counter(int(line[3]) for line in expected.lines if line[3] != "0")
     causes = ", ".join(f"{refused[number]} by {number}" for number in sorted(refused))
     yield f"{len(expected.lines)} calls, {refused.total()} refused" + (f": {causes}" if causes else "")

@@ -67,8 +67,8 @@ def busy_schedule(seed, shape, busy=Busy()):
 
 
 def great():
-    """As great as a schedule can be: 64 clients, 6 levels, 2,730 calls."""
-    return busy_schedule("great", Shape(Settings(6, 2, 60), 64, 2730), Busy(releases=0.5))
+    """As great as a schedule can be: 64 clients, 6 levels, 2,729 calls."""
+    return busy_schedule("great", Shape(Settings(6, 2, 60, 200), 64, 2729), Busy(releases=0.5))
 
 
 def holds_and_releases(client, left, right, clock):
@@ -86,7 +86,7 @@ def one_by_one(client, left, time):
 def at_the_edges():
     """No calls, one call, refused calls alone, the greatest clocks, 64 units held at once, one unit held by turns within a clock, and as many
     refused calls and as many holdings as a schedule has room for."""
-    small = Settings(2, 1, 5)
+    small = Settings(2, 1, 5, 20)
     yield Schedule(small, 2, ())
     yield Schedule(small, 64, (Call("request", 63, 0, 256),))
     yield Schedule(small, 1, (Call("step", 0, 999),))
@@ -95,5 +95,5 @@ def at_the_edges():
     yield Schedule(small, 2, (*early, *last, Call("step", 0, TOP)))
     yield Schedule(small, 64, tuple(call for client in range(64) for call in holds_and_releases(client, client, client + 1, client // 9)[:4]))
     yield Schedule(small, 5, tuple(call for time in range(40) for call in holds_and_releases(time % 5, 7, 8, time // 20)))
-    yield Schedule(small, 1, tuple(Call("cancel", 0) for _ in range(2730)))
-    yield Schedule(small, 64, tuple(call for time in range(390) for call in one_by_one(time % 64, time % 4 * 64 + time % 24, time)))
+    yield Schedule(small, 1, tuple(Call("cancel", 0) for _ in range(2729)))
+    yield Schedule(small, 64, tuple(call for time in range(389) for call in one_by_one(time % 64, time % 4 * 64 + time % 24, time)))

@@ -12,12 +12,13 @@ from tempfile import TemporaryFile
 from compare import NAMES, case
 from library import ROOT, SECONDS
 from model.history import Call
-from model.schedule import LONGEST
+from model.schedule import CALL, HEADER, LONGEST
 from programs import PROGRAMS, RANGELOG, RANGEPAGES, Ran
 from schedule_files import WHOLE_CASE, of_calls
 
+MOST_CALLS = (LONGEST - HEADER.size) // CALL.size
 # As many calls as fit, of as many clients, with edges of five digits: log and pages are longer than the smallest pipe.
-LONG = of_calls(*(Call("request", place % 64, 10000, 60000) for place in range(2730)), levels=6, clients=64)
+LONG = of_calls(*(Call("request", place % 64, 10000, 60000) for place in range(MOST_CALLS)), levels=6, clients=64)
 SMALLEST_PIPE = 4096
 
 # What is not whole if it could not be written.
@@ -119,7 +120,7 @@ def full_pipe(program):
 
 def good_descriptors(program):
     """The same schedules, and no file at all, where nothing fails: what is to be printed, and not a word on standard error."""
-    for name, data in {"the whole case": WHOLE_CASE, "2730 calls": LONG, "no file": b""}.items():
+    for name, data in {"the whole case": WHOLE_CASE, "as many calls as fit": LONG, "no file": b""}.items():
         ran = run(program, input=data, stdout=PIPE)
         yield printed(program, f"{name}, nothing fails", data, ran, ran.stdout, program.expected(data))
         yield said(program, f"{name}, nothing fails", data, ran, b"")

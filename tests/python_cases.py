@@ -23,15 +23,16 @@ def raises(call):
 def numbers_that_do_not_fit():
     """ctypes cuts a number to its width, so that client 2^64 would be client 0. The Python file raises, and nothing is called."""
     library()
-    table = nolthewyr.Table(nolthewyr.Settings(2, 1, 5), 2)
+    table = nolthewyr.Table(nolthewyr.Settings(2, 1, 5, 9), 2)
     for outside in (-1, TOP + 1):
         calls = [
             lambda: table.request(outside, 10, 20), lambda: table.request(0, outside, 20), lambda: table.request(0, 10, outside),
             lambda: table.step(outside, 1), lambda: table.step(0, outside), lambda: table.release(outside), lambda: table.cancel(outside),
             lambda: table.run_page(outside),
             lambda: nolthewyr.cover(outside, 10, 20), lambda: nolthewyr.cover(2, outside, 20), lambda: nolthewyr.word_count(outside),
-            lambda: nolthewyr.Settings(2, outside, 5), lambda: nolthewyr.Settings(levels=outside), lambda: nolthewyr.cause_text(outside),
-            lambda: nolthewyr.Table(nolthewyr.Settings(2, 1, 5), outside),
+            lambda: nolthewyr.Settings(2, outside, 5, 9), lambda: nolthewyr.Settings(levels=outside),
+            lambda: nolthewyr.Settings(2, 1, 5, outside), lambda: nolthewyr.Settings(patience=outside), lambda: nolthewyr.cause_text(outside),
+            lambda: nolthewyr.Table(nolthewyr.Settings(2, 1, 5, 9), outside),
         ]
         for place, call in enumerate(calls):
             yield case("number that does not fit", [place], 1), raises(call)
@@ -53,7 +54,7 @@ def owned_memory():
     """What a caller does to the settings it opened with, or to a record or a page it was given, does not reach the table, and a call or a
     page waits until another thread's call is made."""
     library()
-    settings = nolthewyr.Settings(2, 1, 5)
+    settings = nolthewyr.Settings(2, 1, 5, 9)
     table = nolthewyr.Table(settings, 1)
     table.request(0, 10, 20)
     settings.levels, table.record(0).phase = 3, 9
@@ -67,7 +68,7 @@ def owned_memory():
 def shown_by_names():
     """A struct is shown by the names of its fields, which can be gone through in order, a run's page too."""
     library()
-    table = nolthewyr.Table(nolthewyr.Settings(2, 1, 5), 1)
+    table = nolthewyr.Table(nolthewyr.Settings(2, 1, 5, 9), 1)
     row = nolthewyr.Row(9, 0, 256, 1, 0, 0)
     number, own, held = table.run_page(0)
     yield case("table in Python", [4], 1), int(repr(row) == "Row(phase=9, left=0, right=256, first=1, second=0, over=0)")

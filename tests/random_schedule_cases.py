@@ -6,10 +6,14 @@ from concurrent.futures import ProcessPoolExecutor
 from functools import lru_cache
 
 from compare import NAMES, Case, case
+from model.pages import Row
+from model.record import Record
 from programs import PRINTED, PROGRAMS, RANGELOG, RANGEPAGES, numbers
 from random_schedules import DRAWN, drawn
 
 SEEDS = 600
+# How many words a line of the pages has: client and row, or client, record and count.
+ROW, RECORD = 1 + len(Row._fields), 2 + len(Record._fields)
 
 # What must be seen in the logs of the random schedules: refusals of a file, and numbers and phases of calls.
 IN_LOGS = [
@@ -21,7 +25,7 @@ IN_LOGS = [
 IN_PAGES = [
     *(("refused", number) for number in (0, 1, 3, 10, 11)),
     *(("row in phase", phase) for phase in range(11)),
-    *(("outcome", outcome) for outcome in range(4)),
+    *(("outcome", outcome) for outcome in range(5)),
     *(("held", count) for count in range(3)),
     "two pieces", "over-cover",
 ]
@@ -53,10 +57,10 @@ def seen_in_pages(pages):
     seen = Counter([refusal_seen(lines[0])])
     for line in lines:
         fields = line.split()
-        if len(fields) == 7:
+        if len(fields) == ROW:
             seen.update([("row in phase", int(fields[1])), *["two pieces"] * (fields[5] != "0"), *["over-cover"] * (fields[6] != "0")])
-        elif len(fields) == 16:
-            seen.update([("outcome", int(fields[2])), ("held", int(fields[15]))])
+        elif len(fields) == RECORD:
+            seen.update([("outcome", int(fields[2])), ("held", int(fields[-1]))])
     return seen
 
 

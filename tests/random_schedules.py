@@ -3,7 +3,7 @@ damaged."""
 
 from random import Random
 
-from histories import TOP, Driver, Shape, opened
+from histories import MOST_PATIENCE, TOP, Driver, Shape, opened
 from model import tree
 from model.history import KINDS, Call
 from model.record import Settings
@@ -25,13 +25,15 @@ def driven(shape, seed):
 
 def contended(rng, seed):
     """Few clients that want few windows of a small tree."""
-    settings = Settings(rng.choice([2, 2, 3, 4]), rng.choice(tree.DISTANCES), rng.choice([1, 2, 4, 9]))
+    wait, patience = rng.choice([1, 2, 4, 9]), rng.choice([1, 3, 8, 30, MOST_PATIENCE])
+    settings = Settings(rng.choice([2, 2, 3, 4]), rng.choice(tree.DISTANCES), wait, patience)
     return encode(driven(Shape(settings, rng.choice([2, 3, 5]), rng.choice([60, 150, 300])), seed))
 
 
 def well_formed(rng, seed):
     """Every H up to 6 and up to 64 clients, with any bytes between header and first call and after the last."""
-    settings = Settings(rng.randint(2, 6), rng.choice(tree.DISTANCES), rng.choice([1, 3, 20, 2 ** 32 - 1]))
+    wait, patience = rng.choice([1, 3, 20, 2 ** 32 - 1]), rng.choice([1, 20, 300, MOST_PATIENCE])
+    settings = Settings(rng.randint(2, 6), rng.choice(tree.DISTANCES), wait, patience)
     schedule = driven(Shape(settings, rng.choice([1, 2, 16, 63, 64]), rng.choice([0, 1, 5, 50, 300])), seed)
     return encode(schedule, *(rng.randbytes(rng.choice([0, 0, 1, 24, 333])) for _ in range(2)))
 
@@ -47,11 +49,12 @@ def any_call(rng, levels, clients):
 
 
 def refused(rng, seed):
-    """Calls drawn without looking at what the clients do; H, m, T or clients are often just outside their ranges."""
+    """Calls drawn without looking at what the clients do; H, m, T, P or clients are often just outside their ranges."""
     levels, distance = rng.choice([2, 2, 3, 6, 2, 3, 1, 7]), rng.choice([1, 2, 4, 1, 2, 3, 0, 5])
-    wait, clients = rng.choice([1, 2, 5, 9, 20, 2 ** 32 - 1, 0]), rng.choice([1, 2, 3, 64, 2, 3, 0, 65])
+    wait, patience = rng.choice([1, 2, 5, 9, 20, 2 ** 32 - 1, 0]), rng.choice([1, 2, 5, 9, 20, 70, MOST_PATIENCE, 0])
+    clients = rng.choice([1, 2, 3, 64, 2, 3, 0, 65])
     calls = tuple(any_call(rng, max(levels, 2), clients) for _ in range(rng.choice([0, 3, 100, 100])))
-    return encode(Schedule(Settings(levels, distance, wait), clients, calls))
+    return encode(Schedule(Settings(levels, distance, wait, patience), clients, calls))
 
 
 def flipped(rng, data):
@@ -72,7 +75,7 @@ def number_flipped(rng, data):
 
 
 def cut(rng, data):
-    return data[:rng.choice([rng.randrange(len(data)), len(data) - 1, len(data) - CALL.size, rng.randrange(20)])]
+    return data[:rng.choice([rng.randrange(len(data)), len(data) - 1, len(data) - CALL.size, rng.randrange(HEADER.size + 4)])]
 
 
 def extended(rng, data):

@@ -1,5 +1,6 @@
 """Cases for the calls on one record: states of random histories, readable records with any words, and lent garbage."""
 
+from itertools import chain
 from random import Random
 
 from compare import NAMES, Case
@@ -10,11 +11,14 @@ from model import record as records
 from model.history import Call
 from model.readable import unreadable
 from model.record import Record, Settings
-from record_states import Sparse, any_clock, any_state, built_state, perturbed, reached, windows
+from patience_states import states_and_calls, with_every_p
+from record_states import Sparse, any_clock, any_state, built_state, one_outside, perturbed, reached, windows
 
 HISTORIES, CALLS = 14, 500
 BUILT, CHANGED, ANY = 9000, 7000, 3000
 
+# Where the phase stands among the arguments.
+PHASE = len(Settings._fields)
 ARGUMENTS = (*Settings._fields, *Record._fields, "count", "kind", "client", "a", "b", "last", *("node", "word") * 200)
 RESULTS = ("number", "clock", *Record._fields, "changed", "node", "word")
 for name in ("request", "step", "release", "cancel", "unreadable"):
@@ -65,9 +69,9 @@ def any_window(rng, h):
 
 
 def step_clock(rng, state):
-    """About the last clock, about the moments at which a wait is over or a claim is late, and far away."""
-    wait, last = state.settings.wait, state.last
-    ends = state.record.t1 + wait, state.record.t0 + wait
+    """About the last clock, about the moments at which a wait is over, a claim is late or patience runs out, and far away."""
+    record, settings, last = state.record, state.settings, state.last
+    ends = record.t1 + settings.wait, record.t0 + settings.wait, record.taken + settings.patience
     moments = [end + beside for end in ends for beside in (-1, 0, 0, 1)]
     chosen = rng.choice([last, last + 1, last - 1, *moments, TOP, any_clock(rng)])
     return min(max(chosen, rng.choice([0, last, last, last])), TOP)
@@ -109,17 +113,20 @@ def cases_built(h):
     """Readable records in every phase, with any words."""
     rng = Random(f"built at {h}")
     states = [built_state(rng, h) for _ in range(BUILT)]
-    return with_all_rows([record_case(rng, state, any_query(rng, state)) for state in states])
+    return with_all_rows(h, [record_case(rng, state, any_query(rng, state)) for state in states])
 
 
-def with_all_rows(cases):
-    """The cases, after seeing that each phase is stepped from and to, and that each refusal of a readable record
-    occurs. A step goes to 1 only at an inner second piece, which H 2 has not."""
-    steps = [case for case in cases if case.call == "step" and case.expected[0] == 0]
-    before, after = {case.arguments[3] for case in steps}, {case.expected[2] for case in steps}
+def with_all_rows(h, cases):
+    """The cases, after seeing that each phase is stepped from and to, that patience runs out in each of 1 to 8, and that each refusal of a
+    readable record occurs. An inner second piece, at which alone a step goes to 1 or is in 1, 2, 7 or 8 with patience, H 2 has not."""
+    steps = [(case.arguments[PHASE], *case.expected[2:4]) for case in cases if case.call == "step" and case.expected[0] == 0]
+    before, after = {phase for phase, _, _ in steps}, {phase for _, phase, _ in steps}
+    run_out = {phase for phase, _, outcome in steps if outcome == 4} - {0, 10}
     numbers = {case.expected[0] for case in cases}
     if before != set(range(11)) or not after >= before - {1} or numbers != {0, 5, 7, 8, 9}:
         raise SystemExit(f"steps from {before} to {after} and numbers {numbers}: too few to test all")
+    if run_out != set(range(1, 9) if h > 2 else range(3, 7)):
+        raise SystemExit(f"patience runs out in {run_out}: too few to test all")
     return cases
 
 
@@ -139,23 +146,14 @@ def cases_of_any_fields(h):
         yield record_case(rng, state, any_query(rng, state))
 
 
-OUTSIDE = {
-    "levels": (0, 1, 13, 14, 64, 2 ** 32 + 2, TOP),
-    "distance": (0, 5, 6, 2 ** 32 + 1, TOP),
-    "wait": (0, 2 ** 32, 2 ** 32 + 1, TOP),
-}
-
-
 def settings_refused():
-    """H, m or T outside its range, with a word count that is the lowest tree's or is not."""
+    """H, m, T or P outside its range, with a word count that is the lowest tree's or is not."""
     rng = Random("settings refused")
-    for name, values in OUTSIDE.items():
-        for value in values:
-            for _ in range(100):
-                state = built_state(rng, 2)
-                settings = state.settings._replace(**{name: value})
-                state = state._replace(settings=settings, count=rng.choice([state.count, state.count - 1, 0]))
-                yield record_case(rng, state, any_call(rng, state))
+    for _ in range(100):
+        state = built_state(rng, 2)
+        for settings in one_outside(state.settings):
+            outside = state._replace(settings=settings, count=rng.choice([state.count, state.count - 1, 0]))
+            yield record_case(rng, outside, any_call(rng, outside))
 
 
 def word_count_refused():
@@ -166,6 +164,13 @@ def word_count_refused():
             for _ in range(30):
                 state = built_state(rng, h)._replace(count=count)
                 yield record_case(rng, state, any_call(rng, state))
+
+
+def every_outcome_and_third_time():
+    """Every outcome from 0 to 5 and every kind of third time in every phase, at a first and at a second piece; and every kind of P."""
+    rng = Random("every outcome and third time")
+    for state, call in chain(with_every_p(), states_and_calls()):
+        yield record_case(rng, state, call)
 
 
 KINDS = {
@@ -180,4 +185,5 @@ SUITES = {
     **{f"record at H {h}, {name}": lambda h=h, cases=cases: cases(h) for h in tree.LEVELS for name, cases in KINDS.items()},
     "record, settings outside their ranges": settings_refused,
     "record, word count not the tree's": word_count_refused,
+    "record, every outcome and third time in every phase": every_outcome_and_third_time,
 }

@@ -12,9 +12,13 @@ from model.history import Call, Opened
 from model.record import IDLE, Record, Settings
 from word_cases import random_inner
 
-SMALL_WAITS = (1, 2, 3, 5, 9)
-GREATEST_WAIT = 2 ** 32 - 1
+SMALL_TIMES = (1, 2, 3, 5, 9)
+GREATEST_TIME = 2 ** 32 - 1
 POOL = 200
+# Numbers outside the range of each setting: just outside it, far, and such as would be inside it cut to 32 bits.
+OUTSIDE = Settings(
+    levels=(0, 1, 13, 14, 64, 2 ** 32 + 2, TOP), distance=(0, 5, 6, 2 ** 32 + 1, TOP), wait=(0, 2 ** 32, 2 ** 32 + 1, TOP),
+    patience=(0, 2 ** 32, 2 ** 32 + 1, TOP))
 
 
 class State(NamedTuple):
@@ -43,13 +47,19 @@ class Sparse:
         self.words[place + 1] = value
 
 
+def one_outside(settings):
+    """The settings with each of them in turn outside its range."""
+    return [settings._replace(**{name: value}) for name, values in OUTSIDE._asdict().items() for value in values]
+
+
 def any_settings(rng, h):
-    return Settings(h, rng.choice(tree.DISTANCES), rng.choice([*SMALL_WAITS, rng.randint(10, 1000), GREATEST_WAIT]))
+    wait, patience = (rng.choice([*SMALL_TIMES, rng.randint(10, 1000), GREATEST_TIME]) for _ in range(2))
+    return Settings(h, rng.choice(tree.DISTANCES), wait, patience)
 
 
 def any_clock(rng):
     """Near 0, near the greatest 64-bit number, or anywhere."""
-    return rng.choice([0, 1, rng.randrange(100), TOP, TOP - 1, TOP - rng.randrange(100), GREATEST_WAIT, rng.getrandbits(64)])
+    return rng.choice([0, 1, rng.randrange(100), TOP, TOP - 1, TOP - rng.randrange(100), GREATEST_TIME, rng.getrandbits(64)])
 
 
 def short_window(rng, h):
@@ -94,11 +104,17 @@ def phases_at(settings, n):
     return (1, 2, 5, 7, 8, 9, 10) if n == 1 else range(1, 11)
 
 
-def noted_time(rng, settings, last):
-    """A time not after the last clock: at its ends, or about T before it."""
-    before = last - settings.wait
+def noted_time(rng, length, last):
+    """A time not after the last clock: at its ends, or about T or P before it, whose length is given."""
+    before = last - length
     chosen = rng.choice([0, last, last - 1, before - 1, before, before + 1, rng.randint(0, last)])
     return min(max(chosen, 0), last)
+
+
+def noted_taken(rng, settings, record, last):
+    """The third noted time: 0 at a first piece, save in 9 or in 10 with outcome 1."""
+    may_be_noted = record.current > 0 or record.phase == 9 or record.outcome == 1
+    return noted_time(rng, settings.patience, last) if may_be_noted else 0
 
 
 def drawn(rng, settings, last):
@@ -108,13 +124,15 @@ def drawn(rng, settings, last):
     current = rng.randint(0, 1 if second else 0)
     phase = rng.choice(phases_at(settings, (first, second)[current]))
     current = (1 if second else 0) if phase == 9 else current
-    record = Record(phase, rng.randint(1, 3) if phase == 10 else 0, left, right, first, second, current)
+    outcome = rng.randint(1, 4 if current > 0 else 3) if phase == 10 else 0
+    record = Record(phase, outcome, left, right, first, second, current)
     record = record._replace(
         giving=rng.randint(0, current) if phase == 10 else 0,
         grip=rng.choice(readable.grips(settings, record)),
         ticket=rng.choice([0, 1, 32766, 32767, rng.randint(0, 32767)]),
-        t1=noted_time(rng, settings, last),
-        t0=noted_time(rng, settings, last))
+        t1=noted_time(rng, settings.wait, last),
+        t0=noted_time(rng, settings.wait, last),
+        taken=noted_taken(rng, settings, record, last))
     return with_place(rng, settings, record)
 
 
@@ -132,7 +150,7 @@ def with_place(rng, settings, record):
 def built(rng, settings, last):
     """A readable record, now and then an idle one."""
     if rng.random() < 0.05:
-        return IDLE._replace(outcome=rng.randint(0, 3))
+        return IDLE._replace(outcome=rng.randint(0, 4))
     while True:
         record = drawn(rng, settings, last)
         if not readable.unreadable(settings, record, last):
@@ -185,9 +203,9 @@ def bounds(state):
     nodes = (1, 2, tree.parent(record.first), record.first, record.second, count, count + 1)
     times = (state.last - 1, state.last, state.last + 1)
     return Record(
-        phase=range(13), outcome=range(5), left=(n - 1, n, record.right), right=(n, n + 1, record.left),
+        phase=range(13), outcome=range(6), left=(n - 1, n, record.right), right=(n, n + 1, record.left),
         first=nodes, second=nodes, current=range(3), giving=range(3), grip=range(5),
-        ticket=(32767, 32768, 65536 + record.ticket), place=range(12), notices=range(12), t1=times, t0=times)
+        ticket=(32767, 32768, 65536 + record.ticket), place=range(12), notices=range(12), t1=times, t0=times, taken=times)
 
 
 def perturbed(rng, state):

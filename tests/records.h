@@ -16,7 +16,7 @@ struct stepped {
 /* The call that the kind names: 0 request, 1 step, 2 release, any other number cancel. */
 struct stepped probe_act(nolthewyr_record self, uint64_t *words, size_t count, nolthewyr_settings s, nolthewyr_call c, uint64_t kind);
 
-/* Whether the record is unreadable; H, m and T are within their ranges. */
+/* Whether the record is unreadable; H, m, T and P are within their ranges. */
 bool probe_unreadable(nolthewyr_record self, nolthewyr_settings s, uint64_t last);
 
 #endif

@@ -11,7 +11,7 @@ from history_cases import WHOLE_CASE as WHOLE_CASE_LINES
 from library import ROOT, SECONDS
 from model.pages import Row
 from model.record import Record
-from model.schedule import HEADER
+from model.schedule import header_of
 from programs import PROGRAMS, RANGELOG, RANGEPAGES, Ran
 from random_schedules import drawn
 from schedule_files import WHOLE_CASE, at_call, by_group, changed
@@ -22,12 +22,12 @@ FEW_SEEDS = 40
 # The header line, and a line for each call, as the document writes them.
 WHOLE_LOG = "\n".join(["tree 2 m 1 wait 5 clients 2", *WHOLE_CASE_LINES, ""]).encode()
 
-# After the last call client 0 is idle with outcome 1, and client 1 holds the whole tree by the root, at which it claimed at clock 3.
+# After the last call client 0 is idle with outcome 1, and client 1 holds the whole tree by the root, claimed at clock 3 and taken at 10.
 WHOLE_PAGES = b"""\
 0 0 0 0 0 0 0
 1 9 0 256 1 0 0
-0 0 1 0 0 0 0 0 0 0 0 0 0 0 0 1
-1 9 0 0 256 1 0 0 0 3 0 0 0 0 3 1
+0 0 1 0 0 0 0 0 0 0 0 0 0 0 0 0 1
+1 9 0 0 256 1 0 0 0 3 0 0 0 0 3 10 1
 """
 WHOLE = {RANGELOG: WHOLE_LOG, RANGEPAGES: WHOLE_PAGES}
 
@@ -58,16 +58,18 @@ def corpus(program):
 
 def shown_in_corpus():
     """The pages in tests/schedules have what only clients in the middle show: over-cover of two pieces that are held, the second piece given
-    back, each outcome, 64 clients, and clocks of 20 digits."""
+    back, each outcome while giving back and idle, 64 clients, clocks of 20 digits, and the time at which a single piece was taken."""
     lines = [list(map(int, line.split())) for path in CORPUS.glob("*.pages") for line in path.read_text().splitlines() if line[0].isdigit()]
     rows = [Row(*row) for _, *row in lines if len(row) == len(Row._fields)]
     records = [Record(*record[:-1]) for _, *record in lines if len(record) == len(Record._fields) + 1]
     shown = [
         any(row.phase == 9 and row.second and row.over for row in rows),
         any(record.phase == 10 and record.giving == 1 for record in records),
-        {record.outcome for record in records} == {0, 1, 2, 3},
+        {record.outcome for record in records if record.phase == 10} == {1, 2, 3, 4},
+        {record.outcome for record in records if record.phase == 0} == {0, 1, 2, 3, 4},
         any(line[0] == 63 for line in lines),
-        any(min(record.t1, record.t0) >= 10 ** 19 for record in records),
+        any(min(record.t1, record.t0, record.taken) >= 10 ** 19 for record in records),
+        any(record.taken > 0 and record.current == 0 for record in records),
     ]
     for place, found in enumerate(shown):
         yield case("shown in tests/schedules", [place], 1), int(found)
@@ -75,7 +77,7 @@ def shown_in_corpus():
 
 def clients_twice(data):
     """The first word of each line of the pages: every client's number, and again."""
-    clients = HEADER.unpack_from(data)[3]
+    clients = header_of(data).clients
     return "".join(f"{client}\n" for _ in range(2) for client in range(clients)).encode()
 
 
@@ -85,7 +87,7 @@ def expected_in_brief(program, file):
     if file.number != 0:
         return f"refused {file.number}\n".encode()
     if program is RANGELOG:
-        return "tree {} m {} wait {} clients {}\n".format(*HEADER.unpack_from(file.data)).encode()
+        return "tree {} m {} wait {} clients {}\n".format(*header_of(file.data)).encode()
     return clients_twice(file.data)
 
 
@@ -127,7 +129,7 @@ def in_pieces(program, data, size):
 def files_in_pieces(program):
     """A file is the same however it comes: in pieces from a pipe, or at once from a file on the disk."""
     longest = WHOLE_CASE.ljust(65536, b"\xff")
-    for data, size in [(WHOLE_CASE, size) for size in (1, 15, 16, 17, 24, 351)] + [(longest, 4096), (longest, 65535)]:
+    for data, size in [(WHOLE_CASE, size) for size in (1, 16, 19, 20, 21, 24, len(WHOLE_CASE) - 1)] + [(longest, 4096), (longest, 65535)]:
         yield program.compared(f"{len(data)} bytes in pieces of {size}", data, program.expected(data), in_pieces(program, data, size))
     for path in sorted((ROOT / "schedules").glob("*.bin")):
         with path.open("rb") as file:

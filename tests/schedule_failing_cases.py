@@ -10,10 +10,10 @@ from tempfile import TemporaryDirectory
 
 from compare import NAMES, case
 from library import ROOT, SECONDS
-from schedule_files import WHOLE_CASE
 from schedule_tool import TOOL, started
 
 WHOLE_TEXT = (ROOT / "schedules" / "whole-case.txt").read_bytes()
+WHOLE_FILE = (ROOT / "schedules" / "whole-case.bin").read_bytes()
 LOG = (ROOT / "schedules" / "whole-case.log").read_text()
 RESULTS = ("exit status", "said as expected", "bytes written")
 MEMORY = 2 ** 29
@@ -22,6 +22,8 @@ FULL = "schedule: standard output could not be written: No space left on device\
 CLOSED = "schedule: standard output could not be written: it is closed\n"
 NO_INPUT = "schedule: standard input could not be read: it is closed\n"
 WRONG = "one of the two is wrong; keep the file and report it"
+
+TOO_MANY_LEVELS = "tree 7 m 1 wait 5 patience 20 clients 2"
 
 # A shell command, with `schedule` for the program; its exit status, and what it says.
 COMMANDS = {
@@ -43,8 +45,8 @@ COMMANDS = {
     "a file in no folder": ("schedule pack whole-case.txt -o no/such/folder.bin", 3,
                             "schedule: no/such/folder.bin could not be written: No such file or directory\n"),
     "a wrong text": ("echo stop | schedule run", 1,
-                     "line 1: the first line wants the settings, as in `tree 2 m 1 wait 5 clients 2`; got `stop`\n"),
-    "a refused schedule": ("echo tree 7 m 1 wait 5 clients 2 | schedule run", 1,
+                     "line 1: the first line wants the settings, as in `tree 2 m 1 wait 5 patience 20 clients 2`; got `stop`\n"),
+    "a refused schedule": (f"echo {TOO_MANY_LEVELS} | schedule run", 1,
                            "refused 11: a tree of over 6 levels, or over 64 clients: these are limits of rangelog and rangepages\n"),
     "no command": ("schedule", 2, "usage: schedule [-h] COMMAND ...\nschedule: error: the following arguments are required: COMMAND\n"),
     "two files": ("schedule pack whole-case.txt blocked.txt", 2,
@@ -60,15 +62,16 @@ COMMANDS = {
     "no log": ("RANGELOG=true schedule run whole-case.txt", 3,
                "schedule: what rangelog printed is not whole: it has 0 lines, and the model's has 15; RANGELOG in the environment is "
                "`true`\n"),
-    "no log of a refused schedule": ("echo tree 7 m 1 wait 5 clients 2 | RANGELOG=true schedule run --log", 3,
+    "no log of a refused schedule": (f"echo {TOO_MANY_LEVELS} | RANGELOG=true schedule run --log", 3,
                                      "schedule: what rangelog printed is not whole: it has 0 lines, and the model's has 1; RANGELOG in the "
                                      "environment is `true`\n"),
-    "a log of a refused schedule": ("echo tree 7 m 1 wait 5 clients 2 | RANGELOG='echo tree 7 m 1 wait 5 clients 2' schedule run", 3,
+    "a log of a refused schedule": (f"echo {TOO_MANY_LEVELS} | RANGELOG='echo tree 7 m 1 wait 5 clients 2' schedule run", 3,
                                     "schedule: line 1 that rangelog printed is `tree 7 m 1 wait 5 clients 2`, and the model says "
                                     f"`refused 11`: {WRONG}; RANGELOG in the environment is `echo tree 7 m 1 wait 5 clients 2`\n"),
     "no command for rangelog": ("RANGELOG=\"'\" schedule run whole-case.txt", 3,
                                 "schedule: RANGELOG in the environment is no command: No closing quotation\n"),
-    "a refused schedule, pages": ("echo tree 2 m 1 wait 5 clients 0 | schedule pages", 1, "refused 3: no clients: correct the settings\n"),
+    "a refused schedule, pages": ("echo tree 2 m 1 wait 5 patience 20 clients 0 | schedule pages", 1,
+                                  "refused 3: no clients: correct the settings\n"),
     "rangepages missing": ("RANGEPAGES=/no/rangepages schedule pages whole-case.txt", 3,
                            "schedule: /no/rangepages could not be run: No such file or directory; RANGEPAGES in the environment is "
                            "`/no/rangepages`\n"),
@@ -144,7 +147,7 @@ def output_files():
         wrong = started("pack", "-o", path, data=b"stop")
         kept = path.read_bytes() == b"before"
         right = started("pack", "-o", link, data=WHOLE_TEXT)
-        written = path.read_bytes() == WHOLE_CASE and link.is_symlink() and sorted(os.listdir(folder)) == ["case.bin", "link"]
+        written = path.read_bytes() == WHOLE_FILE and link.is_symlink() and sorted(os.listdir(folder)) == ["case.bin", "link"]
         mode = path.stat().st_mode & 0o777
         fresh = started("pack", "-o", Path(folder) / "fresh", data=WHOLE_TEXT)
         fresh_mode = (Path(folder) / "fresh").stat().st_mode & 0o777

@@ -3,13 +3,14 @@ before any call is made, its number stands beside it."""
 
 from typing import NamedTuple
 
+from histories import MOST_PATIENCE, TOP
 from model.history import KINDS, Call
 from model.record import Settings
-from model.schedule import CALL, HEADER, LONGEST, Schedule, encode
+from model.schedule import CALL, HEADER, LONGEST, Header, Schedule, encode
 
-# Header, then a call to a line: kind, 0, client, 0, a, b.
+# Header, with so much patience that it does not run out; then a call to a line: kind, 0, client, 0, a, b.
 WHOLE_CASE = bytes.fromhex("""
-    0200 0100 05000000 0200 0e00 10000000
+    0200 0100 05000000 0200 0e00 14000000 ffffffff
     00 00 0000 00000000 0a00000000000000 1400000000000000
     00 00 0100 00000000 0000000000000000 0001000000000000
     01 00 0000 00000000 0100000000000000 0000000000000000
@@ -26,7 +27,6 @@ WHOLE_CASE = bytes.fromhex("""
     01 00 0100 00000000 0a00000000000000 0000000000000000
 """)
 CALLS = WHOLE_CASE[HEADER.size:]
-TOP = 2 ** 64 - 1
 
 
 class File(NamedTuple):
@@ -46,43 +46,50 @@ def at_call(place, at=0):
     return HEADER.size + CALL.size * place + at
 
 
-def with_header(calls=b"", levels=2, distance=1, wait=5, clients=2, count=0, offset=HEADER.size):
-    return HEADER.pack(levels, distance, wait, clients, count, offset) + calls
+def with_header(calls=b"", levels=2, distance=1, wait=5, clients=2, count=0, offset=HEADER.size, patience=MOST_PATIENCE):
+    return HEADER.pack(*Header(levels, distance, wait, clients, count, offset, patience)) + calls
 
 
-def of_calls(*calls, levels=2, distance=1, wait=5, clients=2):
-    return encode(Schedule(Settings(levels, distance, wait), clients, calls))
+def of_calls(*calls, levels=2, distance=1, wait=5, clients=2, patience=MOST_PATIENCE):
+    return encode(Schedule(Settings(levels, distance, wait, patience), clients, calls))
 
 
 def lengths():
-    """At most 65,536 bytes: what is after the last call is ignored up to there, and 2,730 calls fit."""
+    """At most 65,536 bytes: what is after the last call is ignored up to there, and 2,729 calls fit. At least 20, also where the offset
+    says that the calls begin before."""
     yield "empty input", File(b"", 10)
-    for length in (1, 15):
+    for length in (1, 15, 16, 17, 18, 19):
         yield f"{length} bytes", File(WHOLE_CASE[:length], 10)
+        yield f"{length} bytes, offset {length} and no calls", File(with_header(offset=length)[:length], 10)
     yield "a header and no calls", File(with_header())
-    yield "a header cut off from its calls", File(WHOLE_CASE[:16], 10)
+    yield "a header cut off from its calls", File(WHOLE_CASE[:HEADER.size], 10)
+    yield "calls behind a header without P", File(with_header(offset=16, count=14)[:16] + CALLS, 10)
     yield "the last byte cut off", File(WHOLE_CASE[:-1], 10)
     yield "a byte after the last call", File(WHOLE_CASE + b"\xff")
     for length, number in ((LONGEST - 1, 0), (LONGEST, 0), (LONGEST + 1, 10), (2 * LONGEST, 10), (2 ** 20, 10)):
         yield f"{length} bytes, most after the last call", File(WHOLE_CASE.ljust(length, b"\xff"), number)
-    steps = [Call("step", place % 2, place) for place in range(2731)]
-    yield "2730 calls, 65536 bytes", File(of_calls(*steps[:2730]))
-    yield "2731 calls, 65560 bytes", File(of_calls(*steps), 10)
+    many = of_calls(*(Call("step", place % 2, place) for place in range(2730)))
+    fit = many[HEADER.size:-CALL.size]
+    yield "2729 calls, 65516 bytes", File(with_header(fit, count=2729))
+    yield "2729 calls, 65536 bytes", File(with_header(bytes(20) + fit, count=2729, offset=40))
+    yield "2729 calls, 65537 bytes", File(with_header(bytes(21) + fit, count=2729, offset=41), 10)
+    yield "2730 calls, 65540 bytes", File(many, 10)
 
 
 def offsets():
-    """An offset below 16, or with the calls over the file's length, also where a sum of 16 or 32 bits would wrap."""
-    for offset in (0, 1, 15):
+    """An offset below 20, or with the calls over the file's length, also where a sum of 16 or 32 bits would wrap."""
+    least = HEADER.size
+    for offset in (0, 1, 15, 16, 17, 18, 19):
         yield f"offset {offset}", File(with_header(CALLS, count=14, offset=offset), 10)
         yield f"offset {offset} and no calls", File(with_header(CALLS, offset=offset), 10)
     for between in (1, 8, 24, 1000):
-        data = with_header(b"\xff" * between + CALLS, count=14, offset=16 + between)
-        yield f"offset {16 + between} with filled bytes before it", File(data)
-    yield "offset at the second call", File(with_header(CALLS, count=13, offset=40))
+        data = with_header(b"\xff" * between + CALLS, count=14, offset=least + between)
+        yield f"offset {least + between} with filled bytes before it", File(data)
+    yield "offset at the second call", File(with_header(CALLS, count=13, offset=at_call(1)))
     length = len(WHOLE_CASE)
     for offset, number in ((length, 0), (length + 1, 10), (65536, 10), (2 ** 32 - 1, 10)):
         yield f"offset {offset} and no calls in {length} bytes", File(with_header(CALLS, offset=offset), number)
-    for offset in (17, length, 2 ** 32 - 24 * 14, 2 ** 32 - 24 * 14 + 16, 65536 + 16):
+    for offset in (least + 1, length, 2 ** 32 - 24 * 14, 2 ** 32 - 24 * 14 + least, 65536 + least):
         yield f"offset {offset} and 14 calls in {length} bytes", File(with_header(CALLS, count=14, offset=offset), 10)
     for count, number in ((13, 0), (15, 10), (2731, 10), (65535, 10)):
         yield f"{count} counted of 14 calls", File(with_header(CALLS, count=count), number)
@@ -109,24 +116,29 @@ def kinds_and_zero_fields():
 def openings():
     """Refused openings, H over 6, clients over 64, and which of 10, 11, 1 and 3 is tested first."""
     refused = {
-        "m 0": (1, dict(distance=0)), "m 5": (1, dict(distance=5)), "T 0": (1, dict(wait=0)), "H 0": (1, dict(levels=0)),
+        "m 0": (1, dict(distance=0)), "m 5": (1, dict(distance=5)), "T 0": (1, dict(wait=0)), "P 0": (1, dict(patience=0)),
+        "H 0": (1, dict(levels=0)),
         "H 1": (1, dict(levels=1)), "m 65535": (1, dict(distance=65535)), "no clients": (3, dict(clients=0)),
-        "m 0 and no clients": (1, dict(distance=0, clients=0)), "H 7": (11, dict(levels=7)), "H 12": (11, dict(levels=12)),
+        "m 0 and no clients": (1, dict(distance=0, clients=0)), "P 0 and no clients": (1, dict(patience=0, clients=0)),
+        "H 7": (11, dict(levels=7)), "H 12": (11, dict(levels=12)),
         "H 13": (11, dict(levels=13)), "H 65535": (11, dict(levels=65535)), "65 clients": (11, dict(clients=65)),
         "65535 clients": (11, dict(clients=65535)), "H 258": (11, dict(levels=258)), "256 clients": (11, dict(clients=256)),
         "H 7 and no clients": (11, dict(levels=7, clients=0)), "H 7 and m 0": (11, dict(levels=7, distance=0)),
         "H 1 and 65 clients": (11, dict(levels=1, clients=65)), "T 0 and 65 clients": (11, dict(wait=0, clients=65)),
+        "P 0 and 65 clients": (11, dict(patience=0, clients=65)),
     }
     for name, (number, settings) in refused.items():
         yield name, File(with_header(CALLS, count=14, **settings), number)
         yield f"{name}, no calls", File(with_header(**settings), number)
-        yield f"{name}, offset 15", File(with_header(CALLS, count=14, offset=15, **settings), 10)
+        yield f"{name}, offset 19", File(with_header(CALLS, count=14, offset=19, **settings), 10)
         yield f"{name}, kind 4 in the last call", File(changed(with_header(CALLS, count=14, **settings), at_call(13), 4), 10)
         yield f"{name}, 65537 bytes", File(with_header(CALLS, count=14, **settings).ljust(LONGEST + 1, b"\0"), 10)
     for levels, clients in ((2, 1), (2, 64), (3, 63), (4, 2), (5, 64), (6, 1), (6, 64)):
         for distance, wait in ((1, 1), (4, 2 ** 32 - 1)):
             name = f"H {levels}, m {distance}, T {wait} and {clients} clients"
             yield name, File(with_header(CALLS, levels, distance, wait, clients, count=14))
+    for patience in (1, 255, 256, 65535, 65536, 2 ** 31):
+        yield f"P {patience}", File(with_header(CALLS, count=14, patience=patience))
 
 
 def calls():
@@ -174,9 +186,39 @@ def standing():
     yield "64 clients with clocks of 20 digits", File(of_calls(*requests, *many, levels=6, distance=4, wait=600, clients=64))
 
 
+# Client 0 has taken its first leaf at clock 3 and is blocked by the root, at which client 1 waits for that leaf's notice.
+BOTH_WAIT = [
+    Call("request", 0, 60, 70), *steps(0, 1, 3), Call("request", 1, 0, 256), *steps(1, 3, 3), Call("step", 0, 6), *steps(1, 10, 2)]
+
+
+def patience():
+    """Patience that runs out in each phase of a second piece, inner or leaf; at the clock at which it does and beside it; where a claim is
+    late as well. It does not run out for a window of one piece, nor where both are held or a release or a cancel came first."""
+    inner, leaves, single = ([Call("request", 0, left, right), *steps(0, 1, 40)] for left, right in ((100, 400), (60, 70), (0, 256)))
+    for allowed in range(1, 12):
+        yield f"P {allowed}, two inner pieces", File(of_calls(*inner, levels=3, patience=allowed))
+        yield f"P {allowed}, two inner pieces, to the end of P", File(of_calls(*inner[:11 + allowed], levels=3, patience=allowed))
+    for allowed in range(1, 5):
+        yield f"P {allowed}, two leaves", File(of_calls(*leaves, patience=allowed))
+        yield f"P {allowed}, two leaves, to the end of P", File(of_calls(*leaves[:4 + allowed], patience=allowed))
+    yield "P 1, one piece", File(of_calls(*single, levels=3, patience=1))
+    for name, calls in {"one piece": single, "two inner pieces": inner}.items():
+        yield f"P 11, {name} given back", File(of_calls(*calls, Call("release", 0), *steps(0, 41, 1), levels=3, patience=11))
+    for since in (19, 20, 21, 2 ** 32, TOP - 10):
+        end = [Call("step", 0, 3 + since), Call("step", 1, 2 + since), *steps(0, 4 + since, 2), *steps(1, 6 + since, 2)]
+        yield f"both wait, P 20, a step {since} after the first piece", File(of_calls(*BOTH_WAIT, *end, patience=20))
+    asked_again = [*steps(0, 23, 3), *steps(1, 26, 1), Call("request", 0, 60, 70), Call("release", 1), *steps(1, 27, 2), *steps(0, 29, 6)]
+    yield "both wait, P 20, and both windows are taken", File(of_calls(*BOTH_WAIT, *asked_again, patience=20))
+    for allowed in (6, 7):
+        late = [*leaves[:6], Call("step", 0, 9), *steps(0, 9, 4)]
+        yield f"P {allowed}, a claim late 6 after the first piece", File(of_calls(*late, patience=allowed))
+    cancelled = [Call("step", 1, 50), Call("cancel", 0), *steps(0, 51, 1)]
+    yield "both wait, P 20, and a cancel after 47", File(of_calls(*BOTH_WAIT, *cancelled, patience=20))
+
+
 def by_group():
     """Each group of files, by name."""
     groups = {"lengths": lengths, "offsets": offsets, "kinds and zero fields": kinds_and_zero_fields,
               "settings and clients": openings, "calls of every kind": calls,
-              "clients in the middle": standing}
+              "clients in the middle": standing, "patience": patience}
     return {group: dict(files()) for group, files in groups.items()}

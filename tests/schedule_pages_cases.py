@@ -62,14 +62,17 @@ def planners_words(settings, client, record):
     return f"{said} [{record.left}, {record.right}) {nodes_in_words(first, second)} {beyond}"
 
 
-def run_words(client, record, held):
-    """A run's line: the count, the phase, and every other field that is not 0 in the document's order."""
+def run_words(settings, client, record, held):
+    """A run's line: the count, the phase, and every other field that is not 0 in the documents' order; at a second piece that is not taken
+    the end of its patience."""
     fields = [f"outcome {record.outcome} {OUTCOMES[record.outcome]}"] if record.outcome else []
     if record.phase:
         name = "nodes" if record.second else "node"
         fields += [f"window [{record.left}, {record.right})", f"{name} {nodes_in_words(record.first, record.second)}"]
-    names = "current giving grip ticket place notices t1 t0".split()
+    names = "current giving grip ticket place notices t1 t0 taken".split()
     fields += [f"{name} {value}" for name, value in zip(names, record[-len(names):], strict=True) if value]
+    if record.current == 1 and record.phase in range(1, 9):
+        fields += [f"patience until clock {record.taken + settings.patience}"]
     return f"{client} {held} {record.phase} {PHASES[record.phase]} {', '.join(fields)}"
 
 
@@ -80,9 +83,9 @@ BETWEEN = ["Over-cover: units beyond the window that its nodes lock with it.", "
 
 
 def when(read, clock):
-    h, m, wait = read.settings
+    h, m, wait, patience = read.settings
     calls = "1 call" if len(read.calls) == 1 else f"{len(read.calls)} calls"
-    return f"After {calls}, at clock {clock}, in a tree of {h} levels (m {m}, wait {wait})"
+    return f"After {calls}, at clock {clock}: {h} levels, m {m}, wait {wait}, patience {patience}"
 
 
 def refused_words(refused, calls):
@@ -98,7 +101,7 @@ def expected_words(read):
     records, clock, refused = after(read)
     held = sum(record.phase == 9 for record in records)
     planners = [planners_words(read.settings, client, record) for client, record in enumerate(records)]
-    runs = [run_words(client, record, held) for client, record in enumerate(records)]
+    runs = [run_words(read.settings, client, record, held) for client, record in enumerate(records)]
     lines = [when(read, clock), *ABOVE, *planners, *BETWEEN, *runs, *refused_words(refused, len(read.calls))]
     return [line.split() for line in lines]
 
@@ -174,8 +177,11 @@ CHANGED = {
                              + PRINTED[:-2][-80:].replace("\n", "\\n") + "`"),
     "another over-cover": (PRINTED.replace("1 9 0 256 1 0 0\n", "1 9 0 256 1 0 1\n"),
                            f"line 2 that rangepages printed is `1 9 0 256 1 0 1`, and the model says `1 9 0 256 1 0 0`: {WRONG}"),
-    "another count": (PRINTED.replace("3 1\n", "3 2\n"), "line 4 that rangepages printed is `1 9 0 0 256 1 0 0 0 3 0 0 0 0 3 2`, "
-                      f"and the model says `1 9 0 0 256 1 0 0 0 3 0 0 0 0 3 1`: {WRONG}"),
+    "another count": (PRINTED.replace("3 10 1\n", "3 10 2\n"), "line 4 that rangepages printed is `1 9 0 0 256 1 0 0 0 3 0 0 0 0 3 10 2`, "
+                      f"and the model says `1 9 0 0 256 1 0 0 0 3 0 0 0 0 3 10 1`: {WRONG}"),
+    "another time of the first piece": (PRINTED.replace("3 10 1\n", "3 9 1\n"), "line 4 that rangepages printed is "
+                                        "`1 9 0 0 256 1 0 0 0 3 0 0 0 0 3 9 1`, and the model says "
+                                        f"`1 9 0 0 256 1 0 0 0 3 0 0 0 0 3 10 1`: {WRONG}"),
 }
 
 

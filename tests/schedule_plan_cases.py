@@ -24,28 +24,35 @@ WISH = "a wish is written as in `run 7 wants 100 220 from 30 for 40`; got "
 # Wishes, and what is said of them.
 WRONG = {
     "nothing": ("", "line 1: " + WISH + "nothing"),
-    "settings alone": ("tree 2 m 1 wait 5 clients 2\n", "line 2: " + WISH + "nothing"),
+    "settings alone": ("tree 2 m 1 wait 5 patience 20 clients 2\n", "line 2: " + WISH + "nothing"),
     "a call": ("run 0 wants 1 2 from 3 for 4\nstep 0 1", "line 2: " + WISH + "`step 0 1`"),
     "two wrong wishes": ("run a wants 1 2 from 3 for 4\nrun 0 wants 1 from 3 for 4",
                          "line 1: run must be a number from 0 to 65535; got `a`\nline 2: " + WISH + "`run 0 wants 1 from 3 for 4`"),
     "an empty window": ("run 0 wants 2 2 from 3 for 4", "line 1: the left edge 2 is not below the right edge 2"),
     "a window past the highest tree": ("run 0 wants 2 65537 from 3 for 4", "line 1: the right edge 65537 is past the 65536 units of 6 levels"),
-    "a window past the named tree": ("tree 2 m 1 wait 5 clients 2\nrun 0 wants 2 257 from 3 for 4",
+    "a window past the named tree": ("tree 2 m 1 wait 5 patience 20 clients 2\nrun 0 wants 2 257 from 3 for 4",
                                      "line 2: the right edge 257 is past the 256 units of 2 levels"),
     "run 64": ("run 64 wants 2 3 from 3 for 4", "line 1: there is no client 64: with 64 clients they are 0 to 63"),
-    "a client past the named table": ("tree 2 m 1 wait 5 clients 2\nrun 2 wants 1 2 from 3 for 4",
+    "a client past the named table": ("tree 2 m 1 wait 5 patience 20 clients 2\nrun 2 wants 1 2 from 3 for 4",
                                       "line 2: there is no client 2: with 2 clients they are 0 to 1"),
-    "settings that are refused": ("tree 7 m 1 wait 5 clients 2\nrun 1 wants 1 2 from 3 for 4",
+    "settings that are refused": ("tree 7 m 1 wait 5 patience 20 clients 2\nrun 1 wants 1 2 from 3 for 4",
                                   "line 1: rangelog and rangepages run trees of at most 6 levels, not 7"),
+    "settings without patience": ("tree 2 m 1 wait 5 clients 2\nrun 1 wants 1 2 from 3 for 4",
+                                  "line 1: the first line lacks patience: it wants the settings, as in "
+                                  "`tree 2 m 1 wait 5 patience 20 clients 2`; got `tree 2 m 1 wait 5 clients 2`"),
+    "a patience of 0": ("tree 2 m 1 wait 5 patience 0 clients 2\nrun 1 wants 1 2 from 3 for 4", "line 1: the patience is at least 1, not 0"),
+    "a patience no longer than the wait": ("tree 3 m 1 wait 5 patience 5 clients 2\nrun 1 wants 60 70 from 3 for 4\nrun 1 wants 100 400 from 3 for 4",
+                                           "line 3: [100, 400) can never be held: its second piece, node 3, takes the wait of 5 at least, "
+                                           "and the patience of 5 is over by then; a patience above the wait is needed"),
     "an end past all clocks": (f"run 0 wants 1 2 from {2 ** 64 - 1} for 4",
                                f"line 1: a plan's clocks end at {2 ** 62}; this wish goes on to {2 ** 64 + 3}"),
 }
 
 # Wishes with settings, and how many cancels their plan has: one where a run that came later is in the way of one that came before.
 RINGS = {
-    "a claim below a notice": ("tree 3 m 1 wait 5 clients 2\nrun 0 wants 60 70 from 0 for 10\nrun 1 wants 0 256 from 0 for 10\n", 1),
-    "nobody in the way": ("tree 3 m 1 wait 5 clients 2\nrun 0 wants 60 70 from 0 for 10\nrun 1 wants 70 80 from 0 for 10\n", 0),
-    "a wait of one tick": ("tree 6 m 4 wait 1 clients 3\nrun 0 wants 60 70 from 0 for 10\nrun 1 wants 0 65536 from 0 for 10\nrun 2 wants 0 1 from 0 for 0", 1),
+    "a claim below a notice": ("tree 3 m 1 wait 5 patience 20 clients 2\nrun 0 wants 60 70 from 0 for 10\nrun 1 wants 0 256 from 0 for 10\n", 1),
+    "nobody in the way": ("tree 3 m 1 wait 5 patience 20 clients 2\nrun 0 wants 60 70 from 0 for 10\nrun 1 wants 70 80 from 0 for 10\n", 0),
+    "a wait of one tick": ("tree 6 m 4 wait 1 patience 20 clients 3\nrun 0 wants 60 70 from 0 for 10\nrun 1 wants 0 65536 from 0 for 10\nrun 2 wants 0 1 from 0 for 0", 1),
 }
 
 
@@ -55,7 +62,9 @@ def drawn_wishes(seed):
     levels, clients = rng.randint(2, 6), rng.randint(1, 12)
     units = 64 * 4 ** (levels - 1)
     if rng.random() < 0.5:
-        yield f"tree {levels} m {rng.randint(1, 4)} wait {rng.choice([1, 2, 5, 20, 1000])} clients {clients}"
+        wait = rng.choice([1, 2, 5, 20, 1000])
+        patience = wait + rng.choice([1, 2, 10, 40, 100000])
+        yield f"tree {levels} m {rng.randint(1, 4)} wait {wait} patience {patience} clients {clients}"
     for _ in range(rng.randint(1, 14)):
         size = min(units, int(2 ** rng.uniform(0, units.bit_length())))
         left = rng.randint(0, units - size)
@@ -110,7 +119,7 @@ def plans():
 
 
 def crowded():
-    """More wishes than 2,730 calls serve: the first are served, and each other one is named in the comments and on standard error."""
+    """More wishes than 2,729 calls serve: the first are served, and each other one is named in the comments and on standard error."""
     for seed in range(3):
         rng = Random(f"crowd {seed}")
         wishes = [f"run {rng.randrange(20)} wants {left} {left + 40} from {10 * place} for 5"

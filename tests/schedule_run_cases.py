@@ -17,13 +17,14 @@ from scheduling.packed import read_file
 from scheduling.report import report
 from scheduling.waiting import wait_of
 
-NAMES["report of a schedule"] = ("seed",), ("rows", "unlike the log and the model", "held lines unlike", "counts unlike")
+NAMES["report of a schedule"] = ("seed",), ("rows", "unlike the log and the model", "lines on windows unlike", "counts unlike")
+NAMES["windows given up"] = (), ("in some report",)
 NAMES["waiting client"] = ("seed", "client"), ("waits", "named clients that are idle or itself")
 NAMES["line of a report"] = ("place in the list of reports", "line"), ("as expected",)
 NAMES["run"] = ("place in the list of files",), ("exit status", "log as rangelog's", "said why")
 
 PHASES = ["idle", "ticket", "turn", "climb", "blocked", "claim", "notify", "wait", "check", "held", "returning"]
-OUTCOMES = ["", "released", "late", "cancelled"]
+OUTCOMES = ["", "released", "late", "cancelled", "out of patience"]
 
 
 def lines_of(data):
@@ -63,13 +64,21 @@ def held_by_model(read):
     return [f"  client {client} held [{left}, {right}) {start} {end}" for client, (left, right), start, end in found]
 
 
+def given_up_by_model(read):
+    """The lines on who gave a window up: a step of a second piece that ends in 10 with outcome 4."""
+    for place, (opened, made, before, after) in enumerate(run_by_model(read)):
+        if made.call.kind == "step" and before.phase != 10 and (after.phase, after.outcome) == (10, 4):
+            since = f"it had its first piece since clock {before.taken}, and its patience is {read.settings.patience}"
+            yield f"  client {made.call.client} gave [{before.left}, {before.right}) up at clock {opened.clock} (call {place}): {since}"
+
+
 def counted_by_model(read):
     ended, refused = Counter(), 0
     for _, made, before, after in run_by_model(read):
         refused += made.number != 0
         if made.number == 0 and before.outcome == 0 and after.outcome:
             ended[after.outcome] += 1
-    counted = ", ".join(f"{ended[number]} {OUTCOMES[number]}" for number in (1, 2, 3))
+    counted = ", ".join(f"{ended[number]} {OUTCOMES[number]}" for number in (1, 2, 3, 4))
     return [f"  {counted}", f"  {len(read.calls)} calls, {refused} refused"]
 
 
@@ -82,8 +91,23 @@ def unlike_rows(rows, read, log):
     return unlike
 
 
+def section(lines, title):
+    """The lines below a title of the summary, up to the next blank one."""
+    if title not in lines:
+        return []
+    below = lines[lines.index(title) + 1:]
+    return below[:below.index("")] if "" in below else below
+
+
+def windows_unlike(rest, read):
+    """How many of the two sections on who held and who gave up are not the model's, without the deeper lines that say why."""
+    gave_up = [line for line in section(rest, "Given up, out of patience") if not line.startswith("    ")]
+    return (section(rest, "Held") != (held_by_model(read) or ["  nobody"])) + (gave_up != list(given_up_by_model(read)))
+
+
 def reports():
-    """Random schedules: every row, the lines on who held what, and the counts."""
+    """Random schedules: every row, the lines on who held what and who gave up, and the counts."""
+    given_up = 0
     for seed in range(120):
         data = drawn("contended" if seed % 3 else "well-formed", seed)
         read, log = schedule.decode(data), schedule.log(data).splitlines()
@@ -91,16 +115,17 @@ def reports():
             continue
         lines = lines_of(data)
         rows, rest = lines[1:1 + len(read.calls)], lines[1 + len(read.calls):]
-        held = rest[rest.index("Held") + 1:rest.index("Not idle and not holding at the end") - 1]
-        counts = rest[rest.index("In all") + 1:]
-        wanted = counted_by_model(read)
-        answer = (len(rows), unlike_rows(rows, read, log), int(held != (held_by_model(read) or ["  nobody"])),
+        counts, wanted = section(rest, "In all"), counted_by_model(read)
+        given_up += "Given up, out of patience" in rest
+        answer = (len(rows), unlike_rows(rows, read, log), windows_unlike(rest, read),
                   int(not all(line.startswith(start) for line, start in zip_longest(counts, wanted, fillvalue="?"))))
         yield case("report of a schedule", [seed], (len(read.calls), 0, 0, 0)), answer
+    yield case("windows given up", [], 1), int(given_up > 0)
 
 
 def waiting_clients():
-    """A client waits for others exactly if its next step, at a clock at which no wait by clock is left, would not bring it on."""
+    """A client waits for others exactly if its next step, at a clock at which no wait by clock is left, would not bring it on while it has
+    patience."""
     for seed in range(80):
         read = schedule.decode(drawn("contended", seed))
         if isinstance(read, int):
@@ -115,13 +140,18 @@ def waiting_clients():
             yield case("waiting client", [seed, client], (int(not gets_on(read.settings, opened, client)), 0)), (waits, wrong)
 
 
+def with_patience(record, clock):
+    """A record whose first piece, if it has one, was taken at this clock."""
+    return record._replace(taken=clock) if record.current else record
+
+
 def gets_on(settings, opened, client):
     """Whether a client that alone makes steps comes to another phase than those that lead back to where it is, for instance from claim to
     climb and back: it is then held, idle, or at a piece or place that it has not been at."""
     words, records, clock = list(opened.words), list(opened.records), opened.clock + settings.wait
     alone = Opened(settings, list(words), list(records))
+    first = records[client] = with_patience(records[client], clock)
     alone.words[:], alone.records[:], alone.clock = words, records, clock
-    first = records[client]
     if first.phase in (3, 4, 5):
         for _ in range(40):
             made = alone.make(schedule.Call("step", client, clock))
@@ -134,19 +164,28 @@ def gets_on(settings, opened, client):
 
 # The end of a schedule's report, for each thing that a client can wait for.
 WAITS = {
-    "its turn": ("tree 2 m 1 wait 5 clients 3\nrequest 0 0 256\nrequest 1 0 200\nrequest 2 0 256\nstep 0 1\nstep 1 1\nstep 2 1\nstep 0 1", 2,
+    "its turn": ("tree 2 m 1 wait 5 patience 20 clients 3\nrequest 0 0 256\nrequest 1 0 200\nrequest 2 0 256\nstep 0 1\nstep 1 1\nstep 2 1\nstep 0 1", 2,
                  "client 2 [0, 256), phase 2 turn, waits for client 0 and client 1: its turn, node 1"),
-    "a turn to give back": ("tree 2 m 1 wait 5 clients 2\nrequest 0 0 256\nrequest 1 0 200\nstep 0 1\nstep 1 1\ncancel 1", 1,
+    "a turn to give back": ("tree 2 m 1 wait 5 patience 20 clients 2\nrequest 0 0 256\nrequest 1 0 200\nstep 0 1\nstep 1 1\ncancel 1", 1,
                             "client 1 [0, 200), phase 10 returning, cancelled, waits for client 0: its turn, node 1"),
-    "an ancestor": ("tree 2 m 1 wait 5 clients 2\nrequest 0 0 256\nrequest 1 0 9\nstep 0 1\nstep 0 1\nstep 0 1\nstep 1 1", 1,
+    "an ancestor": ("tree 2 m 1 wait 5 patience 20 clients 2\nrequest 0 0 256\nrequest 1 0 9\nstep 0 1\nstep 0 1\nstep 0 1\nstep 1 1", 1,
                     "client 1 [0, 9), phase 4 blocked, waits for client 0: an occupied node above, node 1"),
-    "units": ("tree 2 m 1 wait 5 clients 2\nrequest 0 5 6\nrequest 1 0 9\nstep 0 1\nstep 1 1\nstep 0 1", 1,
+    "units": ("tree 2 m 1 wait 5 patience 20 clients 2\nrequest 0 5 6\nrequest 1 0 9\nstep 0 1\nstep 1 1\nstep 0 1", 1,
               "client 1 [0, 9), phase 5 claim, waits for client 0: units of its leaf that are taken, node 2"),
-    "notices": ("tree 2 m 1 wait 5 clients 2\nrequest 0 5 6\nstep 0 1\nstep 0 1\nstep 0 1\nrequest 1 0 256\nstep 1 1\nstep 1 1\nstep 1 1\nstep 1 6", 1,
+    "notices": ("tree 2 m 1 wait 5 patience 20 clients 2\nrequest 0 5 6\nstep 0 1\nstep 0 1\nstep 0 1\nrequest 1 0 256\nstep 1 1\nstep 1 1\nstep 1 1\nstep 1 6", 1,
                 "client 1 [0, 256), phase 8 check, waits for client 0: notices below its node, node 1"),
-    "the clock": ("tree 2 m 1 wait 5 clients 2\nrequest 1 0 256\nstep 1 1\nstep 1 1\nstep 1 3", 1,
+    "the clock": ("tree 2 m 1 wait 5 patience 20 clients 2\nrequest 1 0 256\nstep 1 1\nstep 1 1\nstep 1 3", 1,
                   "client 1 [0, 256), phase 7 wait, waits for nobody: until clock 8"),
-    "steps": ("tree 2 m 1 wait 5 clients 2\nrequest 1 0 256", 1, "client 1 [0, 256), phase 1 ticket, waits for nobody: it needs steps"),
+    "others, with patience": ("tree 2 m 1 wait 5 patience 20 clients 2\nrequest 0 60 70\nrequest 1 64 65\nstep 1 1\nstep 1 1\nstep 1 1\n"
+                              "step 0 2\nstep 0 2\nstep 0 2\nstep 0 21\nstep 0 21", 0,
+                              "client 0 [60, 70), phase 3 climb, waits for client 1: units of its leaf that are taken, node 3; "
+                              "its patience is over at clock 22"),
+    "the clock, with patience": ("tree 3 m 1 wait 5 patience 20 clients 1\nrequest 0 60 400\n" + "step 0 1\n" * 5 + "step 0 6\n" * 7, 0,
+                                 "client 0 [60, 400), phase 7 wait, waits for nobody: until clock 11; its patience is over at clock 26"),
+    "nothing, out of patience": ("tree 2 m 1 wait 5 patience 20 clients 2\nrequest 0 60 70\nstep 0 2\nstep 0 2\nstep 0 2\nstep 1 22", 0,
+                                 "client 0 [60, 70), phase 3 climb, waits for nobody: its patience was over at clock 22, "
+                                 "and its next step begins to give back"),
+    "steps": ("tree 2 m 1 wait 5 patience 20 clients 2\nrequest 1 0 256", 1, "client 1 [0, 256), phase 1 ticket, waits for nobody: it needs steps"),
 }
 
 

@@ -22,8 +22,9 @@ NAMES["line of the guide"] = ("line",), ("as in the whole case",)
 NAMES["foreseen refusals"] = ("seed",), ("those of the log", "of the whole, if it is refused")
 NAMES["unpacking"] = ("place in the list of files", "bytes"), ("refused",)
 
-HEAD = "tree 2 m 1 wait 5 clients 2\n"
-SETTINGS = "line 1: the first line wants the settings, as in `tree 2 m 1 wait 5 clients 2`; got "
+HEAD = "tree 2 m 1 wait 5 patience 20 clients 2\n"
+WANTS = "wants the settings, as in `tree 2 m 1 wait 5 patience 20 clients 2`; got "
+SETTINGS = "line 1: the first line " + WANTS
 CALL = "a call is one of request, step, release, cancel; got "
 STEP = "step wants a client and a clock, as in `step 0 12`; got "
 U64 = " must be a number from 0 to 18446744073709551615; got "
@@ -34,13 +35,23 @@ TEXT_ERRORS = {
     "no text": ("", SETTINGS + "nothing"),
     "comments alone": ("# nothing\n\n", SETTINGS + "nothing"),
     "no settings": ("step 0 1\n", SETTINGS + "`step 0 1`"),
-    "a setting left out": ("tree 2 m 1 wait 5\n", SETTINGS + "`tree 2 m 1 wait 5`"),
-    "settings in another order": ("m 1 tree 2 wait 5 clients 2", SETTINGS + "`m 1 tree 2 wait 5 clients 2`"),
-    "a tree of 65536": ("tree 65536 m 1 wait 5 clients 2", "line 1: tree must be a number from 0 to 65535; got `65536`"),
-    "an m of x": ("tree 2 m x wait 5 clients 2", "line 1: m must be a number from 0 to 65535; got `x`"),
-    "a wait of 2^32": ("\ntree 2 m 1 wait 4294967296 clients 2",
+    "patience left out": ("tree 2 m 1 wait 5 clients 2\n", "line 1: the first line lacks patience: it " + WANTS + "`tree 2 m 1 wait 5 clients 2`"),
+    "patience left out on line 3": ("# why\n\ntree 3 m 2 wait 9 clients 4\nstep 0 1",
+                                    "line 3: the first line lacks patience: it " + WANTS + "`tree 3 m 2 wait 9 clients 4`"),
+    "three settings left out": ("tree 2 wait 5\n", "line 1: the first line lacks m, patience and clients: it " + WANTS + "`tree 2 wait 5`"),
+    "patience twice": ("tree 2 m 1 wait 5 patience 20 patience 20 clients 2",
+                       "line 1: the first line has patience twice: it " + WANTS + "`tree 2 m 1 wait 5 patience 20 patience 20 clients 2`"),
+    "patience in place of the wait": ("tree 2 m 1 patience 5 patience 20 clients 2",
+                                      "line 1: the first line lacks wait: it " + WANTS + "`tree 2 m 1 patience 5 patience 20 clients 2`"),
+    "a patience without a number": ("tree 2 m 1 wait 5 clients 2 patience", SETTINGS + "`tree 2 m 1 wait 5 clients 2 patience`"),
+    "settings in another order": ("m 1 tree 2 wait 5 patience 20 clients 2", SETTINGS + "`m 1 tree 2 wait 5 patience 20 clients 2`"),
+    "a tree of 65536": ("tree 65536 m 1 wait 5 patience 20 clients 2", "line 1: tree must be a number from 0 to 65535; got `65536`"),
+    "an m of x": ("tree 2 m x wait 5 patience 20 clients 2", "line 1: m must be a number from 0 to 65535; got `x`"),
+    "a wait of 2^32": ("\ntree 2 m 1 wait 4294967296 patience 20 clients 2",
                        "line 2: wait must be a number from 0 to 4294967295; got `4294967296`"),
-    "clients of -1": ("tree 2 m 1 wait 5 clients -1", "line 1: clients must be a number from 0 to 65535; got `-1`"),
+    "a patience of 2^32": ("tree 2 m 1 wait 5 patience 4294967296 clients 2",
+                           "line 1: patience must be a number from 0 to 4294967295; got `4294967296`"),
+    "clients of -1": ("tree 2 m 1 wait 5 patience 20 clients -1", "line 1: clients must be a number from 0 to 65535; got `-1`"),
     "a step without a clock": (HEAD + "\n" * 5 + "step 0\n", "line 7: " + STEP + "`step 0`"),
     "a step with two clocks": (HEAD + "step 0 1 2", "line 2: " + STEP + "`step 0 1 2`"),
     "a request with one edge": (HEAD + "request 0 10 # 20", "line 2: " + REQUEST + "`request 0 10`"),
@@ -61,10 +72,10 @@ TEXT_ERRORS = {
     "a text that goes on": (HEAD + "#" * 2 ** 20, "byte 1048576: a text has at most 1048576 bytes; this one goes on"),
     "three wrong lines": (HEAD + "stop 0\nstep 0 1\n\nstep a b\n",
                           "line 2: " + CALL + "`stop 0`\nline 5: client must be a number from 0 to 65535; got `a`\nline 5: clock" + U64 + "`b`"),
-    "settings and a call wrong": ("tree 2 m x wait 5 clients 2\nstop",
+    "settings and a call wrong": ("tree 2 m x wait 5 patience 20 clients 2\nstop",
                                   "line 1: m must be a number from 0 to 65535; got `x`\nline 2: " + CALL + "`stop`"),
-    "2731 calls": (HEAD + "# many\n" + "cancel 0\n" * 2731,
-                   "line 2733: a schedule has at most 2730 calls, since its file has at most 65536 bytes"),
+    "2730 calls": (HEAD + "# many\n" + "cancel 0\n" * 2730,
+                   "line 2732: a schedule has at most 2729 calls, since its file has at most 65536 bytes"),
 }
 
 # A text that is packed all the same, and what is said of what the lock will refuse.
@@ -76,39 +87,44 @@ TEXT_WARNINGS = {
     "a clock that goes back": (HEAD + "step 0 5\nstep 9 9\nstep 1 4 # now\nstep 1 5",
                                "line 3: warning: there is no client 9: with 2 clients they are 0 to 1; the lock will refuse this call by 4\n"
                                "line 4: warning: clock 4 is below the last clock 5; the lock will refuse this call by 5"),
-    "seven levels": ("# high\ntree 7 m 1 wait 5 clients 2\nstep 9 9", "line 2: warning: rangelog and rangepages run trees of at most 6 levels, not 7; refused by 11"),
-    "no wait and no clients": ("tree 2 m 1 wait 0 clients 0", "line 1: warning: the wait is at least 1, not 0; refused by 1\n"
-                                                              "line 1: warning: there is at least 1 client, not 0; refused by 3"),
+    "seven levels": ("# high\ntree 7 m 1 wait 5 patience 20 clients 2\nstep 9 9", "line 2: warning: rangelog and rangepages run trees of at most 6 levels, not 7; refused by 11"),
+    "no patience": ("tree 2 m 1 wait 5 patience 0 clients 2\nstep 9 9", "line 1: warning: the patience is at least 1, not 0; refused by 1"),
+    "no wait, no patience and no clients": ("tree 2 m 1 wait 0 patience 0 clients 0",
+                                            "line 1: warning: the wait is at least 1, not 0; refused by 1\n"
+                                            "line 1: warning: the patience is at least 1, not 0; refused by 1\n"
+                                            "line 1: warning: there is at least 1 client, not 0; refused by 3"),
 }
 
 # A file, and what is said of it.
 FILE_ERRORS = {
     "a text": ((HEAD + "step 0 1").encode(), "byte 0: this is a text and no packed file, in which some byte is 0; `pack` turns it into one"),
     "two wrong calls": (changed(changed(WHOLE_CASE, at_call(3), 4), at_call(5, 1), 9),
-                        "byte 88: call 3 has the unknown kind 4; known are 0 request, 1 step, 2 release, 3 cancel\n"
-                        "byte 137: call 5, a step, has 9 in a field that must be 0"),
-    "an empty file": (b"", "byte 0: the file ends within its header of 16 bytes"),
-    "15 bytes": (WHOLE_CASE[:15], "byte 15: the file ends within its header of 16 bytes"),
+                        "byte 92: call 3 has the unknown kind 4; known are 0 request, 1 step, 2 release, 3 cancel\n"
+                        "byte 141: call 5, a step, has 9 in a field that must be 0"),
+    "an empty file": (b"", "byte 0: the file ends within its header of 20 bytes"),
+    "a header without patience": (WHOLE_CASE[:16], "byte 16: the file ends within its header of 20 bytes"),
+    "19 bytes": (WHOLE_CASE[:19], "byte 19: the file ends within its header of 20 bytes"),
     "65537 bytes": (bytes(65537), "byte 65536: a file has at most 65536 bytes; this one goes on"),
-    "offset 15": (with_header(offset=15), "byte 12: the offset of the first call must be at least 16; got 15"),
+    "offset 16": (with_header(offset=16), "byte 12: the offset of the first call must be at least 20; got 16"),
+    "offset 19": (with_header(offset=19), "byte 12: the offset of the first call must be at least 20; got 19"),
     "a byte cut off": (WHOLE_CASE[:-1],
-                       "byte 10: 14 calls from byte 16 would end at 16 + 24 * 14 = 352; the file has 351 bytes"),
+                       "byte 10: 14 calls from byte 20 would end at 20 + 24 * 14 = 356; the file has 355 bytes"),
     "kind 4": (changed(WHOLE_CASE, at_call(3), 4),
-               "byte 88: call 3 has the unknown kind 4; known are 0 request, 1 step, 2 release, 3 cancel"),
-    "byte 1 filled": (changed(WHOLE_CASE, at_call(0, 1), 9), "byte 17: call 0, a request, has 9 in a field that must be 0"),
-    "byte 5 filled": (changed(WHOLE_CASE, at_call(1, 5), 1), "byte 44: call 1, a request, has 256 in a field that must be 0"),
-    "b of a step": (changed(WHOLE_CASE, at_call(2, 16), 7), "byte 80: call 2, a step, has 7 in a field that must be 0"),
+               "byte 92: call 3 has the unknown kind 4; known are 0 request, 1 step, 2 release, 3 cancel"),
+    "byte 1 filled": (changed(WHOLE_CASE, at_call(0, 1), 9), "byte 21: call 0, a request, has 9 in a field that must be 0"),
+    "byte 5 filled": (changed(WHOLE_CASE, at_call(1, 5), 1), "byte 48: call 1, a request, has 256 in a field that must be 0"),
+    "b of a step": (changed(WHOLE_CASE, at_call(2, 16), 7), "byte 84: call 2, a step, has 7 in a field that must be 0"),
     "a of a release": (changed(WHOLE_CASE, at_call(10, 8), 7),
-                       "byte 264: call 10, a release, has 7 in a field that must be 0"),
+                       "byte 268: call 10, a release, has 7 in a field that must be 0"),
     "b of a cancel": (changed(changed(WHOLE_CASE, at_call(10), 3), at_call(10, 16), 7),
-                      "byte 272: call 10, a cancel, has 7 in a field that must be 0"),
+                      "byte 276: call 10, a cancel, has 7 in a field that must be 0"),
 }
 
 
 def text_of(read):
     """The text of a schedule, with its lines written without looking at the tool."""
-    h, m, wait = read.settings
-    yield f"tree {h} m {m} wait {wait} clients {read.clients}"
+    h, m, wait, patience = read.settings
+    yield f"tree {h} m {m} wait {wait} patience {patience} clients {read.clients}"
     for call in read.calls:
         others = {"request": f" {call.a} {call.b}", "step": f" {call.a}"}.get(call.kind, "")
         yield f"{call.kind} {call.client}{others}"
@@ -130,8 +146,8 @@ def texts_and_files():
     for seed in range(300):
         rng, data = Random(f"text {seed}"), drawn("refused" if seed % 2 else "well-formed", seed)
         header = schedule.header_of(data)
-        calls = schedule.decode(schedule.HEADER.pack(2, 1, 5, 2, header.count, header.offset) + data[16:]).calls
-        read = schedule.Schedule(Settings(*header[:3]), header.clients, calls)
+        calls = schedule.decode(with_header(data[20:], count=header.count, offset=header.offset)).calls
+        read = schedule.Schedule(Settings(*header[:3], header.patience), header.clients, calls)
         plain, file = "\n".join(text_of(read)) + "\n", schedule.encode(read)
         packed, text = packed_text("\n".join(strewn(rng, text_of(read)))), unpack(data)
         again = "".join(line for line in text.splitlines(keepends=True) if not line.startswith("#")) == plain
@@ -200,9 +216,9 @@ def examples():
         yield told(f"{path.name} packed", "pack", path.read_bytes(), (0, file, ""))
         yield told(f"{path.stem}.bin unpacked", "unpack", file, (0, text.encode(), ""))
         yield told(f"{path.stem}.log", "pack", path.read_bytes(), (0, file if logged(path, file) else None, ""))
-    zeros = "tree 002 m 01 wait 5 clients 2\nrequest 0 " + "0" * 30 + "10 020\nstep 00 0"
+    zeros = "tree 002 m 01 wait 5 patience 020 clients 2\nrequest 0 " + "0" * 30 + "10 020\nstep 00 0"
     yield told("leading zeros", "pack", zeros.encode(), (0, packed_text(HEAD + "request 0 10 20\nstep 0 0"), ""))
-    yield told("a text that begins with a byte order mark", "pack", b"\xef\xbb\xbf" + HEAD.encode(), (0, with_header(), ""))
+    yield told("a text that begins with a byte order mark", "pack", b"\xef\xbb\xbf" + HEAD.encode(), (0, with_header(patience=20), ""))
 
 
 def guide():

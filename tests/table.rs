@@ -1,23 +1,24 @@
 //! Answers the tests from the declarations in Rust. Each line of standard input asks one thing, and has one line of numbers, or of a
 //! text, as its answer:
 //!
-//!     open LEVELS DISTANCE WAIT CLIENTS         the number; from here on the calls are made on this table, if it was accepted
-//!     request CLIENT LEFT RIGHT                 the number, the last clock and the client's record; the others likewise
+//!     open LEVELS DISTANCE WAIT PATIENCE CLIENTS  the number; from here on the calls are made on this table, if it was accepted
+//!     request CLIENT LEFT RIGHT                   the number, the last clock and the client's record; the others likewise
 //!     step CLIENT CLOCK
 //!     release CLIENT
 //!     cancel CLIENT
-//!     pages CLIENT                              the numbers of both pages, the count, the client's record, and all rows
-//!     cover LEVELS LEFT RIGHT                   the number, the nodes and the over-cover
-//!     word_count LEVELS                         the count
-//!     phase NUMBER                              its text; outcome and cause likewise
+//!     pages CLIENT                                the numbers of both pages, the count, the client's record, and all rows
+//!     cover LEVELS LEFT RIGHT                     the number, the nodes and the over-cover
+//!     word_count LEVELS                           the count
+//!     phase NUMBER                                its text; outcome and cause likewise
 
 use nolthewyr::{cover, word_count, Cause, CoverAnswer, Outcome, Phase, Record, Row, RunPageAnswer, Settings, Table};
 use std::io::stdin;
 
 /// The numbers of a record, in its order.
 fn fields(record: &Record) -> String {
-    let Record { phase, outcome, left, right, first, second, current, giving, grip, ticket, place, notices, t1, t0 } = *record;
-    let fields = [phase.0, outcome.0, left, right, first, second, current, giving, grip, ticket, place, notices, t1, t0];
+    let Record { phase, outcome, left, right, first, second, current, giving, grip, ticket, place, notices, t1, t0, taken } =
+        *record;
+    let fields = [phase.0, outcome.0, left, right, first, second, current, giving, grip, ticket, place, notices, t1, t0, taken];
     fields.map(|field| field.to_string()).join(" ")
 }
 
@@ -71,8 +72,8 @@ fn main() {
         let (name, numbers) = line.split_once(' ').expect("a name and numbers");
         let numbers: Vec<u64> = numbers.split(' ').map(|number| number.parse().expect("a number")).collect();
         let answer = match (name, &numbers[..]) {
-            ("open", &[levels, distance, wait, clients]) => {
-                let opened = Table::open(Settings { levels, distance, wait }, clients as usize);
+            ("open", &[levels, distance, wait, patience, clients]) => {
+                let opened = Table::open(Settings { levels, distance, wait, patience }, clients as usize);
                 let number = opened.as_ref().err().unwrap_or(&Cause::ACCEPTED).0;
                 table = opened.ok();
                 number.to_string()

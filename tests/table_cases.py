@@ -4,20 +4,22 @@ of every length, and demand 3 over random histories that the compiled calls make
 from collections import Counter
 from concurrent.futures import ProcessPoolExecutor
 from functools import lru_cache
+from itertools import cycle
 from random import Random
 
 from compare import NAMES, case
 from compiled_table import Table, library
 from histories import TOP, Driver, Shape, Watch
-from history_cases import CAUSES, MUST_OCCUR, SHAPE, lent_with_causes
+from history_cases import CAUSES, MUST_OCCUR, PATIENCES, SHAPE, WHOLE_CASE_SETTINGS, lent_with_causes
 from model import table, tree
 from model.history import KINDS, Call, Opened
 from model.record import IDLE, Record, Settings
-from record_states import any_clock
+from record_states import any_clock, one_outside
 
 UNLIKE = ("number", "clock", "records unlike", "words unlike")
 NAMES["compiled opening"] = ("levels", "words", "clients"), ("number", "records unlike", "words unlike")
 NAMES["compiled call"] = ("seed", "call", "kind told"), UNLIKE
+NAMES["compiled setting outside"] = ("place in the list of settings", "kind"), UNLIKE
 NAMES["compiled refusal"] = ("kind", "causes taken away", "kind told"), UNLIKE
 NAMES["compiled history"] = SHAPE, ("overlaps", "words left", "refused by 6", "refused by 9")
 NAMES["compiled occurs"] = ("place in the list of what must occur",), ("occurs",)
@@ -32,7 +34,7 @@ def openings():
     lent = [(2, 5, clients) for clients in (0, 1, 2, 64, 32766, 32767, 32768, 40000)]
     lent += [(3, 21, 3), (6, 1365, 64), (2, 4, 3), (2, 6, 0), (1, 5, 3), (13, 5, 0), (2, 0, 1)]
     for levels, count, clients in lent:
-        settings, words, records = Settings(levels, 1, 5), [TOP] * count, [FILLED] * clients
+        settings, words, records = WHOLE_CASE_SETTINGS._replace(levels=levels), [TOP] * count, [FILLED] * clients
         compiled = Table(settings, words, records)
         number = compiled.open()
         expected = table.opening(settings, words, records, 0).number
@@ -64,6 +66,18 @@ def refusals_in_order():
                 yield compared("compiled refusal", [place, away, told], (settings, words, records), call, 9, told)
 
 
+def settings_refused():
+    """Opening and every call with one setting outside its range."""
+    for place, settings in enumerate(one_outside(WHOLE_CASE_SETTINGS)):
+        lent = settings, [TOP] * 5, [FILLED] * 2
+        compiled = Table(*lent)
+        yield case("compiled opening", [settings.levels, 5, 2], (1, 0, 0)), (compiled.open(), *compiled.unlike(*lent[1:]), 0)
+        for kind in CAUSES:
+            _, words, records, client, *others = lent_with_causes(kind, ())
+            call, told = Call(kind, client, *others), KINDS.index(kind)
+            yield compared("compiled setting outside", [place, told], (settings, words, records), call, 9, told)
+
+
 def damaged(rng, record):
     """One field of a record changed to a number near it or to any number."""
     place = rng.randrange(len(record))
@@ -75,7 +89,7 @@ def single_calls():
     """Calls in the middle of histories, on records and words as they are or with one of them damaged."""
     for seed in range(60):
         rng = Random(f"table {seed}")
-        settings = Settings(rng.choice([2, 3, 4]), rng.choice(tree.DISTANCES), rng.choice([1, 2, 5, 9]))
+        settings = Settings(rng.choice([2, 3, 4]), rng.choice(tree.DISTANCES), rng.choice([1, 2, 5, 9]), rng.choice(PATIENCES))
         lock = Opened(settings, [0] * tree.node_count(settings.levels), [IDLE] * rng.choice([1, 2, 3, 6]))
         driver = Driver(lock, seed)
         for place in range(100):
@@ -91,13 +105,14 @@ def single_calls():
 
 
 def shapes():
-    """Small trees with few clients, a higher one, and as many clients as windows to fight for."""
+    """Small trees with few clients, a higher one, and as many clients as windows to fight for; P from 1 up in turn."""
+    patience = cycle(PATIENCES)
     for h, m, clients in [(h, m, clients) for h in (2, 3, 4) for m in (1, 2, 3, 4) for clients in (2, 3, 5, 8)]:
         for wait in (1, 2, 4, 9):
-            yield Shape(Settings(h, m, wait), clients, 3000)
+            yield Shape(Settings(h, m, wait, next(patience)), clients, 3000)
     for clients in (2, 3, 4, 5, 6, 8, 12, 16):
         for wait in (1, 3, 8, 20, 60, 200, 3, 8, 20):
-            yield Shape(Settings(6, 1 + clients % 4, wait), clients, 6500)
+            yield Shape(Settings(6, 1 + clients % 4, wait, next(patience)), clients, 6500)
 
 
 def counts_of(numbered_shape):
@@ -143,6 +158,7 @@ def what_occurs():
 SUITES = {
     "compiled table, 32,767 clients open, 32,768 are refused 3": openings,
     "compiled table, refused in order of testing": refusals_in_order,
+    "compiled table, settings outside their ranges": settings_refused,
     "compiled table, calls on lent records and words, damaged ones too": single_calls,
     "compiled table, demand 3 after every call of a history": demand_3,
     "compiled table, every phase, outcome and refusal occurs in a million calls": what_occurs,

@@ -1,5 +1,5 @@
-//! The lock in plain Rust, the competitor of the Rattle code: the calls over the table, each of which tests all that document 01
-//! says and changes the record where it stands.
+//! The lock in plain Rust, the competitor of the Rattle code: the calls over the table, each of which tests all that the documents
+//! say and changes the record where it stands.
 
 pub mod linked;
 mod pages;
@@ -36,8 +36,9 @@ fn has_levels(levels: u64) -> bool {
 
 /// Cause 1.
 fn test_settings(settings: &Settings) -> Result<(), Cause> {
-    let Settings { levels, distance, wait } = *settings;
-    let inside = has_levels(levels) && (1..=4).contains(&distance) && (1..=u32::MAX as u64).contains(&wait);
+    let Settings { levels, distance, wait, patience } = *settings;
+    let ticks = 1..=u32::MAX as u64;
+    let inside = has_levels(levels) && (1..=4).contains(&distance) && ticks.contains(&wait) && ticks.contains(&patience);
     if inside {
         Ok(())
     } else {

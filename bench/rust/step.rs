@@ -12,6 +12,10 @@ fn word_of(words: &mut [u64], node: u64) -> &mut u64 {
 
 impl Record {
     pub fn advance(&mut self, words: &mut [u64], settings: &Settings, clock: u64) -> Result<(), Cause> {
+        if self.out_of_patience(settings, clock) {
+            self.return_all(Outcome::OUT_OF_PATIENCE);
+            return Ok(());
+        }
         match self.phase {
             Phase::TICKET => self.take_ticket(words),
             Phase::TURN => self.await_turn(words),
@@ -20,11 +24,16 @@ impl Record {
             Phase::CLAIM => self.claim(words, settings, clock),
             Phase::NOTIFY => self.notify(words, settings, clock),
             Phase::WAIT => self.wait(settings, clock),
-            Phase::CHECK => self.check(words, settings),
+            Phase::CHECK => self.check(words, settings, clock),
             Phase::RETURNING => return self.give_back(words, settings),
             _ => {}
         }
         Ok(())
+    }
+
+    /// Patience runs from the first piece for every later one, in phases 1 to 8.
+    fn out_of_patience(&self, settings: &Settings, clock: u64) -> bool {
+        self.current > 0 && self.phase < Phase::HELD && clock - self.taken >= settings.patience
     }
 
     fn take_ticket(&mut self, words: &mut [u64]) {
@@ -106,7 +115,7 @@ impl Record {
         if clock - self.t1 >= settings.wait {
             self.return_all(Outcome::LATE);
         } else if d == settings.levels {
-            self.end_piece(settings);
+            self.end_piece(settings, clock);
         } else {
             self.go_to(Phase::WAIT);
         }
@@ -118,7 +127,7 @@ impl Record {
         }
     }
 
-    fn check(&mut self, words: &mut [u64], settings: &Settings) {
+    fn check(&mut self, words: &mut [u64], settings: &Settings, clock: u64) {
         let node = self.piece(self.current);
         let word = *word_of(words, check_node(node, self.place));
         if DCNT.of(word) != DMAX.of(word) {
@@ -126,12 +135,15 @@ impl Record {
         }
         self.place += 1;
         if self.place == settings.check_count(level(node)) {
-            self.end_piece(settings);
+            self.end_piece(settings, clock);
         }
     }
 
     /// The piece is taken: the next one begins, or the window is held.
-    fn end_piece(&mut self, settings: &Settings) {
+    fn end_piece(&mut self, settings: &Settings, clock: u64) {
+        if self.current == 0 {
+            self.taken = clock;
+        }
         if self.current == 1 || self.second == 0 {
             self.go_to(Phase::HELD);
             return;

@@ -1,4 +1,5 @@
-//! Whether a record is unreadable, which every call asks first: the clauses of document 01's paragraph "Unreadable".
+//! Whether a record is unreadable, which every call asks first: the clauses of document 01's paragraph "Unreadable", and those that
+//! request 2.2 adds.
 
 use super::record::grip;
 use super::tree::{cover, level};
@@ -15,6 +16,14 @@ impl Record {
             || no_grip
             || self.giving > self.current
             || self.giving == self.current && self.grip == grip::NOTHING
+            || self.outcome == Outcome::OUT_OF_PATIENCE && self.current == 0
+    }
+
+    /// A time at which the first piece was taken, while this piece is not yet taken or was never taken.
+    #[inline(always)]
+    fn taken_too_early(&self) -> bool {
+        let released = self.phase == Phase::RETURNING && self.outcome == Outcome::RELEASED;
+        self.taken != 0 && self.current == 0 && self.phase != Phase::HELD && !released
     }
 
     /// The clauses that go by the phase: place, grip, and which node may be in it. The root needs no clause: its lists of ancestors
@@ -39,7 +48,7 @@ impl Record {
     /// All clauses have one answer, so their order is free: those that go by the phase are last.
     #[inline(always)]
     pub fn unreadable(&self, settings: &Settings, last: u64) -> bool {
-        if self.phase > Phase::RETURNING || self.outcome > Outcome::CANCELLED {
+        if self.phase > Phase::RETURNING || self.outcome > Outcome::OUT_OF_PATIENCE {
             return true;
         }
         if self.phase == Phase::IDLE {
@@ -49,7 +58,10 @@ impl Record {
         if !cover.is_some_and(|cover| cover.first == self.first && cover.second == self.second) {
             return true;
         }
-        if self.current > (self.second != 0) as u64 || self.ticket > MOST_TICKET || self.t1 > last || self.t0 > last {
+        if self.current > (self.second != 0) as u64 || self.ticket > MOST_TICKET {
+            return true;
+        }
+        if self.t1 > last || self.t0 > last || self.taken > last || self.taken_too_early() {
             return true;
         }
         let d = level(self.piece(self.current));

@@ -6,7 +6,8 @@ from model import tree
 from model.history import Call, Opened
 from model.record import IDLE, Record
 from model.schedule import record_after
-from scheduling.names import HELD
+from scheduling.names import HELD, OUT_OF_PATIENCE, RETURNING
+from scheduling.waiting import Wait, wait_of
 
 
 class Event(NamedTuple):
@@ -34,11 +35,21 @@ class Holding(NamedTuple):
     end: Event
 
 
+class GivenUp(NamedTuple):
+    """A window that a client gave up, since its patience was over: the step at which that was seen, what it waited for then, and for whom;
+    nothing and nobody if it would have come on."""
+
+    event: Event
+    wait: Wait
+    clients: tuple
+
+
 class Happened(NamedTuple):
-    """A schedule that was run: its events, and the words and records after the last."""
+    """A schedule that was run: its events, the windows that were given up for want of patience, and the words and records after the last."""
 
     schedule: object
     events: tuple
+    given_up: tuple
     words: list
     records: list
     clock: int
@@ -51,19 +62,33 @@ def fresh(schedule):
 
 def happened(schedule, log):
     """What the lines of a log tell, which is the model's, with all that the model knows beside it."""
-    opened, events = fresh(schedule), []
+    opened, events, given = fresh(schedule), [], []
     for place, (call, logged) in enumerate(zip(schedule.calls, log[1:], strict=True)):
         client_there = call.client < schedule.clients
         before, last = opened.records[call.client] if client_there else IDLE, opened.clock
         made = opened.make(call)
         after = record_after(made, opened.records)
         events.append(Event(place, call, made.number, before, after, last, opened.clock, logged))
-    return Happened(schedule, tuple(events), opened.words, opened.records, opened.clock)
+        if became(events[-1], RETURNING) and after.outcome == OUT_OF_PATIENCE:
+            given.append(given_up(opened, events[-1]))
+    return Happened(schedule, tuple(events), tuple(given), opened.words, opened.records, opened.clock)
+
+
+def at(event):
+    return f"clock {event.clock} (call {event.place})"
 
 
 def became(event, phase):
     """Whether this call brought its client into a phase."""
     return event.before.phase != phase and event.after.phase == phase
+
+
+def given_up(opened, event):
+    """What a client had waited for whose patience this step found over: the step touches no word, and no record but its own."""
+    client, records = event.call.client, list(opened.records)
+    records[client] = event.before
+    wait = wait_of(opened.settings, opened.words, records, client)
+    return GivenUp(event, wait, wait.clients() if wait else ())
 
 
 def holdings(events):

@@ -6,9 +6,11 @@ from scheduling.names import HELD, PHASES
 MARKED = {
     "refused": "refused call",
     "late": "late: gives everything back",
+    "out-of-patience": "out of patience: gives everything back",
     "idle-released": "idle, released",
     "idle-late": "idle, late",
     "idle-cancelled": "idle, cancelled",
+    "idle-out-of-patience": "idle, out of patience",
 }
 
 

@@ -26,7 +26,7 @@ Make schedules for rangelog and rangepages, run them, and see what happened.
 
 The first line of a text has the settings, and each line after it is a call:
 
-    tree 2 m 1 wait 5 clients 2
+    tree 2 m 1 wait 5 patience 20 clients 2
     request 0 10 20             # client, left edge, right edge
     step 0 1                    # client, clock
     release 0                   # client

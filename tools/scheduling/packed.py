@@ -3,7 +3,7 @@
 from model.record import Settings
 from model.history import Call
 from model.history import KINDS as KINDS_IN_ORDER
-from model.schedule import CALL, HEADER, LONGEST, Schedule, encode
+from model.schedule import CALL, HEADER, LONGEST, Header, Schedule, encode
 from scheduling.problems import Wrong
 from scheduling.text import KINDS, Source, line_of, settings_line
 
@@ -11,20 +11,21 @@ pack = encode
 
 
 def header_of(data):
-    """The settings, the count of calls and the offset of a file in which these are right."""
+    """The header of a file in which the count of calls and the offset are right."""
     if len(data) > LONGEST:
         raise Wrong(f"byte {LONGEST}: a file has at most {LONGEST} bytes; this one goes on")
     if data and 0 not in data:
         raise Wrong("byte 0: this is a text and no packed file, in which some byte is 0; `pack` turns it into one")
     if len(data) < HEADER.size:
         raise Wrong(f"byte {len(data)}: the file ends within its header of {HEADER.size} bytes")
-    *settings, count, offset = HEADER.unpack_from(data)
+    header = Header(*HEADER.unpack_from(data))
+    count, offset = header.count, header.offset
     if offset < HEADER.size:
         raise Wrong(f"byte 12: the offset of the first call must be at least {HEADER.size}; got {offset}")
     if offset + CALL.size * count > len(data):
         end = f"{offset} + {CALL.size} * {count} = {offset + CALL.size * count}"
         raise Wrong(f"byte 10: {count} calls from byte {offset} would end at {end}; the file has {len(data)} bytes")
-    return settings, count, offset
+    return header
 
 
 def wrong_fields(place, start, name, zeros):
@@ -49,22 +50,22 @@ def call_at(data, place, start):
 
 def read_file(data):
     """The schedule that a file says. All wrong calls are named."""
-    (*of_the_lock, clients), count, offset = header_of(data)
-    calls, wrong = [], []
-    for place in range(count):
+    header, calls, wrong = header_of(data), [], []
+    for place in range(header.count):
         try:
-            calls.append(call_at(data, place, offset + CALL.size * place))
+            calls.append(call_at(data, place, header.offset + CALL.size * place))
         except Wrong as problem:
             wrong += problem.messages
     if wrong:
         raise Wrong(*wrong)
-    return Source(Schedule(Settings(*of_the_lock), clients, tuple(calls)), tuple(map(line_of, calls)))
+    settings = Settings(header.levels, header.distance, header.wait, header.patience)
+    return Source(Schedule(settings, header.clients, tuple(calls)), tuple(map(line_of, calls)))
 
 
 def ignored(data):
     """A comment about bytes that belong to no call, if there are any."""
-    _, count, offset = header_of(data)
-    before, after = offset - HEADER.size, len(data) - offset - CALL.size * count
+    header = header_of(data)
+    before, after = header.offset - HEADER.size, len(data) - header.offset - CALL.size * header.count
     if before or after:
         yield f"# left out: {before} bytes before the first call and {after} after the last, which rangelog and rangepages ignore"
 

@@ -7,6 +7,7 @@ from model.record import Record
 from scheduling.columns import in_columns
 from scheduling.events import fresh
 from scheduling.names import OUTCOMES, PHASES, listed, window
+from scheduling.waiting import patience_ends
 
 WIDE = 100
 INDENT = "  "
@@ -52,14 +53,17 @@ def planners_rows(rows):
             yield str(client), phase, window(row.left, row.right), nodes(row), units(row.over)
 
 
-def fields_in_words(record):
-    """The fields of a record that are not 0, without its phase: its edges as a window, its pieces as nodes, the others by their names."""
+def fields_in_words(settings, record):
+    """The fields of a record that are not 0, without its phase: its edges as a window, its pieces as nodes, the others by their names; and
+    until when it has patience, where it waits in a later piece."""
     if record.outcome:
         yield f"outcome {numbered(record.outcome, OUTCOMES)}"
     if record.right:
         yield f"window {window(record.left, record.right)}"
         yield f"node{'s' * (record.second != 0)} {nodes(record)}"
     yield from (f"{name} {getattr(record, name)}" for name in OTHERS if getattr(record, name))
+    if (ends := patience_ends(settings, record)) is not None:
+        yield f"patience until clock {ends}"
 
 
 def cut(items, wide):
@@ -74,11 +78,11 @@ def before_the_record(records):
         yield str(client), str(count), numbered(record.phase, PHASES)
 
 
-def runs_lines(records):
+def runs_lines(settings, records):
     """The runs' table: a line for each, and further ones where its record says more than one has room for."""
     starts = in_columns(before_the_record(records), (0, 1))
     width = max(map(len, starts)) + len(INDENT)
-    said = [[RUNS[-1]], *(fields_in_words(record) for record, _ in records)]
+    said = [[RUNS[-1]], *(fields_in_words(settings, record) for record, _ in records)]
     for start, items in zip(starts, said, strict=True):
         first, *others = cut(items, WIDE - width - len(INDENT))
         yield f"{start:{width}}{first}".rstrip()
@@ -86,8 +90,8 @@ def runs_lines(records):
 
 
 def when(schedule, clock):
-    count, (levels, distance, wait) = len(schedule.calls), schedule.settings
-    return f"After {count} call{'s' * (count != 1)}, at clock {clock}, in a tree of {levels} levels (m {distance}, wait {wait})"
+    count, (levels, distance, wait, patience) = len(schedule.calls), schedule.settings
+    return f"After {count} call{'s' * (count != 1)}, at clock {clock}: {levels} levels, m {distance}, wait {wait}, patience {patience}"
 
 
 def refused_lines(refused, calls):
@@ -107,5 +111,5 @@ def page_report(schedule, lines):
     yield from (INDENT + line for line in (*in_columns(planners_rows(rows), (0,)), *MEANING))
     yield ""
     yield RUNS_TITLE
-    yield from (INDENT + line for line in runs_lines(records))
+    yield from (INDENT + line for line in runs_lines(schedule.settings, records))
     yield from refused_lines(refused, len(schedule.calls))

@@ -33,9 +33,9 @@ def title_of(name):
 
 
 def settings_in_words(schedule):
-    levels, distance, wait = schedule.settings
+    levels, distance, wait, patience = schedule.settings
     clients = "1 client" if schedule.clients == 1 else f"{schedule.clients} clients"
-    return f"{levels} levels, {tree.units(levels)} units, notices at distance {distance}, wait {wait}, {clients}"
+    return f"{levels} levels, {tree.units(levels)} units, notices at distance {distance}, wait {wait}, patience {patience}, {clients}"
 
 
 def listed(lines):

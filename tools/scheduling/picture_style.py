@@ -20,13 +20,15 @@ PHASE_LOOKS = {
 # The colours of clients among the units: light enough for black words.
 CLIENT_COLOURS = "#a9d3f5", "#f8d287", "#bfe3a9", "#f5b7ae", "#d3c2ee", "#a5e0d8", "#f3c3e0", "#d9d4b0"
 
-# What is marked in a row, each about its middle.
+# What is marked in a row, each about its middle. Out of patience is an hourglass.
 MARK_SHAPES = {
     "refused": "M-3.5 -3.5L3.5 3.5M-3.5 3.5L3.5 -3.5",
     "late": "M0 -4L4.5 3.5H-4.5Z",
+    "out-of-patience": "M-4 -4.5H4L-4 4.5H4Z",
     "idle-released": "M-3.5 0a3.5 3.5 0 1 0 7 0a3.5 3.5 0 1 0 -7 0Z",
     "idle-late": "M0 -4L4.5 3.5H-4.5Z",
     "idle-cancelled": "M-3.2 -3.2h6.4v6.4h-6.4Z",
+    "idle-out-of-patience": "M-4 -4.5H4L-4 4.5H4Z",
 }
 
 PAGE = """
@@ -66,7 +68,7 @@ text { font-family: system-ui, "Segoe UI", "Liberation Sans", Arial, sans-serif;
 .passed { stroke: #666; stroke-width: 2px; stroke-dasharray: 2 1.5; }
 .mark { fill: #fff; stroke: #111; stroke-width: 1.3px; }
 .mark.refused { stroke: #a80000; stroke-width: 2px; }
-.mark.late { fill: #a80000; stroke: #a80000; }
+.mark.late, .mark.out-of-patience { fill: #a80000; stroke: #a80000; }
 .overview { display: block; width: 100%; max-width: 960px; height: auto; border: 1px solid #777; --words: none; --outline: non-scaling-stroke; }
 figure { margin: .3rem 0 .6rem; }
 .defs { position: absolute; }

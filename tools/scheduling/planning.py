@@ -1,14 +1,14 @@
 """A schedule that gives every run its window: made by the model, a step for each run in turn, with cancel and back-off where runs block
-each other."""
+each other, and back-off where one is out of patience."""
 
 from typing import NamedTuple
 
 from model.history import Call
+from scheduling.durations import longest_claim, longest_later_piece
 from scheduling.events import fresh
 from scheduling.names import HELD, listed, window
 from scheduling.text import MOST_CALLS, line_of, settings_line
-from scheduling.waiting import wait_of
-from scheduling.wishes import longest_claim
+from scheduling.waiting import patience_ends, wait_of
 
 CANCELLED_IN = range(1, 9)
 MOST_DOUBLINGS = 10
@@ -34,7 +34,7 @@ class Run:
 
     def begin(self):
         """Before the next wish is asked for: nothing was given up yet."""
-        self.cancels, self.ask_at, self.release_at = 0, self.wishes[0].start if self.wishes else None, None
+        self.gave_up, self.ask_at, self.release_at = 0, self.wishes[0].start if self.wishes else None, None
         self.gives_way_to = []
 
     def gives_way(self):
@@ -55,9 +55,11 @@ class Planner:
         for wish in wishes:
             by_client[wish.run].append(wish)
         self.runs = [Run(client, of_client) for client, of_client in by_client.items()]
-        # A claim that takes as many ticks as the wait is late: with a shorter wait all steps that can be made are made at one clock.
-        levels, distance, wait = schedule.settings
-        self.ticks_a_round = 1 if longest_claim(levels, distance) < wait else 0
+        # A claim that takes as many ticks as the wait is late, and a later piece that takes as many as the patience is given up: with a
+        # shorter wait or patience all steps that can be made are made at one clock.
+        levels, distance, wait, patience = schedule.settings
+        in_time = longest_claim(levels, distance) < wait and longest_later_piece(levels, distance, wait) < patience
+        self.ticks_a_round = 1 if in_time else 0
 
     def record(self, run):
         return self.lock.records[run.client]
@@ -80,19 +82,20 @@ class Planner:
         return None
 
     def next_moment(self, run):
-        """The clock from which on a run can do something by itself; None if others have to act first."""
+        """The clock from which on a run can do something by itself; None if others have to act first. Who waits in a later piece can give
+        up once its patience is over."""
         record = self.record(run)
         if record.phase == 0:
             return None if run.gives_way() else max(run.ask_at, self.clock)
         if record.phase == HELD:
             return run.release_at
         if self.wait(run):
-            return None
+            return patience_ends(self.settings, record)
         return record.t0 + self.settings.wait if record.phase == 7 else self.clock
 
     def ask(self, run):
         wish = run.wishes[0]
-        again = ", again" if run.cancels else ""
+        again = ", again" if run.gave_up else ""
         self.make("request", run, wish.left, wish.right, told=f"clock {self.clock}: run {run.client} asks{again}")
 
     def step(self, run):
@@ -105,8 +108,14 @@ class Planner:
         elif phase == 0:
             self.ended(run)
 
+    def give_up(self, run):
+        """A step of a run whose patience is over: it gives back and asks again, not before those that hold what it waits for are through."""
+        clients = wait.clients() if (wait := self.wait(run)) else ()
+        self.back_off(run, [other for other in self.runs if other.client in clients and other.release_at is not None])
+        self.make("step", run, self.clock, told=f"clock {self.clock}: run {run.client} is out of patience, and gives back")
+
     def ended(self, run):
-        """A run is idle: it has had its window, or gave way and asks again after a pause."""
+        """A run is idle: it has had its window, or gave way or up and asks again after a pause."""
         if run.release_at is not None:
             run.wishes.pop(0)
             run.begin()
@@ -117,11 +126,16 @@ class Planner:
             self.make("step", run, self.clock)
         self.make("release", run, told=f"clock {self.clock}: run {run.client} gives {window(*self.record(run)[2:4])} back")
 
-    def give_way(self, run, others):
-        """Cancel and back off: it asks again after a pause that doubles each time, and not before the others are through."""
-        pause = self.settings.wait << min(run.cancels, MOST_DOUBLINGS)
-        run.cancels, run.ask_at = run.cancels + 1, self.clock + pause
+    def back_off(self, run, others):
+        """It asks again after a pause that doubles each time, and not before the others are through. Nobody waits for ever by that: the others
+        either hold, or came before it."""
+        pause = self.settings.wait << min(run.gave_up, MOST_DOUBLINGS)
+        run.gave_up, run.ask_at = run.gave_up + 1, self.clock + pause
         run.gives_way_to = [(other, other.wishes[0]) for other in others]
+
+    def give_way(self, run, others):
+        """Cancel and back off."""
+        self.back_off(run, others)
         names = listed([f"run {other.client}" for other in others])
         self.make("cancel", run, told=f"clock {self.clock}: run {run.client} gives way to {names}")
 
@@ -133,8 +147,9 @@ class Planner:
         moment = self.next_moment(run)
         if moment is None or moment > self.clock:
             return False
-        phase = self.record(run).phase
-        {0: self.ask, HELD: self.release}.get(phase, self.step)(run)
+        ends = patience_ends(self.settings, self.record(run))
+        step = self.step if ends is None or ends > self.clock else self.give_up
+        {0: self.ask, HELD: self.release}.get(self.record(run).phase, step)(run)
         return True
 
     def unblock(self):

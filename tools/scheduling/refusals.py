@@ -40,7 +40,7 @@ def words_for(number, schedule, call, before, last):
 
 def of_settings(schedule):
     """What will refuse a schedule as a whole: the number and the words."""
-    (levels, distance, wait), clients = schedule.settings, schedule.clients
+    (levels, distance, wait, patience), clients = schedule.settings, schedule.clients
     if levels > MOST_LEVELS:
         yield 11, f"rangelog and rangepages run trees of at most {MOST_LEVELS} levels, not {levels}"
     if clients > MOST_CLIENTS:
@@ -51,6 +51,8 @@ def of_settings(schedule):
         yield 1, f"m is 1 to 4, not {distance}"
     if wait == 0:
         yield 1, "the wait is at least 1, not 0"
+    if patience == 0:
+        yield 1, "the patience is at least 1, not 0"
     if clients == 0:
         yield 3, "there is at least 1 client, not 0"
 

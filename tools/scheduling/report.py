@@ -3,10 +3,11 @@
 from collections import Counter
 
 from scheduling.columns import in_columns
-from scheduling.events import became, holdings
-from scheduling.names import HELD, OUTCOMES, PHASES, RETURNING, listed, window
+from scheduling.events import at, became, holdings
+from scheduling.given_up import given_up_lines
+from scheduling.names import HELD, OUT_OF_PATIENCE, OUTCOMES, PHASES, RETURNING, window
 from scheduling.refusals import words_for
-from scheduling.waiting import wait_of
+from scheduling.waiting import for_whom, patience_ends, wait_of, waits_until
 
 HEADINGS = "call", "log", "clock", "what happened"
 # The columns of numbers: the line's, and the clock.
@@ -18,6 +19,8 @@ def phase_in_words(event):
     after = event.after
     if became(event, HELD):
         return f"held: client {event.call.client} holds {window(after.left, after.right)}"
+    if became(event, RETURNING) and after.outcome == OUT_OF_PATIENCE:
+        return f"{PHASES[RETURNING]}, {OUTCOMES[OUT_OF_PATIENCE]}: client {event.call.client} gives {window(after.left, after.right)} up"
     if after.phase == RETURNING:
         return f"{PHASES[RETURNING]}, {OUTCOMES[after.outcome]}"
     if became(event, 0):
@@ -40,25 +43,29 @@ def rows(source, events):
         yield str(place), written, event.logged, str(event.clock), what_happened(source.schedule, event)
 
 
-def at(event):
-    return f"clock {event.clock} (call {event.place})"
-
-
 def held_lines(events):
     for holding in holdings(events):
         end = f"to {at(holding.end)}" if holding.end else "and still holds it"
         yield f"client {holding.client} held {window(holding.left, holding.right)} from {at(holding.start)} {end}"
 
 
-def why_waiting(happened, client):
-    """For whom a client waits: others, the clock, or only its own next step."""
+def without_patience(happened, client):
+    """For whom a client waits, whatever its patience: others, the clock, or only its own next step."""
     settings, record = happened.schedule.settings, happened.records[client]
     if wait := wait_of(settings, happened.words, happened.records, client):
-        others = listed([f"client {other}" for other in wait.clients()])
-        return f"for {others}: {wait.reason}, node {wait.node}"
-    if record.phase == 7 and record.t0 + settings.wait > happened.clock:
-        return f"for nobody: until clock {record.t0 + settings.wait}"
-    return "for nobody: it needs steps"
+        return for_whom(wait, wait.clients())
+    until = waits_until(settings, record, happened.clock)
+    return f"for nobody: until clock {until}" if until else "for nobody: it needs steps"
+
+
+def why_waiting(happened, client):
+    """For whom a client waits, and until when it has patience."""
+    ends = patience_ends(happened.schedule.settings, happened.records[client])
+    if ends is None:
+        return without_patience(happened, client)
+    if ends <= happened.clock:
+        return f"for nobody: its patience was over at clock {ends}, and its next step begins to give back"
+    return f"{without_patience(happened, client)}; its patience is over at clock {ends}"
 
 
 def waiting_lines(happened):
@@ -88,5 +95,7 @@ def report(source, happened):
     """The whole report, line by line."""
     yield from in_columns(rows(source, happened.events), NUMBERS)
     yield from section("Held", held_lines(happened.events))
+    if happened.given_up:
+        yield from section("Given up, out of patience", given_up_lines(happened))
     yield from section("Not idle and not holding at the end", waiting_lines(happened))
     yield from section("In all", counted_lines(happened))

@@ -1,11 +1,11 @@
-"""Who was in which phase from when to when, and what is marked besides: refused calls, late ends, and how a client became idle."""
+"""Who was in which phase from when to when, and what is marked besides: refused calls, claims that are late, patience that is over, and how
+a client became idle."""
 
 from typing import NamedTuple
 
-from scheduling.events import Event, became, holdings
+from scheduling.events import Event, at, became, holdings
 from scheduling.names import HELD, OUTCOMES, PHASES, RETURNING, window
 from scheduling.refusals import words_for
-from scheduling.report import at
 
 
 class Stretch(NamedTuple):
@@ -21,8 +21,8 @@ class Stretch(NamedTuple):
 
 
 class Mark(NamedTuple):
-    """What is marked at a call: its kind (`refused`, `late`, or the outcome with which the client became idle), the row it stands in, and
-    its words. Clients that there are not share the row below the others."""
+    """What is marked at a call: its kind (`refused`, `late`, `out-of-patience`, or the outcome with which the client became idle), the row it
+    stands in, and its words. Clients that there are not share the row below the others."""
 
     kind: str
     row: int
@@ -59,16 +59,17 @@ def in_words(stretch):
 
 
 def mark_of(schedule, event):
-    """The kind and the words of the mark of a call; nothing if it has none. It has at most one: a refused call changes nothing, and a late
-    claim always has something to give back."""
+    """The kind and the words of the mark of a call; nothing if it has none. It has at most one: a refused call changes nothing, and who is
+    late or out of patience always has something to give back. Only these two are sent back by a step."""
     client, outcome = event.call.client, OUTCOMES[event.after.outcome]
+    kind = outcome.replace(" ", "-")
     if event.number:
         why = words_for(event.number, schedule, event.call, event.before, event.last)
         return "refused", f"client {client}, {event.call.kind} refused by {event.number} at {at(event)}: {why}"
-    if became(event, RETURNING) and outcome == "late":
-        return "late", f"client {client} is late at {at(event)}, and gives everything back"
+    if became(event, RETURNING) and event.call.kind == "step":
+        return kind, f"client {client} is {outcome} at {at(event)}, and gives everything back"
     if became(event, 0):
-        return f"idle-{outcome}", f"client {client} is idle from {at(event)} on: {outcome}"
+        return f"idle-{kind}", f"client {client} is idle from {at(event)} on: {outcome}"
     return None
 
 

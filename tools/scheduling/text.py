@@ -6,16 +6,16 @@ from typing import NamedTuple
 from model.history import Call
 from model.record import Settings
 from model.schedule import CALL, HEADER, LONGEST, Schedule
+from scheduling.names import listed
 from scheduling.problems import Wrong, shown
 
-# Room for 2,730 calls with a comment on each. A text is read no further.
+# Room for 2,729 calls with a comment on each. A text is read no further.
 LONGEST_TEXT = 2 ** 20
 MOST_CALLS = (LONGEST - HEADER.size) // CALL.size
 
 U16, U32, U64 = 2 ** 16 - 1, 2 ** 32 - 1, 2 ** 64 - 1
-SETTINGS = {"tree": U16, "m": U16, "wait": U32, "clients": U16}
-SETTINGS_EXAMPLE = "tree 2 m 1 wait 5 clients 2"
-SETTINGS_WANTED = f"the first line wants the settings, as in `{SETTINGS_EXAMPLE}`"
+SETTINGS = {"tree": U16, "m": U16, "wait": U32, "patience": U32, "clients": U16}
+SETTINGS_WANTED = "wants the settings, as in `tree 2 m 1 wait 5 patience 20 clients 2`"
 
 
 class Kind(NamedTuple):
@@ -81,11 +81,21 @@ def numbers_of(place, named, words):
     return numbers
 
 
+def settings_amiss(names):
+    """What is said of a first line that has not each setting once and in order. What is left out or stands twice is named, if the line
+    has settings at all."""
+    missing, twice = [name for name in SETTINGS if name not in names], [name for name in SETTINGS if names.count(name) > 1]
+    if 0 < len(missing) < len(SETTINGS):
+        return f"lacks {listed(missing)}: it {SETTINGS_WANTED}"
+    return f"has {listed(twice)} twice: it {SETTINGS_WANTED}" if twice else SETTINGS_WANTED
+
+
 def settings_of(place, words):
-    """The four numbers of the first line."""
-    if len(words) != 2 * len(SETTINGS) or words[::2] != list(SETTINGS):
-        raise Wrong(f"line {place}: {SETTINGS_WANTED}; got {shown(' '.join(words))}")
-    return numbers_of(place, SETTINGS, words[1::2])
+    """The numbers of the first line."""
+    names, numbers = words[::2], words[1::2]
+    if names != list(SETTINGS) or len(numbers) != len(SETTINGS):
+        raise Wrong(f"line {place}: the first line {settings_amiss(names)}; got {shown(' '.join(words))}")
+    return numbers_of(place, SETTINGS, numbers)
 
 
 def call_of(place, words):
@@ -121,7 +131,7 @@ def read_text(data):
     """The schedule that a text says. All wrong lines are named; the text is followed no further than the most calls go."""
     lines, wrong = list(written_lines(decoded(data))), []
     if not lines:
-        raise Wrong(f"line 1: {SETTINGS_WANTED}; got nothing")
+        raise Wrong(f"line 1: the first line {SETTINGS_WANTED}; got nothing")
     settings = parsed(lines[0], settings_of, wrong)
     asked = lines[1:1 + MOST_CALLS]
     calls = [parsed(line, call_of, wrong) for line in asked]

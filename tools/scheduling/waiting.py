@@ -1,4 +1,4 @@
-"""For whom a client waits: whose grip, ticket or notice its next step would find in its way."""
+"""For whom a client waits: whose grip, ticket or notice its next step would find in its way; and until when it has patience."""
 
 from functools import lru_cache
 from typing import Callable, NamedTuple
@@ -6,7 +6,8 @@ from typing import Callable, NamedTuple
 from model import record as records
 from model import word
 from model.owned import owned_by
-from model.step import wanted
+from model.step import WITH_PATIENCE, wanted
+from scheduling.names import listed
 
 
 class Wait(NamedTuple):
@@ -15,6 +16,12 @@ class Wait(NamedTuple):
     reason: str
     node: int
     clients: Callable
+
+
+def for_whom(wait, clients):
+    """A wait in words: for these clients."""
+    others = listed([f"client {other}" for other in clients])
+    return f"for {others}: {wait.reason}, node {wait.node}"
 
 
 @lru_cache(maxsize=2 ** 16)
@@ -84,8 +91,20 @@ def in_climb(state, record):
     return next((wait for node in ahead if (wait := for_ancestor(state, node))), None)
 
 
+def waits_until(settings, record, clock):
+    """The clock that a client waits for in 7; None if it waits for none."""
+    over = record.t0 + settings.wait
+    return over if record.phase == 7 and over > clock else None
+
+
+def patience_ends(settings, record):
+    """The clock from which on any step of a client sends it back, whatever it waits for; None unless it is at a later piece."""
+    return record.taken + settings.patience if record.current > 0 and record.phase in WITH_PATIENCE else None
+
+
 def wait_of(settings, words, all_records, client):
-    """What a client waits for that others have to do; nothing if its next step brings it on, or if only the clock has to."""
+    """What a client waits for that others have to do; nothing if its next step brings it on, or if only the clock has to. Its patience is
+    left aside."""
     state, record = (settings, words, all_records, client), all_records[client]
     if record.phase == 2:
         return for_turn(state, records.current_node(record))

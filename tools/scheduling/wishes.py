@@ -5,9 +5,10 @@ from typing import NamedTuple
 from model import tree
 from model.record import Settings
 from model.schedule import MOST_CLIENTS, MOST_LEVELS, Schedule
+from scheduling.durations import longest_claim, never_held
 from scheduling.problems import Wrong, shown
 from scheduling.refusals import no_such_client, of_settings, window_outside
-from scheduling.text import SETTINGS, U16, U64, decoded, numbers_of, parsed, settings_of, written_lines
+from scheduling.text import SETTINGS, U16, U32, U64, decoded, numbers_of, parsed, settings_of, written_lines
 
 EXAMPLE = "run 7 wants 100 220 from 30 for 40"
 NAMED = {"run": U16, "left edge": U64, "right edge": U64, "clock": U64, "ticks to hold": U64}
@@ -36,27 +37,22 @@ def wish_of(place, words):
     return wish
 
 
-def longest_claim(levels, distance):
-    """The most steps that a piece takes from its first climb to its last notice: at level d there are d - 2 further climbs, the claim
-    and the notices. If as many ticks go by as the wait has, the claim is late."""
-    return max(level - 1 + len(tree.notify_levels(distance, level)) for level in range(2, levels + 1))
-
-
 def fitting_settings(wishes):
     """Settings for wishes that name none: the lowest tree that has all windows, m 1, the least wait in which every claim can be made with
-    a step a tick, and as many clients as are named."""
+    a step a tick, the longest patience, since the plan itself sees who waits for whom, and as many clients as are named."""
     furthest = max(wish.right for wish in wishes)
     levels = next((h for h in range(2, MOST_LEVELS) if furthest <= tree.units(h)), MOST_LEVELS)
-    return levels, 1, 1 + longest_claim(levels, 1), min(1 + max(wish.run for wish in wishes), MOST_CLIENTS)
+    return levels, 1, 1 + longest_claim(levels, 1), U32, min(1 + max(wish.run for wish in wishes), MOST_CLIENTS)
 
 
 def refused_wishes(schedule, wishes):
-    """What no schedule can give: a run past the table, a window past the tree."""
+    """What no schedule can give: a run past the table, a window past the tree, a window that patience is too short for."""
     for wish in wishes:
         if wish.run >= schedule.clients:
             yield f"line {wish.line}: {no_such_client(schedule.clients, wish.run)}"
-        if outside := window_outside(schedule.settings.levels, wish.left, wish.right):
-            yield f"line {wish.line}: {outside}"
+        edges = wish.left, wish.right
+        if refused := window_outside(schedule.settings.levels, *edges) or never_held(schedule.settings, *edges):
+            yield f"line {wish.line}: {refused}"
 
 
 def served_with(head, numbers, wishes):

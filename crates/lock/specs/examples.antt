@@ -1,2 +1,3 @@
 pub mod HistoryExample
+pub mod PatienceExample
 pub mod WholeCase

@@ -6,6 +6,7 @@ pub mod CallLaws
 pub mod CoverLaws
 pub mod MoveLaws
 pub mod OwnTests
+pub mod PatienceLaws
 pub mod PhaseTests
 pub mod Phases
 pub mod Pieces

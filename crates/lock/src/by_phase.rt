@@ -45,12 +45,13 @@ impl Record {
         requires { ⌜ Begun settings self × (self .phase ≡ 10) × (count ≡ length (notifyList (settings .distance) (currentPiece self))) × (leaf ≡ isLeaf settings (currentPiece self)) ⌝ }
         ensures { λ b. ⌜ b ≡ ownWrong settings self ⌝ }
     {
-        (3 < self.outcome)
+        (4 < self.outcome)
             | self.past_notices(settings)
             | ((count < self.notices) | ((0 < self.notices) & (self.grip < 3)))
             | (self.outcome == 0)
             | lacks_returning(self.grip, leaf)
             | ((self.current < self.giving) | (self.grip_of(self.giving) == 0))
+            | ((self.outcome == 4) & (self.current == 0))
     }
 
     // 6 to 10, where a piece that is not being returned has its bits or Occ: "3 in 6..9"

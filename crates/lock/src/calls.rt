@@ -71,9 +71,16 @@ impl Record {
     // What is left of a step after 1, 2, 5 and 6: 9, and the work on the one word. "An accepted step sets the last clock."
     fn step(self, words: &mut [u64], settings: Settings, call: Call) -> Stepped
         requires { ⌜ Settled settings × (length (now words) ≡ wordCount (settings .levels)) × (unreadable settings self (call .last) ≡ false) × (call .last ≤ call .a) ⌝ }
-        ensures answer { λ s. ⌜ s ≡ answered (clearBit settings self (now (words .entry)) (call .a)) self (call .last) (moved settings self (wordAt (now (words .entry)) (touched settings self)) (call .a) .next) (call .a) ⌝ }
+        ensures answer { λ s. ⌜ s ≡ answered (clearBit settings self (now (words .entry)) (call .a)) self (call .last) (moved settings self (wordAt (now (words .entry)) (touched settings self (call .a))) (call .a) .next) (call .a) ⌝ }
         ensures words { λ s. ⌜ now (words .exit) ≡ leftBy settings self (now (words .entry)) (call .a) ⌝ }
     {
+        if self.patience_spent(settings, call.a) {
+            return Stepped {
+                number: 0,
+                clock: call.a,
+                next: self.sent_back(4),
+            };
+        }
         let n = self.touched(settings);
         let m = self.moved(settings, n, word_at(words, n), call.a);
         if m.number != 0 {
@@ -123,6 +130,7 @@ impl Record {
             notices: 0,
             t1: 0,
             t0: 0,
+            taken: 0,
         }
     }
 
@@ -139,7 +147,7 @@ impl Record {
         self.unless(self.phase != 0, next, call.last)
     }
 
-    // "set outcome 1 or 3 and phase 10"
+    // "set outcome 1 or 3 and phase 10"; 2.2, "sets outcome 4 and goes to returning"
     fn sent_back(mut self, outcome: u64) -> Record
         ensures { λ r. ⌜ r ≡ toPhase 10 (withOutcome outcome self) ⌝ }
     {

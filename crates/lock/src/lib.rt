@@ -1,16 +1,17 @@
 // The lock: what each call does to one client's record and to the lent tree.
 
-// "H, m and wait T travel beside it": the settings of a tree.
+// "H, m and wait T travel beside it", and the patience P: the settings of a tree.
 #[repr(C)]
 pub struct Settings {
     pub levels: u64,
     pub distance: u64,
     pub wait: u64,
+    pub patience: u64,
 }
 
 // A client record, its fields in document 01's order: phase, outcome, the window's edges, the numbers of its two pieces (0 for none), the current
 // piece (0 or 1, the last begun), the piece being given back, the current piece's grip, ticket, place in the list it walks, notices that the
-// current piece gave, and the noted times.
+// current piece gave, and the noted times; the last of them is the clock at which the first piece was taken.
 #[repr(C)]
 pub struct Record {
     pub phase: u64,
@@ -27,6 +28,7 @@ pub struct Record {
     pub notices: u64,
     pub t1: u64,
     pub t0: u64,
+    pub taken: u64,
 }
 
 // A call as a schedule has it: the kind (0 request, 1 step, 2 release, 3 cancel), the client, the edges a and b of a request or the clock a of a step;
@@ -59,6 +61,7 @@ mod by_phase;
 mod calls;
 mod moves;
 mod outside;
+mod patience;
 mod pieces;
 mod readable;
 mod returning;

@@ -1,7 +1,7 @@
-// One step's own work: the node that it touches, and a match on the phase number that picks what it does there.
+// The work of a step's phase: the node that it touches, and a match on the phase number that picks what it does there.
 ghost use mathlib.Core.Path.{_≡_};
 ghost use Prim.Native.Nat.{_≤_, _<_};
-ghost use Rattle.lock.specs.rules.Steps.{touched, touchedIn, moved, claimPiece};
+ghost use Rattle.lock.specs.rules.Steps.{touchedIn, ownTouched, ownMoved, claimPiece};
 ghost use Rattle.lock.specs.rules.Records.{returning};
 ghost use Rattle.lock.specs.laws.Active.{Settled};
 ghost use Rattle.lock.specs.laws.Placed.{Placed, Sound};
@@ -36,10 +36,10 @@ impl Record {
         tree::notify_node(settings.distance, n, self.place - 1)
     }
 
-    // The node that a step touches, 0 for none.
+    // The node that the phase touches, 0 for none.
     pub fn touched(self, settings: Settings) -> u64
         requires { ⌜ Settled settings × Sound settings self ⌝ }
-        ensures { λ n. ⌜ n ≡ touched settings self ⌝ }
+        ensures { λ n. ⌜ n ≡ ownTouched settings self ⌝ }
     {
         let phase = self.phase;
         let place = self.place;
@@ -61,10 +61,10 @@ impl Record {
         }
     }
 
-    // What the step leaves at that node n, where it found a word, and the next record.
+    // What the phase leaves at that node n, where it found a word, and the next record.
     pub fn moved(self, settings: Settings, n: u64, found: u64, clock: u64) -> Moved
-        requires { ⌜ Settled settings × Sound settings self × (self .t1 ≤ clock) × (self .t0 ≤ clock) × (n ≡ touched settings self) ⌝ }
-        ensures { λ m. ⌜ m ≡ moved settings self found clock ⌝ }
+        requires { ⌜ Settled settings × Sound settings self × (self .t1 ≤ clock) × (self .t0 ≤ clock) × (n ≡ ownTouched settings self) ⌝ }
+        ensures { λ m. ⌜ m ≡ ownMoved settings self found clock ⌝ }
     {
         let phase = self.phase;
         match phase {
@@ -75,7 +75,7 @@ impl Record {
             5 => self.claim_piece(settings, found, clock),
             6 => leaves(word::add_dmax(found, 1), self.notice_given(settings, clock)),
             7 => leaves(found, self.waited(settings, clock)),
-            8 => leaves(found, self.check_passed(settings, found)),
+            8 => leaves(found, self.check_passed(settings, found, clock)),
             10 => self.give_back(settings, found),
             _ => leaves(found, self),
         }

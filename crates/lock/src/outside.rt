@@ -1,4 +1,4 @@
-// Cause 1, "H, m or T outside its range".
+// Cause 1, "H, m or T outside its range", and P.
 ghost use mathlib.Core.Path.{_≡_};
 ghost use Rattle.lock.specs.rules.Calls.{settingsOutside};
 use crate::Settings;
@@ -13,5 +13,7 @@ impl Settings {
             | (4 < self.distance)
             | (self.wait < 1)
             | (4294967295 < self.wait)
+            | (self.patience < 1)
+            | (4294967295 < self.patience)
     }
 }

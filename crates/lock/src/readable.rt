@@ -24,9 +24,11 @@ impl Record {
             | (0 < self.notices)
             | (0 < self.t1)
             | (0 < self.t0)
+            | (0 < self.taken)
     }
 
-    // "a window outside the tree, pieces that aren't its cover, a current piece that doesn't exist, a ticket over 32,767", "a noted time after the last clock"
+    // "a window outside the tree, pieces that aren't its cover, a current piece that doesn't exist, a ticket over 32,767", "a noted time after the last clock"; 2.2, "a
+    // nonzero time at a first piece, save in 9 or in 10 with outcome 1"
     fn not_begun(self, settings: Settings, last: u64) -> bool
         requires { ⌜ Settled settings ⌝ }
         ensures { λ b. ⌜ b ≡ notBegun settings self last ⌝ }
@@ -40,7 +42,8 @@ impl Record {
         )
             | (self.piece_count() <= self.current)
             | (32767 < self.ticket)
-            | ((last < self.t1) | (last < self.t0))
+            | ((last < self.t1) | (last < self.t0) | (last < self.taken))
+            | self.taken_first()
     }
 
     pub fn unreadable(self, settings: Settings, last: u64) -> bool
@@ -48,7 +51,7 @@ impl Record {
         ensures { λ b. ⌜ b ≡ unreadable settings self last ⌝ }
     {
         if self.phase == 0 {
-            return (3 < self.outcome) | self.idle_filled();
+            return (4 < self.outcome) | self.idle_filled();
         }
         if self.not_begun(settings, last) {
             return true;

@@ -43,6 +43,7 @@ impl Record {
             notices: 0,
             t1: 0,
             t0: 0,
+            taken: 0,
         }
     }
 

@@ -150,17 +150,18 @@ impl Record {
     }
 
     // "A taken piece starts the next the same way, or gives 9."
-    fn taken(mut self, settings: Settings) -> Record
+    fn taken(self, settings: Settings, clock: u64) -> Record
         requires { ⌜ Pieced self ⌝ }
-        ensures { λ r. ⌜ r ≡ taken settings self ⌝ }
+        ensures { λ r. ⌜ r ≡ taken settings self clock ⌝ }
     {
+        let mut noted = self.first_noted(clock);
         let next = self.current + 1;
         if next < self.piece_count() {
-            return self.begin(settings, next);
+            return noted.begin(settings, next);
         }
-        self.phase = 9;
-        self.place = 0;
-        self
+        noted.phase = 9;
+        noted.place = 0;
+        noted
     }
 
     // 6 notify, "After the last"
@@ -175,7 +176,7 @@ impl Record {
             return self;
         }
         if settings.is_leaf(self.current_piece()) {
-            return self.taken(settings);
+            return self.taken(settings, clock);
         }
         self.phase = 7;
         self.place = 0;
@@ -211,9 +212,9 @@ impl Record {
     }
 
     // 8 check
-    pub fn check_passed(mut self, settings: Settings, found: u64) -> Record
+    pub fn check_passed(mut self, settings: Settings, found: u64, clock: u64) -> Record
         requires { ⌜ Settled settings × Pieced self × Node (settings .levels) (currentPiece self) × (self .place < length (checkList (settings .levels) (settings .distance) (currentPiece self))) ⌝ }
-        ensures { λ r. ⌜ r ≡ checkPassed settings self found ⌝ }
+        ensures { λ r. ⌜ r ≡ checkPassed settings self found clock ⌝ }
     {
         if word::dcnt(found) != word::dmax(found) {
             return self;
@@ -224,7 +225,7 @@ impl Record {
             self.place = passed;
             return self;
         }
-        self.taken(settings)
+        self.taken(settings, clock)
     }
 }
 

@@ -10,7 +10,7 @@ use schedule::put_bytes;
 use schedule::put_decimal;
 use schedule::put_spaced;
 
-// A number has at most 20 digits, and one byte stands before or behind it: seven numbers are 147 bytes, sixteen are 336.
+// A number has at most 20 digits, and one byte stands before or behind it: seven numbers are 147 bytes, seventeen are 357.
 
 // A client's row on the planners' page.
 pub fn put_row(out: &mut [u8], at: usize, client: u64, row: Row) -> usize
@@ -30,21 +30,22 @@ pub fn put_row(out: &mut [u8], at: usize, client: u64, row: Row) -> usize
 
 // The end of a run's line: the noted times, and the count.
 fn put_times(out: &mut [u8], at: usize, own: Record, held: u64) -> usize
-    requires { ⌜ at + 64 ≤ length (now out) ⌝ }
+    requires { ⌜ at + 85 ≤ length (now out) ⌝ }
     ensures piece { λ r. ⌜ Appended (now (out .entry)) at (now (out .exit)) r (timesText own held) ⌝ }
-    ensures short { λ r. ⌜ r ≤ at + 64 ⌝ }
+    ensures short { λ r. ⌜ r ≤ at + 85 ⌝ }
 {
     let a = put_spaced(out, at, own.t1);
     let b = put_spaced(out, a, own.t0);
-    let c = put_spaced(out, b, held);
-    put_bytes(out, c, b"\n")
+    let c = put_spaced(out, b, own.taken);
+    let d = put_spaced(out, c, held);
+    put_bytes(out, d, b"\n")
 }
 
 // The line from the current piece on.
 fn put_current(out: &mut [u8], at: usize, own: Record, held: u64) -> usize
-    requires { ⌜ at + 190 ≤ length (now out) ⌝ }
+    requires { ⌜ at + 211 ≤ length (now out) ⌝ }
     ensures piece { λ r. ⌜ Appended (now (out .entry)) at (now (out .exit)) r (currentText own held) ⌝ }
-    ensures short { λ r. ⌜ r ≤ at + 190 ⌝ }
+    ensures short { λ r. ⌜ r ≤ at + 211 ⌝ }
 {
     let a = put_spaced(out, at, own.current);
     let b = put_spaced(out, a, own.giving);
@@ -57,9 +58,9 @@ fn put_current(out: &mut [u8], at: usize, own: Record, held: u64) -> usize
 
 // A run's page: its record, and how many clients are in phase 9.
 pub fn put_record(out: &mut [u8], at: usize, client: u64, own: Record, held: u64) -> usize
-    requires { ⌜ at + 336 ≤ length (now out) ⌝ }
+    requires { ⌜ at + 357 ≤ length (now out) ⌝ }
     ensures piece { λ r. ⌜ Appended (now (out .entry)) at (now (out .exit)) r (recordLine held client own) ⌝ }
-    ensures short { λ r. ⌜ r ≤ at + 336 ⌝ }
+    ensures short { λ r. ⌜ r ≤ at + 357 ⌝ }
 {
     let a = put_decimal(out, at, client);
     let b = put_spaced(out, a, own.phase);

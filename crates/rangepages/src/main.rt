@@ -6,11 +6,11 @@ ghost use lib.ListN.{length};
 mod lines;
 mod paging;
 
-// Room for both pages: 64 clients have 64 × (147 + 336) bytes, which are 30,912.
-fn page_room() -> [u8; 32000]
-    ensures { λ r. ⌜ 32000 ≡ length r ⌝ }
+// Room for both pages: 64 clients have 64 × (147 + 357) bytes, which are 32,256.
+fn page_room() -> [u8; 33000]
+    ensures { λ r. ⌜ 33000 ≡ length r ⌝ }
 {
-    [0; 32000]
+    [0; 33000]
 }
 
 fn main() {

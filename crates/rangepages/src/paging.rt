@@ -52,7 +52,7 @@ fn put_rows(out: &mut [u8], run: Run, settings: Settings) -> usize
 
 // "then one for each, number, record and count"
 fn put_records(out: &mut [u8], at: usize, run: Run, held: u64) -> usize
-    requires { ⌜ Full run × (at + 336 * run .clients ≤ length (now out)) ⌝ }
+    requires { ⌜ Full run × (at + 357 * run .clients ≤ length (now out)) ⌝ }
     ensures { λ r. ⌜ Appended (now (out .entry)) at (now (out .exit)) r (lineEach (recordLine held) 0 (recordsOf run)) ⌝ }
 {
     let shelf = run.shelf;
@@ -84,7 +84,7 @@ pub fn put_pages(bytes: &[u8], out: &mut [u8]) -> usize
     ensures pages { λ r. ⌜ Paged (now (bytes .entry)) (now (out .entry)) (now (out .exit)) r ⌝ }
     ensures inside { λ r. ⌜ Counts r (now (out .exit)) ⌝ }
 {
-    if out.len() < 32000 {
+    if out.len() < 33000 {
         return 0;
     }
     let number = schedule::refusal(bytes);

@@ -43,24 +43,26 @@ pub fn u64_at(bytes: &[u8], at: usize) -> u64
     low + 4294967296 * high
 }
 
-// ---- "Header of 16 bytes: u16 H, u16 m, u32 T, u16 clients, u16 count of calls, u32 offset of the first."
+// ---- "Header of 16 bytes: u16 H, u16 m, u32 T, u16 clients, u16 count of calls, u32 offset of the first."; 2.2, "u32 P at byte 16"
 
 pub fn settings_in(bytes: &[u8]) -> Settings
-    requires { ⌜ 16 ≤ length (now bytes) ⌝ }
+    requires { ⌜ 20 ≤ length (now bytes) ⌝ }
     ensures { λ r. ⌜ r ≡ settingsIn (now (bytes .entry)) ⌝ }
 {
     let levels = u16_at(bytes, 0);
     let distance = u16_at(bytes, 2);
     let wait = u32_at(bytes, 4);
+    let patience = u32_at(bytes, 16);
     Settings {
         levels,
         distance,
         wait,
+        patience,
     }
 }
 
 pub fn clients_in(bytes: &[u8]) -> usize
-    requires { ⌜ 16 ≤ length (now bytes) ⌝ }
+    requires { ⌜ 20 ≤ length (now bytes) ⌝ }
     ensures { λ r. ⌜ r ≡ clientsIn (now (bytes .entry)) ⌝ }
 {
     let clients = u16_at(bytes, 8);
@@ -68,7 +70,7 @@ pub fn clients_in(bytes: &[u8]) -> usize
 }
 
 pub fn count_in(bytes: &[u8]) -> usize
-    requires { ⌜ 16 ≤ length (now bytes) ⌝ }
+    requires { ⌜ 20 ≤ length (now bytes) ⌝ }
     ensures { λ r. ⌜ r ≡ countIn (now (bytes .entry)) ⌝ }
 {
     let count = u16_at(bytes, 10);
@@ -76,7 +78,7 @@ pub fn count_in(bytes: &[u8]) -> usize
 }
 
 pub fn offset_in(bytes: &[u8]) -> usize
-    requires { ⌜ 16 ≤ length (now bytes) ⌝ }
+    requires { ⌜ 20 ≤ length (now bytes) ⌝ }
     ensures { λ r. ⌜ r ≡ offsetIn (now (bytes .entry)) ⌝ }
 {
     let offset = u32_at(bytes, 12);
@@ -145,7 +147,7 @@ pub fn call_wrong(bytes: &[u8], k: usize) -> bool
 
 // Whether one of the calls is wrong. All of them are looked at before anything is run.
 pub fn any_wrong(bytes: &[u8]) -> bool
-    requires { ⌜ (16 ≤ length (now bytes)) × (placeOf (now bytes) (countIn (now bytes)) ≤ length (now bytes)) ⌝ }
+    requires { ⌜ (20 ≤ length (now bytes)) × (placeOf (now bytes) (countIn (now bytes)) ≤ length (now bytes)) ⌝ }
     ensures { λ r. ⌜ r ≡ anyWrong (now (bytes .entry)) (countIn (now (bytes .entry))) ⌝ }
 {
     let count = count_in(bytes);
@@ -160,11 +162,11 @@ pub fn any_wrong(bytes: &[u8]) -> bool
 }
 
 // ---- "A file too long or short, an offset below 16, an offset plus 24 × calls over the file's length, an unknown kind or a filled zero field:
-// `refused 10`. H over 6 or clients over 64: `refused 11`, tested after 10."
+// `refused 10`. H over 6 or clients over 64: `refused 11`, tested after 10."; 2.2, "its least offset is 20".
 
 // "offset plus 24 × calls"
 fn calls_end(bytes: &[u8]) -> usize
-    requires { ⌜ 16 ≤ length (now bytes) ⌝ }
+    requires { ⌜ 20 ≤ length (now bytes) ⌝ }
     ensures { λ r. ⌜ r ≡ placeOf (now (bytes .entry)) (countIn (now (bytes .entry))) ⌝ }
 {
     let offset = offset_in(bytes);
@@ -178,10 +180,10 @@ fn file_malformed(bytes: &[u8]) -> bool
     if 65536 < bytes.len() {
         return true;
     }
-    if bytes.len() < 16 {
+    if bytes.len() < 20 {
         return true;
     }
-    if offset_in(bytes) < 16 {
+    if offset_in(bytes) < 20 {
         return true;
     }
     if bytes.len() < calls_end(bytes) {
@@ -191,7 +193,7 @@ fn file_malformed(bytes: &[u8]) -> bool
 }
 
 fn file_too_large(bytes: &[u8]) -> bool
-    requires { ⌜ 16 ≤ length (now bytes) ⌝ }
+    requires { ⌜ 20 ≤ length (now bytes) ⌝ }
     ensures { λ r. ⌜ r ≡ tooLarge (now (bytes .entry)) ⌝ }
 {
     (6 < u16_at(bytes, 0)) | (64 < clients_in(bytes))

@@ -1,6 +1,6 @@
--- Laws of tests, and of tests joined by `||`. Assumes nothing.
+-- Laws of tests, and of tests joined by `||` or `&&`. Assumes nothing.
 use mathlib.Core.Path.{_≡_, refl, sym, ap, _∙_, subst}
-use mathlib.Core.Bool.{Bool, true, false, not, _||_}
+use mathlib.Core.Bool.{Bool, true, false, not, _&&_, _||_}
 use lib.Dec.{T}
 
 pub test-true : (b : Bool) → T b → b ≡ true
@@ -25,3 +25,15 @@ next-test x a b e f = f ∙ ap (λ c. c || b) (sym e)
 pub both-false : (a b : Bool) → (a || b) ≡ false → (a ≡ false) × (b ≡ false)
 both-false true b e = absurd (subst T e tt)
 both-false false b e = (refl, e)
+
+-- both of two tests are true
+pub both-true : (a b : Bool) → (a && b) ≡ true → (a ≡ true) × (b ≡ true)
+both-true true b e = (refl, e)
+both-true false b e = absurd (subst T (sym e) tt)
+
+pub second-false : (a b : Bool) → b ≡ false → (a && b) ≡ false
+second-false true b e = e
+second-false false b e = refl
+
+pub second-of : (a b : Bool) → a ≡ true → (a && b) ≡ false → b ≡ false
+second-of a b t e = sym (ap (λ x. x && b) t) ∙ e

@@ -9,8 +9,8 @@ use Rattle.base.specs.laws.ChoiceLaws.{on-choose, choose-eq, by-eq}
 use Rattle.lock.specs.declared.Moved.{Moved}
 use Rattle.lock.specs.declared.Record.{Record}
 use Rattle.lock.specs.declared.Settings.{Settings}
-use Rattle.lock.specs.rules.Records.{Phase, idle, ticket, turn, climb, blocked, claim, notify, wait, check, held, returning, unknown, wordAt, idleWith}
-use Rattle.lock.specs.rules.Steps.{touched, begin, taken, ticketTaken, turnAwaited, goUp, climbed, unblocked, bitsClaimed, occClaimed, allNotified, noticeGiven, waited, checkPassed, pieceReturned, wordReturned, turnReturned, claimPiece, returnBits, returnInner, giveBack, movedIn, moved}
+use Rattle.lock.specs.rules.Records.{Phase, idle, ticket, turn, climb, blocked, claim, notify, wait, check, held, returning, unknown, phaseOf, wordAt, idleWith}
+use Rattle.lock.specs.rules.Steps.{begin, firstNoted, taken, ticketTaken, turnAwaited, goUp, climbed, unblocked, bitsClaimed, occClaimed, allNotified, noticeGiven, waited, checkPassed, pieceReturned, wordReturned, turnReturned, claimPiece, returnBits, returnInner, giveBack, movedIn, patienceSpent, touched, moved}
 use Rattle.lock.specs.rules.Calls.{requested, released, cancelled}
 use Rattle.lock.specs.rules.Table.{State, Call, request, step, release, cancel, clientOf, recordAt, numberOf, after, call}
 use Rattle.lock.specs.laws.Accepted.{accepted}
@@ -19,7 +19,7 @@ use Rattle.lock.specs.laws.Accepted.{accepted}
 
 unfoldable pub recordAfter : Settings → State → Call → Record
 recordAfter s st (request c l r) = requested s l r
-recordAfter s st (step c t) = moved s (recordAt st c) (wordAt (st .words) (touched s (recordAt st c))) t .next
+recordAfter s st (step c t) = moved s (recordAt st c) (wordAt (st .words) (touched s (recordAt st c) t)) t .next
 recordAfter s st (release c) = released (recordAt st c)
 recordAfter s st (cancel c) = cancelled (recordAt st c)
 
@@ -75,9 +75,11 @@ module _ (l q : ℕ) where
   EdgesOrIdle r = (r .phase ≡ 0) ⊎ HasEdges r
 
   module _ (s : Settings) where
-    edges-taken : (r : Record) → HasEdges r → HasEdges (taken s r)
-    unfolding taken begin
-    edges-taken r e = on-choose HasEdges _ _ _ (λ _. e) (λ _. e)
+    edges-taken : (r : Record) (t : ℕ) → HasEdges r → HasEdges (taken s r t)
+    unfolding taken begin firstNoted
+    edges-taken r t e =
+        let noted : HasEdges (firstNoted r t) = on-choose HasEdges _ _ _ (λ _. e) (λ _. e) in
+        on-choose HasEdges _ _ _ (λ _. noted) (λ _. noted)
 
     edges-up : (r : Record) → HasEdges r → HasEdges (goUp r)
     unfolding goUp
@@ -85,7 +87,7 @@ module _ (l q : ℕ) where
 
     edges-notified : (r : Record) (t : ℕ) → HasEdges r → HasEdges (allNotified s r t)
     unfolding allNotified
-    edges-notified r t e = on-choose HasEdges _ _ _ (λ _. e) (λ _. on-choose HasEdges _ _ _ (λ _. edges-taken r e) (λ _. e))
+    edges-notified r t e = on-choose HasEdges _ _ _ (λ _. e) (λ _. on-choose HasEdges _ _ _ (λ _. edges-taken r t e) (λ _. e))
 
     edges-returned : (r : Record) → HasEdges r → EdgesOrIdle (wordReturned s r)
     unfolding wordReturned pieceReturned
@@ -102,7 +104,7 @@ module _ (l q : ℕ) where
         (λ _. back)
 
     -- each row of the table
-    pub edges-moved : (r : Record) (w t : ℕ) (p : Phase) → HasEdges r → EdgesOrIdle (movedIn s r w t p .next)
+    edges-moved : (r : Record) (w t : ℕ) (p : Phase) → HasEdges r → EdgesOrIdle (movedIn s r w t p .next)
     unfolding movedIn ticketTaken turnAwaited climbed unblocked claimPiece bitsClaimed occClaimed noticeGiven waited checkPassed
     edges-moved r w t idle e = inr e
     edges-moved r w t ticket e = inr e
@@ -112,7 +114,11 @@ module _ (l q : ℕ) where
     edges-moved r w t claim e = inr (on-choose (λ (x : Moved). HasEdges (x .next)) _ _ _ (λ _. on-choose HasEdges _ _ _ (λ _. e) (λ _. e)) (λ _. e))
     edges-moved r w t notify e = inr (on-choose HasEdges _ _ _ (λ _. e) (λ _. edges-notified _ t e))
     edges-moved r w t wait e = inr (on-choose HasEdges _ _ _ (λ _. e) (λ _. e))
-    edges-moved r w t check e = inr (on-choose HasEdges _ _ _ (λ _. on-choose HasEdges _ _ _ (λ _. e) (λ _. edges-taken r e)) (λ _. e))
+    edges-moved r w t check e = inr (on-choose HasEdges _ _ _ (λ _. on-choose HasEdges _ _ _ (λ _. e) (λ _. edges-taken r t e)) (λ _. e))
     edges-moved r w t held e = inr e
     edges-moved r w t returning e = edges-given r w e
     edges-moved r w t unknown e = inr e
+
+    -- or patience is spent
+    pub edges-stepped : (r : Record) (w t : ℕ) → HasEdges r → EdgesOrIdle (moved s r w t .next)
+    edges-stepped r w t e = on-choose (λ (x : Moved). EdgesOrIdle (x .next)) (patienceSpent s r t) _ _ (λ _. inr e) (λ _. edges-moved r w t (phaseOf (r .phase)) e)

@@ -15,7 +15,7 @@ use Rattle.tree.specs.laws.Climb.{left-pos}
 use Rattle.tree.specs.laws.Check.{checkCount, checkNode, check-count, check-place, check-is}
 use Rattle.lock.specs.declared.Record.{Record}
 use Rattle.lock.specs.declared.Settings.{Settings}
-use Rattle.lock.specs.rules.Records.{pieces, pieceAt, currentPiece, toPhase, withPlace}
+use Rattle.lock.specs.rules.Records.{pieces, pieceAt, currentPiece, toPhase, withPlace, withTaken}
 use Rattle.lock.specs.rules.Steps.{taken, waited, checkPassed}
 use Rattle.lock.specs.laws.Active.{Settled}
 use Rattle.lock.specs.laws.ActiveLaws.{checked}
@@ -27,7 +27,7 @@ use Rattle.lock.specs.claim.Effect.{quiet}
 use Rattle.lock.specs.claim.InnerWords.{nobody}
 use Rattle.lock.specs.claim.Stage.{checkedTo, stage-current, passing-none, checked-some, checked-all}
 use Rattle.lock.specs.claim.Forward.{kin, onward-unreturned}
-use Rattle.lock.specs.claim.Onward.{asked-same, onward}
+use Rattle.lock.specs.claim.Onward.{untaken, asked-same, onward}
 use Rattle.lock.specs.claim.Keeps.{Keeps, keeps-stay, keeps-quiet}
 use Rattle.lock.specs.claim.Taking.{taken-keeps}
 
@@ -42,7 +42,7 @@ module _ (s : Settings) (rs : List Record) (r : Record) (last now : ℕ) (later 
       let q = withPlace place (toPhase 8 r) in
       let ahead : r .phase ≢ 10 = λ f. omega arith in
       record {
-        readable = readable-check s q now g (asked-same s r q last now rd (kin r q refl refl refl refl) later refl refl refl refl) (rd .no-outcome ahead) (rd .no-giving ahead)
+        readable = readable-check s q now g (asked-same s r q last now rd (kin r q refl refl refl refl) later refl refl refl refl refl (untaken s r q last now rd (omega arith) refl refl)) (rd .no-outcome ahead) (rd .no-giving ahead)
             (rd .claimed (omega arith) (omega arith)) (rd .active .noticed) refl (rd .inner (inr (inr (by-eq (r .phase) 7 inl (λ d. inr (omega arith)))))) l;
         all-noticed = λ _ _. v .all-noticed (omega arith) (omega arith);
       }
@@ -123,24 +123,23 @@ module _ (s : Settings) (rs : List Record) (r : Record) (last now : ℕ) (later 
           (onward s rs nobody r now q k refl ahead ahead (λ _ a. absurd (omega arith)) (λ a b. inl (a, b)) (λ l b. one-more l (omega arith))
           (inl (passing-none q (λ f. omega arith) (λ f. omega arith) (λ f. omega arith))) (λ a b. inl (a, b)))
 
-      last-keeps : checkCount h m n ≤ suc (r .place) → Keeps s rs r x w w (taken s r) now
+      last-keeps : checkCount h m n ≤ suc (r .place) → Keeps s rs r x w w (taken s r now) now
       unfolding pieces pieceAt
       last-keeps b =
-          let q = toPhase 9 r in
-          let k = kin r q refl refl refl refl in
-          let at = checked-all s q (r .current) (stage-current q (r .current) refl) in
           taken-keeps s rs r (r .notices) last now later g rd ahead (rd .claimed (omega arith) (omega arith)) (v .all-noticed (omega arith) (omega arith))
           x w w (λ _. checked-node .0) (λ p y. quiet refl y)
-          (onward s rs nobody r now q k refl ahead (λ f. omega arith) (λ _ a. absurd (omega arith)) (λ _ _. inl (omega arith, omega arith)) (λ l c. one-more l (omega arith))
+          (λ t. let q = toPhase 9 (withTaken t r) in
+          let at = checked-all s q (r .current) (stage-current q (r .current) refl) in
+          onward s rs nobody r now q (kin r q refl refl refl refl) refl ahead (λ f. omega arith) (λ _ a. absurd (omega arith)) (λ _ _. inl (omega arith, omega arith)) (λ l c. one-more l (omega arith))
           (inl (passing-none q (λ f. omega arith) (λ f. omega arith) (λ f. omega arith))) (λ _ _. inl (omega arith, omega arith)))
 
-    pub check-keeps : (dcnt w ≡ dmax w → (d : ℕ) → ownsNotice s x (getD rs d nobody) ≡ 0) → Keeps s rs r x w w (checkPassed s r w) now
+    pub check-keeps : (dcnt w ≡ dmax w → (d : ℕ) → ownsNotice s x (getD rs d nobody) ≡ 0) → Keeps s rs r x w w (checkPassed s r w now) now
     unfolding checkPassed
     check-keeps none =
         let count = length (checkList h m n) in
-        on-choose (λ q. Keeps s rs r x w w q now) (eqb (dcnt w) (dmax w)) (choose (ltb (suc (r .place)) count) (withPlace (suc (r .place)) r) (taken s r)) r
+        on-choose (λ q. Keeps s rs r x w w q now) (eqb (dcnt w) (dmax w)) (choose (ltb (suc (r .place)) count) (withPlace (suc (r .place)) r) (taken s r now)) r
         (λ t. let clear = none (eqb→eq (dcnt w) (dmax w) t) in
-        on-choose (λ q. Keeps s rs r x w w q now) (ltb (suc (r .place)) count) (withPlace (suc (r .place)) r) (taken s r)
+        on-choose (λ q. Keeps s rs r x w w q now) (ltb (suc (r .place)) count) (withPlace (suc (r .place)) r) (taken s r now)
         (λ y. more-keeps clear (ltb→lt (suc (r .place)) count y))
         (λ y. last-keeps clear (omega (arith, nltb→le (suc (r .place)) count y, check-count h m n))))
         (λ _. keeps-stay s rs r x w last now later v (λ _. checked-node .0))

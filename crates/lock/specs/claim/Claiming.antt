@@ -34,7 +34,7 @@ use Rattle.lock.specs.claim.Effect.{claimed, took}
 use Rattle.lock.specs.claim.InnerWords.{nobody}
 use Rattle.lock.specs.claim.Stage.{stage-current, passing-climb, passing-claim, passing-notify, passing-none, checked-none}
 use Rattle.lock.specs.claim.Forward.{kin, onward-unreturned, forward-grips}
-use Rattle.lock.specs.claim.Onward.{asked-kin, asked-same, onward, onward-low}
+use Rattle.lock.specs.claim.Onward.{untaken, asked-kin, asked-same, onward, onward-low}
 use Rattle.lock.specs.claim.Keeps.{Keeps, keeps-quiet}
 use Rattle.lock.specs.claim.Climbing.{climbing-fit}
 
@@ -71,7 +71,7 @@ module _ (s : Settings) (rs : List Record) (r : Record) (last now : ℕ) (later 
               (forward-grips s r q k refl (onward-unreturned s r ahead) (onward-unreturned s q aheadq) (ready-apart s r last rd) (rd .active .exists) 0 3 (rd .grip-leaf (omega arith) (omega arith) leaf) refl refl (λ _ _ _ _. refl))
               done refl;
           fits = fit-readable s q now
-              (readable-notify s q now g (asked-same s r q last now rd k later refl refl refl refl) (rd .no-outcome ahead) (rd .no-giving ahead) refl refl (notified-some (omega (arith, g .levels-some)))
+              (readable-notify s q now g (asked-same s r q last now rd k later refl refl refl refl refl (untaken s r q last now rd (omega arith) refl refl)) (rd .no-outcome ahead) (rd .no-giving ahead) refl refl (notified-some (omega (arith, g .levels-some)))
               (rd .no-notices (omega (arith, rd .grip-leaf (omega arith) (omega arith) leaf)))) (λ x. omega arith);
           time = onward s rs nobody r now q k refl ahead aheadq (λ _ _. inr (inr leaf)) (λ x _. absurd (omega arith))
               (λ l x. absurd (omega (arith, checked-none s q (r .current) (λ f. omega arith) (λ f. omega arith))))
@@ -102,7 +102,8 @@ module _ (s : Settings) (rs : List Record) (r : Record) (last now : ℕ) (later 
       let grip = rd .grip-inner (omega arith) (omega arith) inner in
       let root : 7 ≤ p → n ≡ 1 = λ x. ⊎-elim (λ z. absurd (omega (arith, z .0))) (λ z. z .1) o in
       let none = rd .no-notices (omega arith) in
-      let every = asked-kin s r q last now rd k (rd .active .exists) (rd .active .ticket-most) (omega (arith, rd .active .t1-past)) (omega arith) in
+      let every = asked-kin s r q last now rd k (rd .active .exists) (rd .active .ticket-most) (omega (arith, rd .active .t1-past)) (omega arith)
+      (omega (arith, rd .active .taken-past)) (untaken s r q last now rd (omega arith) refl refl) in
       let at = stage-current q (r .current) refl in
       record {
         node = λ _. current-node;

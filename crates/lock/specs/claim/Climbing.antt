@@ -29,7 +29,7 @@ use Rattle.lock.specs.claim.Effect.{drew, turned}
 use Rattle.lock.specs.claim.InnerWords.{nobody}
 use Rattle.lock.specs.claim.Stage.{passing, passing-climb, passing-claim, passing-none}
 use Rattle.lock.specs.claim.Forward.{kin, onward-unreturned, forward-grips, drawn-else}
-use Rattle.lock.specs.claim.Onward.{asked-kin, asked-same, onward-low}
+use Rattle.lock.specs.claim.Onward.{untaken, asked-kin, asked-same, onward-low}
 use Rattle.lock.specs.claim.Keeps.{Keeps, keeps-stay, keeps-quiet}
 
 module _ (s : Settings) (rs : List Record) (r : Record) (last now : ℕ) (later : last ≤ now) (g : Settled s) (rd : Ready s r last) (v : Fit s r last) (w : ℕ) where
@@ -46,7 +46,8 @@ module _ (s : Settings) (rs : List Record) (r : Record) (last now : ℕ) (later 
   climbing-fit a b p place t c o =
       let q = withPlace place (toPhase p (withT1 t r)) in
       let ahead : r .phase ≢ 10 = λ f. omega arith in
-      let every = asked-kin s r q last now rd (kin r q refl refl refl refl) (rd .active .exists) (rd .active .ticket-most) c (omega (arith, rd .active .t0-past)) in
+      let every = asked-kin s r q last now rd (kin r q refl refl refl refl) (rd .active .exists) (rd .active .ticket-most) c (omega (arith, rd .active .t0-past))
+      (omega (arith, rd .active .taken-past)) (untaken s r q last now rd (omega arith) refl refl) in
       let none = rd .no-notices (by-eq (level n) (s .levels) (λ f. omega (arith, rd .grip-leaf a b f)) (λ d. omega (arith, rd .grip-inner a b d))) in
       ⊎-elim
       (λ z. fit-readable s q now (readable-climbing s q now g every (rd .no-outcome ahead) (rd .no-giving ahead) (rd .grip-leaf a b) (rd .grip-inner a b) none (z .0) (z .1) (z .2)) (λ x. omega (arith, z .1)))
@@ -70,7 +71,8 @@ module _ (s : Settings) (rs : List Record) (r : Record) (last now : ℕ) (later 
             (λ m d o t. absurd (drawn-else s r q k refl un unq (ready-apart s r last rd) (rd .active .exists) m d o t))) refl refl;
         fits = fit-readable s q now
             (readable-turn s q now g
-            (asked-kin s r q last now rd k (rd .active .exists) (omega (arith, field-lt 32 15 w)) (omega (arith, rd .active .t1-past)) (omega (arith, rd .active .t0-past)))
+            (asked-kin s r q last now rd k (rd .active .exists) (omega (arith, field-lt 32 15 w)) (omega (arith, rd .active .t1-past)) (omega (arith, rd .active .t0-past))
+            (omega (arith, rd .active .taken-past)) (untaken s r q last now rd (omega arith) refl refl))
             (rd .no-outcome ahead) (rd .no-giving ahead) refl refl (rd .inner (inl e)) refl (rd .no-notices (omega (arith, rd .grip-ticket e)))) (λ x. omega arith);
         time = onward-low s rs nobody r now q k refl ahead (λ f. omega arith) (omega arith) (inl (passing-none q (λ f. omega arith) (λ f. omega arith) (λ f. omega arith)));
       }
@@ -85,7 +87,7 @@ module _ (s : Settings) (rs : List Record) (r : Record) (last now : ℕ) (later 
       let b : p ≤ 5 = ⊎-elim (λ z. omega (arith, z .0)) (λ z. omega (arith, z .0)) o in
       let ahead : r .phase ≢ 10 = λ z. omega arith in
       let aheadq : p ≢ 10 = λ z. omega arith in
-      let every = asked-same s r q last now rd k later refl refl refl refl in
+      let every = asked-same s r q last now rd k later refl refl refl refl refl (untaken s r q last now rd (omega arith) refl refl) in
       let none = rd .no-notices (omega (arith, rd .grip-turn e)) in
       record {
         node = λ _. current-node;

@@ -158,5 +158,5 @@ module _ (s : Settings) (r : Record) (last : ℕ) where
       pub fit-past : r .t1 ≤ last
       fit-past = on-fit (λ e. omega (arith, ap (λ x. x .t1) e)) (λ l. l .active .t1-past)
 
-pub idle-fit : (s : Settings) (o last : ℕ) → o ≤ 3 → Fit s (idleWith o) last
+pub idle-fit : (s : Settings) (o last : ℕ) → o ≤ 4 → Fit s (idleWith o) last
 idle-fit s o last b = fit-readable s (idleWith o) last (readable-idle s o last b) (λ x. omega arith)

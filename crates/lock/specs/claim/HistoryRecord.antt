@@ -9,27 +9,30 @@ use lib.ListN.{length, List·getD-eq-default}
 use Rattle.base.specs.laws.ChoiceLaws.{on-choose, by-lt}
 use Rattle.lock.specs.declared.Record.{Record}
 use Rattle.lock.specs.declared.Settings.{Settings}
-use Rattle.lock.specs.rules.Records.{phaseOf, wordAt, idleWith}
+use Rattle.lock.specs.rules.Records.{wordAt, idleWith}
 use Rattle.lock.specs.rules.Steps.{touched, movedIn}
 use Rattle.lock.specs.rules.Calls.{requested, released, cancelled}
 use Rattle.lock.specs.rules.Table.{State, Call, request, step, release, cancel, clientOf, recordAt, numberOf, call}
 use Rattle.lock.specs.laws.Phases.{at-idle, at-held}
+use Rattle.lock.specs.laws.PatienceLaws.{unspent-idle, unspent-taken, own-moved}
 use Rattle.lock.specs.laws.Accepted.{accepted, request-tested, release-tested, cancel-tested}
-use Rattle.lock.specs.claim.AfterCall.{recordAfter, own-record, on-call, count-after, HasEdges, EdgesOrIdle, edges-moved}
+use Rattle.lock.specs.claim.AfterCall.{recordAfter, own-record, on-call, count-after, HasEdges, EdgesOrIdle, edges-stepped}
 use Rattle.lock.specs.rules.History.{run, Event, event, events, Some, CallOf, RequestOf, StepOf, ReleaseOf, Accepted, GaveBackIn, Holds, Idle}
 
 -- "0 idle, 9 held | nothing"
 module _ (s : Settings) (st : State) (c t : ℕ) where
   abbrev word : ℕ
-  word = wordAt (st .words) (touched s (recordAt st c))
+  word = wordAt (st .words) (touched s (recordAt st c) t)
 
   step-idle : recordAt st c .phase ≡ 0 → recordAfter s st (step c t) ≡ recordAt st c
   unfolding recordAfter movedIn
-  step-idle e = ap (λ p. movedIn s (recordAt st c) word t p .next) (at-idle (recordAt st c .phase) e)
+  step-idle e =
+      ap (λ m. m .next) (own-moved s (recordAt st c) t (unspent-idle s (recordAt st c) t e) word) ∙ ap (λ p. movedIn s (recordAt st c) word t p .next) (at-idle (recordAt st c .phase) e)
 
   step-held : recordAt st c .phase ≡ 9 → recordAfter s st (step c t) ≡ recordAt st c
   unfolding recordAfter movedIn
-  step-held e = ap (λ p. movedIn s (recordAt st c) word t p .next) (at-held (recordAt st c .phase) e)
+  step-held e =
+      ap (λ m. m .next) (own-moved s (recordAt st c) t (unspent-taken s (recordAt st c) t (omega arith)) word) ∙ ap (λ p. movedIn s (recordAt st c) word t p .next) (at-held (recordAt st c .phase) e)
 
 -- [l, q) is held
 abbrev Held : ℕ → ℕ → Record → Type 0
@@ -58,7 +61,7 @@ module _ (s : Settings) (st : State) where
     unfolding clientOf RequestOf recordAfter released cancelled
     edges-after k n other (inl z) = inl (idle-after k n other z)
     edges-after (request c a b) n other (inr e) = absurd (other refl)
-    edges-after (step c t) n other (inr e) = edges-moved l q s (recordAt st c) _ t (phaseOf (recordAt st c .phase)) e
+    edges-after (step c t) n other (inr e) = edges-stepped l q s (recordAt st c) _ t e
     edges-after (release c) n other (inr e) = inr e
     edges-after (cancel c) n other (inr e) = on-choose (EdgesOrIdle l q) _ _ _ (λ _. inl refl) (λ _. inr e)
 

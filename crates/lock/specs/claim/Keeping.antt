@@ -1,12 +1,13 @@
 -- Laws: every call of a history keeps the invariant. Assumes nothing.
 use mathlib.Core.Path.{_≡_, refl, sym, ap, _∙_}
 use mathlib.Core.Logic.{_≢_, inl, inr}
-use mathlib.Core.Bool.{false}
+use mathlib.Core.Bool.{Bool, true, false}
 use mathlib.Core.List.{List, [], _∷_}
 use Prim.Native.Nat.{ℕ, _≤_, _<_}
 use native.Mathlib.Omega.{arith}
 use lib.Dec.{eqb, eqb→eq}
 use lib.ListN.{length, getD}
+use Rattle.base.specs.rules.Choice.{choose}
 use Rattle.base.specs.laws.ChoiceLaws.{on-choose, by-lt, neqb→ne}
 use Rattle.cover.specs.rules.Cover.{In}
 use Rattle.cover.specs.rules.Answer.{windowOutside}
@@ -18,16 +19,17 @@ use Rattle.lock.specs.declared.Settings.{Settings}
 use Rattle.lock.specs.rules.Records.{coverOf, Phase, phaseOf, pieces, pieceAt, gripOf, wordAt, written, toPhase, withOutcome, idleWith}
 use Rattle.lock.specs.laws.Phases.{on-phase}
 use Rattle.lock.specs.laws.Pieces.{piece-first, grip-before, grip-current, first-gripped}
-use Rattle.lock.specs.rules.Steps.{startPhase, touchedIn, movedIn}
+use Rattle.lock.specs.rules.Steps.{startPhase, touchedIn, movedIn, leaves, ownTouched, ownMoved, patienceSpent, givenUp, touched, moved}
 use Rattle.lock.specs.rules.Calls.{requested, released, cancelled}
 use Rattle.lock.specs.rules.Table.{State, Call, request, step, release, cancel, clientOf, recordAt, numberOf, after, call}
 use Rattle.lock.specs.rules.History.{run}
 use Rattle.lock.specs.laws.Active.{Settled}
 use Rattle.lock.specs.laws.ActiveLaws.{pieces-are}
 use Rattle.lock.specs.laws.Accepted.{accepted, request-tested, step-tested, release-tested, cancel-tested}
+use Rattle.lock.specs.laws.PatienceLaws.{spent}
 use Rattle.lock.specs.laws.Ready.{Ready, any-grip-leaf, any-grip-most}
 use Rattle.lock.specs.laws.WhenReadable.{asked, readable-begin, readable-returning}
-use Rattle.lock.specs.claim.Fit.{Fit, fit-readable, fit-idle, fit-ready, idle-fit}
+use Rattle.lock.specs.claim.Fit.{Fit, fit-readable, fit-idle, fit-later, fit-ready, idle-fit}
 use Rattle.lock.specs.claim.Effect.{quiet}
 use Rattle.lock.specs.claim.InnerWords.{nobody}
 use Rattle.lock.specs.claim.Invariant.{Invariant}
@@ -62,7 +64,7 @@ module _ (s : Settings) (g : Settled s) (l r : ℕ) (inside : windowOutside (s .
       let is : pieces q ≡ coverOf s l r = pieces-are q (coverOf s l r) (held .node) (held .among) (least .few) (λ m i. least .covers .meets m i .node .some) refl refl in
       fit-readable s q now
       (readable-begin s q now g
-      (asked s q now w is (omega (arith, ap length is, some-piece (held .node) (coverOf s l r) (held .among))) (omega arith) (omega arith) (omega arith))
+      (asked s q now w is (omega (arith, ap length is, some-piece (held .node) (coverOf s l r) (held .among))) (omega arith) (omega arith) (omega arith) (omega arith) (λ _ _ _. refl))
       refl refl (ap (startPhase s) (sym (piece-first q))) refl refl refl)
       (λ a. omega (arith, start-low s (getD (coverOf s l r) 0 0)))
 
@@ -78,27 +80,27 @@ module _ (s : Settings) (g : Settled s) (l r : ℕ) (inside : windowOutside (s .
         time = timely-first s rs nobody r′ now q refl (low .1) (λ _. refl);
       }
 
--- ---- release and cancel: a record begins to return
+-- ---- release, cancel, and patience that is spent: a record begins to return
 
 module _ (s : Settings) (rs : List Record) (r : Record) (now : ℕ) (g : Settled s) (rd : Ready s r now) (ahead : r .phase ≢ 10) (w : ℕ) where
-  returns : (o : ℕ) → o ≢ 0 → o ≤ 3 → gripOf r 0 ≢ 0 → Keeps s rs r 0 w w (toPhase 10 (withOutcome o r)) now
+  returns : (o : ℕ) → o ≢ 0 → o ≤ 4 → (o ≡ 4 → r .current ≢ 0) → (r .current ≡ 0 → o ≢ 1 → r .taken ≡ 0) → gripOf r 0 ≢ 0 → Keeps s rs r 0 w w (toPhase 10 (withOutcome o r)) now
   unfolding pieces pieceAt gripOf
-  returns o a b d =
+  returns o a b j f d =
       let q = toPhase 10 (withOutcome o r) in
       let k = kin r q refl refl refl refl in
       keeps-quiet s rs r q 0 w now (λ z. absurd (z refl)) k refl ahead (entering-unreturned s q refl (rd .no-giving ahead) refl) refl refl refl
       (fit-readable s q now
-      (readable-returning s q now g (asked-same s r q now now rd k (omega arith) refl refl refl refl) (any-grip-most s r now rd) (any-grip-leaf s r now rd) refl a b (omega arith) (rd .active .noticed)
+      (readable-returning s q now g (asked-same s r q now now rd k (omega arith) refl refl refl refl refl (λ e _ other. f e (other refl))) (any-grip-most s r now rd) (any-grip-leaf s r now rd) refl a b j (omega arith) (rd .active .noticed)
       (rd .no-notices) (rd .active .giving-begun) (λ z. d (ap (gripOf r) (sym (rd .no-giving ahead)) ∙ z))) (λ x. omega arith))
       (timely-returning s rs nobody r now q refl)
 
   pub release-keeps : r .phase ≡ 9 → Keeps s rs r 0 w w (released r) now
   unfolding released
-  release-keeps e = returns 1 (λ z. omega arith) (omega arith) (first-gripped r (λ z. omega (arith, rd .claimed (omega arith) (omega arith))))
+  release-keeps e = returns 1 (λ z. omega arith) (omega arith) (λ z. absurd (omega arith)) (λ _ z. absurd (z refl)) (first-gripped r (λ z. omega (arith, rd .claimed (omega arith) (omega arith))))
 
-  pub cancel-keeps : Keeps s rs r 0 w w (cancelled r) now
+  pub cancel-keeps : r .phase ≢ 9 → Keeps s rs r 0 w w (cancelled r) now
   unfolding cancelled
-  cancel-keeps =
+  cancel-keeps early =
       on-choose (λ q. Keeps s rs r 0 w w q now) (eqb (gripOf r 0) 0) (idleWith 3) (toPhase 10 (withOutcome 3 r))
       (λ t. let z = eqb→eq (gripOf r 0) 0 t in
       let first : r .current ≡ 0 = by-lt 0 (r .current) (λ b. absurd (omega (arith, grip-before r 0 b))) (λ b. omega arith) in
@@ -109,7 +111,10 @@ module _ (s : Settings) (rs : List Record) (r : Record) (now : ℕ) (g : Settled
         fits = idle-fit s 3 now (omega arith);
         time = timely-first s rs nobody r now (idleWith 3) refl (omega arith) (λ _. refl);
       })
-      (λ t. returns 3 (λ z. omega arith) (omega arith) (neqb→ne (gripOf r 0) 0 t))
+      (λ t. returns 3 (λ z. omega arith) (omega arith) (λ z. absurd (omega arith)) (λ e _. rd .no-early-time e early (λ z. absurd (ahead z))) (neqb→ne (gripOf r 0) 0 t))
+
+  pub given-up-keeps : 0 < r .current → Keeps s rs r 0 w w (givenUp r) now
+  given-up-keeps b = returns 4 (λ z. omega arith) (omega arith) (λ _ z. omega arith) (λ z. absurd (omega arith)) (λ z. omega (arith, grip-before r 0 b))
 
 -- ---- the calls
 
@@ -142,9 +147,9 @@ module _ (s : Settings) (st : State) (inv : Invariant s st) (c : ℕ) where
     stays : (w : ℕ) → Keeps s rs r 0 w w r t
     stays w = keeps-stay s rs r 0 w (st .clock) t later (inv .fit c) (λ d. absurd (d refl))
 
-    step-keeps : Owed (phaseOf (r .phase))
+    own-keeps : Owed (phaseOf (r .phase))
     unfolding touchedIn movedIn
-    step-keeps =
+    own-keeps =
         let g = inv .settled in
         let fit = inv .fit c in
         on-phase (r .phase) Owed
@@ -169,6 +174,22 @@ module _ (s : Settings) (st : State) (inv : Invariant s st) (c : ℕ) where
         (λ e. let d : r .phase ≢ 0 = λ z. omega arith in returning-keeps s rs r (st .clock) t later g (prepared d) fit e (wordAt (st .words)))
         (λ b _. stays _)
 
+    -- the work of the phase, or none where patience is spent: by the test, whatever it gives
+    step-by : (given-up : Bool) → (given-up ≡ true → Keeps s rs r 0 (wordAt (st .words) 0) (wordAt (st .words) 0) (givenUp r) t)
+        → let x = choose given-up 0 (ownTouched s r) in
+        let m = choose given-up (leaves (wordAt (st .words) x) (givenUp r)) (ownMoved s r (wordAt (st .words) x) t) in
+        m .number ≡ 0 → Keeps s rs r x (wordAt (st .words) x) (m .word) (m .next) t
+    unfolding choose
+    step-by true f e = f refl
+    step-by false f e = own-keeps e
+
+    step-keeps : let w = wordAt (st .words) (touched s r t) in moved s r w t .number ≡ 0 → Keeps s rs r (touched s r t) w (moved s r w t .word) (moved s r w t .next) t
+    step-keeps =
+        step-by (patienceSpent s r t)
+        (λ e. let v = spent s r t e in
+        let rd = fit-ready s r t (fit-later s r (st .clock) (inv .fit c) t later) (inv .settled) (λ z. omega (arith, v .begun)) in
+        given-up-keeps s rs r t (inv .settled) rd (λ z. omega (arith, v .untaken)) (wordAt (st .words) 0) (v .later))
+
 -- what an accepted call leaves has the invariant
 pub accepted-keeps : (s : Settings) (st : State) → Invariant s st → (k : Call) → numberOf s st k ≡ 0 → Invariant s (after s st k)
 unfolding after written clientOf
@@ -191,7 +212,7 @@ accepted-keeps s st inv (cancel c) e =
     let a = accepted s st (cancel c) e in
     let b = cancel-tested s st c (a .own) in
     keeps-invariant s st c 0 (wordAt (st .words) 0) (cancelled (recordAt st c)) (st .clock) inv (a .client) (omega arith)
-    (cancel-keeps s (st .records) (recordAt st c) (st .clock) (inv .settled) (prepared s st inv c (b .1)) (b .3) (wordAt (st .words) 0))
+    (cancel-keeps s (st .records) (recordAt st c) (st .clock) (inv .settled) (prepared s st inv c (b .1)) (b .3) (wordAt (st .words) 0) (b .2))
 
 pub call-keeps : (s : Settings) (st : State) → Invariant s st → (k : Call) → Invariant s (call s st k .state)
 unfolding call

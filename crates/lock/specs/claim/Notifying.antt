@@ -13,7 +13,7 @@ use Rattle.tree.specs.rules.Lists.{notifyList}
 use Rattle.tree.specs.laws.Level.{level-pos}
 use Rattle.lock.specs.declared.Record.{Record}
 use Rattle.lock.specs.declared.Settings.{Settings}
-use Rattle.lock.specs.rules.Records.{pieces, pieceAt, currentPiece, isLeaf, gripOf, toPhase, withOutcome, withPlace, withNotices}
+use Rattle.lock.specs.rules.Records.{pieces, pieceAt, currentPiece, isLeaf, gripOf, toPhase, withOutcome, withPlace, withNotices, withTaken}
 use Rattle.lock.specs.rules.Steps.{taken, allNotified, noticeGiven}
 use Rattle.lock.specs.laws.Active.{Settled}
 use Rattle.lock.specs.laws.Pieces.{first-gripped}
@@ -24,7 +24,7 @@ use Rattle.lock.specs.claim.Effect.{Same, Effect, notified, notices-then
 use Rattle.lock.specs.claim.InnerWords.{nobody}
 use Rattle.lock.specs.claim.Stage.{passing, stage-current, passing-notify, passing-none, checked-none}
 use Rattle.lock.specs.claim.Forward.{Kin, kin, onward-unreturned, entering-unreturned, forward-same, forward-notices, forward-notified}
-use Rattle.lock.specs.claim.Onward.{asked-same, onward, timely-returning}
+use Rattle.lock.specs.claim.Onward.{untaken, asked-same, onward, timely-returning}
 use Rattle.lock.specs.claim.Keeps.{Keeps, notified-inner}
 use Rattle.lock.specs.claim.Taking.{taken-keeps}
 
@@ -78,7 +78,7 @@ module _ (s : Settings) (rs : List Record) (r : Record) (last now : ℕ) (later 
       record {
         node = λ _. notified-node .0;
         effect = given q (forward-same s p q (record { pieces-same = refl; left-same = refl; right-same = refl }) refl (onward-unreturned s p ahead) (onward-unreturned s q ahead) refl refl refl);
-        fits = fit-readable s q now (readable-notify s q now g (asked-same s r q last now rd k later refl refl refl refl) (rd .no-outcome ahead) (rd .no-giving ahead) grip e b refl) (λ a. omega arith);
+        fits = fit-readable s q now (readable-notify s q now g (asked-same s r q last now rd k later refl refl refl refl refl (untaken s r q last now rd (omega arith) refl refl)) (rd .no-outcome ahead) (rd .no-giving ahead) grip e b refl) (λ a. omega arith);
         time = onward s rs nobody r now q k refl ahead ahead (λ a b. inl (a, b, refl)) (λ a _. absurd (omega arith))
             (λ l a. absurd (omega (arith, checked-none s q (r .current) (λ f. omega arith) (λ f. omega arith))))
             (inr (inl (omega (arith, passing-notify q e, passing-notify r e), refl))) (λ a _. absurd (omega arith));
@@ -101,7 +101,7 @@ module _ (s : Settings) (rs : List Record) (r : Record) (last now : ℕ) (later 
           effect = given q (forward-same s p q (record { pieces-same = refl; left-same = refl; right-same = refl }) refl (onward-unreturned s p ahead)
               (entering-unreturned s q refl (rd .no-giving ahead) refl) refl refl refl);
           fits = fit-readable s q now
-              (readable-returning s q now g (asked-same s r q last now rd k later refl refl refl refl) (any-grip-most s r last rd) (any-grip-leaf s r last rd) refl (λ z. omega arith) (omega arith) (omega arith) (omega (arith, whole))
+              (readable-returning s q now g (asked-same s r q last now rd k later refl refl refl refl refl (untaken s r q last now rd (omega arith) refl refl)) (any-grip-most s r last rd) (any-grip-leaf s r last rd) refl (λ z. omega arith) (omega arith) (λ z. absurd (omega arith)) (omega arith) (omega (arith, whole))
               (λ a. absurd (omega (arith, grip))) (rd .active .giving-begun) (λ z. first-gripped q (λ y. omega (arith, grip)) (ap (gripOf q) (sym (rd .no-giving ahead)) ∙ z))) (λ a. omega arith);
           time = timely-returning s rs nobody r now q refl;
         }
@@ -122,7 +122,7 @@ module _ (s : Settings) (rs : List Record) (r : Record) (last now : ℕ) (later 
             node = λ _. notified-node .0;
             effect = given q (forward-same s p q (record { pieces-same = refl; left-same = refl; right-same = refl }) refl (onward-unreturned s p ahead) (onward-unreturned s q (λ f. omega arith)) refl refl refl);
             fits = record {
-              readable = readable-wait s q now g (asked-same s r q last now rd k later refl refl refl refl) (rd .no-outcome ahead) (rd .no-giving ahead) grip (omega (arith, whole)) refl inner refl;
+              readable = readable-wait s q now g (asked-same s r q last now rd k later refl refl refl refl refl (untaken s r q last now rd (omega arith) refl refl)) (rd .no-outcome ahead) (rd .no-giving ahead) grip (omega (arith, whole)) refl inner refl;
               all-noticed = λ _ _. whole;
             };
             time = onward s rs nobody r now q k refl ahead (λ f. omega arith) (λ _ _. inl (omega arith, omega arith, refl)) (λ a _. absurd (omega arith))
@@ -131,13 +131,12 @@ module _ (s : Settings) (rs : List Record) (r : Record) (last now : ℕ) (later 
           }
 
       -- "a leaf is taken"
-      leaf-keeps : level n ≡ s .levels → Keeps s rs r x w (addDmax 1 w) (taken s p) now
+      leaf-keeps : level n ≡ s .levels → Keeps s rs r x w (addDmax 1 w) (taken s p now) now
       unfolding pieces pieceAt
       leaf-keeps leaf =
-          let q = toPhase 9 p in
-          let k = kin r q refl refl refl refl in
           taken-keeps s rs r (suc (r .place)) last now later g rd ahead grip whole x w (addDmax 1 w) (λ _. notified-node .0) given
-          (onward s rs nobody r now q k refl ahead (λ f. omega arith) (λ _ a. absurd (omega arith)) (λ _ _. inr (inr leaf)) (λ l _. inr (inr leaf))
+          (λ t. let q = toPhase 9 (withTaken t p) in
+          onward s rs nobody r now q (kin r q refl refl refl refl) refl ahead (λ f. omega arith) (λ _ a. absurd (omega arith)) (λ _ _. inr (inr leaf)) (λ l _. inr (inr leaf))
           (inl (passing-none q (λ f. omega arith) (λ f. omega arith) (λ f. omega arith))) (λ _ _. inr (inl (all-passed, in-time))))
 
     last-keeps : Keeps s rs r x w (addDmax 1 w) (allNotified s p now) now
@@ -146,7 +145,7 @@ module _ (s : Settings) (rs : List Record) (r : Record) (last now : ℕ) (later 
         on-choose (λ q. Keeps s rs r x w (addDmax 1 w) q now) (leb (s .wait) (now - r .t1)) (toPhase 10 (withOutcome 2 p)) _
         (λ _. late-keeps)
         (λ t. let in-time = nleb→lt (s .wait) (now - r .t1) t in
-        on-choose (λ q. Keeps s rs r x w (addDmax 1 w) q now) (isLeaf s n) (taken s p) (toPhase 7 p)
+        on-choose (λ q. Keeps s rs r x w (addDmax 1 w) q now) (isLeaf s n) (taken s p now) (toPhase 7 p)
         (λ y. leaf-keeps in-time (eqb→eq (level n) (s .levels) y)) (λ y. inner-keeps in-time (neqb→ne (level n) (s .levels) y)))
 
   pub notify-keeps : Keeps s rs r x w (addDmax 1 w) (noticeGiven s r now) now

@@ -13,6 +13,7 @@ use Rattle.lock.specs.declared.Record.{Record}
 use Rattle.lock.specs.declared.Settings.{Settings}
 use Rattle.lock.specs.rules.Records.{pieces, pieceAt, currentPiece}
 use Rattle.lock.specs.claim.Owned.{owns, ownsNotice}
+use Rattle.lock.specs.laws.Active.{NoEarlyTime}
 use Rattle.lock.specs.laws.Ready.{Ready}
 use Rattle.lock.specs.laws.OwnTests.{notBegun}
 use Rattle.lock.specs.laws.WhenReadable.{asked}
@@ -26,15 +27,20 @@ kin-piece r q k i = ap (λ l. getD l i 0) (k .pieces-same)
 
 -- ---- what every phase asks, of a record with r's window and pieces
 
-module _ (s : Settings) (r q : Record) (last now : ℕ) (rd : Ready s r last) (k : Kin r q) where
-  pub asked-kin : q .current < length (pieces r) → q .ticket ≤ 32767 → q .t1 ≤ now → q .t0 ≤ now → notBegun s q now ≡ false
-  asked-kin c t a b =
-      asked s q now (rw (k .left-same, k .right-same) (rd .active .window)) (rw (k .pieces-same, k .left-same, k .right-same) (rd .active .cover)) (rw (k .pieces-same) c) t a b
+module _ (s : Settings) (r q : Record) (last now : ℕ) (rd : Ready s r last) where
+  -- with r's current piece and third time, where r's current piece is not taken
+  pub untaken : r .phase ≤ 8 → q .current ≡ r .current → q .taken ≡ r .taken → NoEarlyTime q
+  untaken b c t e _ _ = t ∙ rd .no-early-time (sym c ∙ e) (λ z. omega arith) (λ z. absurd (omega arith))
 
-  -- with r's current piece, ticket and noted times
-  pub asked-same : last ≤ now → q .current ≡ r .current → q .ticket ≡ r .ticket → q .t1 ≡ r .t1 → q .t0 ≡ r .t0 → notBegun s q now ≡ false
-  asked-same later c t a b =
-      asked-kin (omega (arith, rd .active .exists)) (omega (arith, rd .active .ticket-most)) (omega (arith, rd .active .t1-past)) (omega (arith, rd .active .t0-past))
+  module _ (k : Kin r q) where
+    pub asked-kin : q .current < length (pieces r) → q .ticket ≤ 32767 → q .t1 ≤ now → q .t0 ≤ now → q .taken ≤ now → NoEarlyTime q → notBegun s q now ≡ false
+    asked-kin c t a b d f =
+        asked s q now (rw (k .left-same, k .right-same) (rd .active .window)) (rw (k .pieces-same, k .left-same, k .right-same) (rd .active .cover)) (rw (k .pieces-same) c) t a b d f
+
+    -- with r's current piece, ticket and noted times
+    pub asked-same : last ≤ now → q .current ≡ r .current → q .ticket ≡ r .ticket → q .t1 ≡ r .t1 → q .t0 ≡ r .t0 → q .taken ≡ r .taken → NoEarlyTime q → notBegun s q now ≡ false
+    asked-same later c t a b d f =
+        asked-kin (omega (arith, rd .active .exists)) (omega (arith, rd .active .ticket-most)) (omega (arith, rd .active .t1-past)) (omega (arith, rd .active .t0-past)) (omega (arith, rd .active .taken-past)) f
 
 -- ---- how far it has come
 

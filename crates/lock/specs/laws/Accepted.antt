@@ -97,10 +97,10 @@ module _ (s : Settings) (st : State) (c : ℕ) where
 
   pub step-tested : (t : ℕ) → firstCause (ownTests s st (step c t)) ≡ 0
       → (st .clock ≤ t) × (unreadable s (recordAt st c) (st .clock) ≡ false)
-      × (moved s (recordAt st c) (wordAt (st .words) (touched s (recordAt st c))) t .number ≡ 0)
+      × (moved s (recordAt st c) (wordAt (st .words) (touched s (recordAt st c) t)) t .number ≡ 0)
   unfolding ownTests stepTests
   step-tested t e =
-      let n = moved s r (wordAt (st .words) (touched s r)) t .number in
+      let n = moved s r (wordAt (st .words) (touched s r t)) t .number in
       let b = test-passed (ltb t (st .clock)) 5 ((unreadable s r (st .clock), 6) ∷ (differ n 0, 9) ∷ []) (omega arith) e in
       let u = readable ((differ n 0, 9) ∷ []) (b .1) in
       (ltb-false t (st .clock) (b .0), u .0, same-number n 0 (test-passed (differ n 0) 9 [] (omega arith) (u .1) .0))

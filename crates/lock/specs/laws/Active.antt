@@ -1,6 +1,6 @@
 -- Laws: what is known of settings within their ranges, and of a readable record that is not idle. Assumes nothing.
 use mathlib.Core.Path.{_≡_}
-use mathlib.Core.Logic.{_⊎_}
+use mathlib.Core.Logic.{_≢_, _⊎_}
 use Prim.Native.Nat.{ℕ, _≤_, _<_}
 use lib.ListN.{length}
 use Rattle.tree.specs.rules.Lists.{ancestors, notifyList, checkList}
@@ -17,6 +17,12 @@ pub record Settled (s : Settings) : Type 0 where
   pub distance-most : s .distance ≤ 4
   pub wait-some : 1 ≤ s .wait
   pub wait-most : s .wait ≤ 4294967295
+  pub patience-some : 1 ≤ s .patience
+  pub patience-most : s .patience ≤ 4294967295
+
+-- a first piece that is not taken has no third time: what a readable record shows of it
+abbrev pub NoEarlyTime : Record → Type 0
+NoEarlyTime r = r .current ≡ 0 → r .phase ≢ 9 → (r .phase ≡ 10 → r .outcome ≢ 1) → r .taken ≡ 0
 
 pub record Active (s : Settings) (r : Record) (last : ℕ) : Type 0 where
   pub phase-most : r .phase ≤ 10
@@ -33,4 +39,5 @@ pub record Active (s : Settings) (r : Record) (last : ℕ) : Type 0 where
   pub noticed : r .notices ≤ length (notifyList (s .distance) (currentPiece r))
   pub t1-past : r .t1 ≤ last
   pub t0-past : r .t0 ≤ last
+  pub taken-past : r .taken ≤ last
   pub giving-begun : r .giving ≤ r .current

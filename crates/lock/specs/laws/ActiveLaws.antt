@@ -27,7 +27,7 @@ use Rattle.lock.specs.declared.Record.{Record}
 use Rattle.lock.specs.declared.Settings.{Settings}
 use Rattle.lock.specs.rules.Records.{coverOf, phaseOf, pieces, pieceAt, currentPiece, isLeaf, isRoot, idleWith}
 use Rattle.lock.specs.laws.Pieces.{few-pieces}
-use Rattle.lock.specs.rules.Unreadable.{numberTooLarge, idleFilled, notCovered, noCurrent, ticketTooLarge, listLength, placePast, noticesWrong, timeAhead, phaseElsewhere, heldEarly, outcomeWrong, gripLacking, givingWrong, unreadable, fieldsWrong, differ}
+use Rattle.lock.specs.rules.Unreadable.{numberTooLarge, idleFilled, notCovered, noCurrent, ticketTooLarge, listLength, placePast, noticesWrong, timeAhead, phaseElsewhere, heldEarly, outcomeWrong, gripLacking, givingWrong, impatientFirst, takenFirst, unreadable, fieldsWrong, differ}
 use Rattle.lock.specs.laws.Active.{Settled, Active}
 use Rattle.lock.specs.laws.ReadableLaws.{Begun, pastList, place-is, list-climbing, list-notifying, list-checking, list-returning, elsewhere-leaf, elsewhere-root}
 use Rattle.lock.specs.rules.Calls.{settingsOutside}
@@ -37,7 +37,9 @@ use Rattle.lock.specs.rules.Calls.{settingsOutside}
 pub settled : (s : Settings) → settingsOutside s ≡ false → Settled s
 unfolding settingsOutside levelsOutside
 settled s e =
-    let d = both-false _ (ltb 4294967295 (s .wait)) e in
+    let f = both-false _ (ltb 4294967295 (s .patience)) e in
+    let p = both-false _ (ltb (s .patience) 1) (f .0) in
+    let d = both-false _ (ltb 4294967295 (s .wait)) (p .0) in
     let c = both-false _ (ltb (s .wait) 1) (d .0) in
     let b = both-false _ (ltb 4 (s .distance)) (c .0) in
     let a = both-false (levelsOutside (s .levels)) (ltb (s .distance) 1) (b .0) in
@@ -49,6 +51,8 @@ settled s e =
       distance-most = ltb-false 4 (s .distance) (b .1);
       wait-some = ltb-false (s .wait) 1 (c .1);
       wait-most = ltb-false 4294967295 (s .wait) (d .1);
+      patience-some = ltb-false (s .patience) 1 (p .1);
+      patience-most = ltb-false 4294967295 (s .patience) (f .1);
     }
 
 -- ---- the cover
@@ -113,6 +117,8 @@ pub record Passed (s : Settings) (r : Record) (last : ℕ) : Type 0 where
   pub outcome : outcomeWrong r ≡ false
   pub grip : gripLacking s r (phaseOf (r .phase)) ≡ false
   pub giving : givingWrong r ≡ false
+  pub impatient : impatientFirst r ≡ false
+  pub first-time : takenFirst r ≡ false
 
 pub passed : (s : Settings) (r : Record) (last : ℕ) → unreadable s r last ≡ false → (r .phase ≡ 0 → ⊥) → Passed s r last
 unfolding unreadable fieldsWrong
@@ -120,7 +126,9 @@ passed s r last e d =
     let a = both-false (numberTooLarge r) _ e in
     let b = both-false _ (fieldsWrong s r last) (sym (choose-ne (r .phase) 0 (idleFilled r) _ d) ∙ a .1) in
     let c = both-false (notCovered s r) (noCurrent r) (b .0) in
-    let v = both-false _ (givingWrong r) (b .1) in
+    let x = both-false _ (takenFirst r) (b .1) in
+    let i = both-false _ (impatientFirst r) (x .0) in
+    let v = both-false _ (givingWrong r) (i .0) in
     let g = both-false _ (gripLacking s r (phaseOf (r .phase))) (v .0) in
     let o = both-false _ (outcomeWrong r) (g .0) in
     let h = both-false _ (heldEarly r) (o .0) in
@@ -141,6 +149,8 @@ passed s r last e d =
       outcome = o .1;
       grip = g .1;
       giving = v .1;
+      impatient = i .1;
+      first-time = x .1;
     }
 
 -- ---- the places of its lists
@@ -173,9 +183,10 @@ active s r last v u d =
     let node = c .meets (r .current) x .node in
     let inner : Node 12 n = record { some = node .some; inside = omega arith } in
     let counts = both-false (ltb (length (notifyList (s .distance) n)) (r .notices)) _ (both-false _ (eqb (r .phase) 6 && differ (r .notices) (r .place)) (k .notices) .0) in
-    let times = both-false (ltb last (r .t1)) (ltb last (r .t0)) (k .times) in
+    let all-times = both-false _ (ltb last (r .taken)) (k .times) in
+    let times = both-false (ltb last (r .t1)) (ltb last (r .t0)) (all-times .0) in
     let giving = both-false (ltb (r .current) (r .giving)) _ (k .giving) in
-    let numbers = both-false (ltb 10 (r .phase)) (ltb 3 (r .outcome)) (k .numbers) in
+    let numbers = both-false (ltb 10 (r .phase)) (ltb 4 (r .outcome)) (k .numbers) in
     let past : (m : ℕ) → m ≡ listLength s r (phaseOf (r .phase)) → pastList m (r .place) ≡ false = λ m e. place-is s r m e ∙ k .place in
     let climbs : 3 ≤ r .phase → r .phase < 5 → r .place < length (ancestors n) =
     λ a b. within _ _ (omega (arith, ancestors-count n, below-root n (node .some) (elsewhere-root s r (r .phase) a (omega arith) (λ e. omega arith) ∙ k .phase)))
@@ -200,6 +211,7 @@ active s r last v u d =
       noticed = ltb-false (length (notifyList (s .distance) n)) (r .notices) (counts .0);
       t1-past = ltb-false last (r .t1) (times .0);
       t0-past = ltb-false last (r .t0) (times .1);
+      taken-past = ltb-false last (r .taken) (all-times .1);
       giving-begun = ltb-false (r .current) (r .giving) (giving .0);
     }
 
@@ -210,7 +222,8 @@ pub idle-readable : (s : Settings) (r : Record) (last : ℕ) → unreadable s r 
 unfolding unreadable idleFilled
 idle-readable s r last u z =
     let a = both-false (numberTooLarge r) _ u in
-    let is-t0 = both-false _ (ltb 0 (r .t0)) (sym (choose-eq (r .phase) 0 (idleFilled r) _ z) ∙ a .1) in
+    let is-taken = both-false _ (ltb 0 (r .taken)) (sym (choose-eq (r .phase) 0 (idleFilled r) _ z) ∙ a .1) in
+    let is-t0 = both-false _ (ltb 0 (r .t0)) (is-taken .0) in
     let is-t1 = both-false _ (ltb 0 (r .t1)) (is-t0 .0) in
     let is-notices = both-false _ (ltb 0 (r .notices)) (is-t1 .0) in
     let is-place = both-false _ (ltb 0 (r .place)) (is-notices .0) in
@@ -236,4 +249,5 @@ idle-readable s r last u z =
       notices = none (r .notices) (is-notices .1) i;
       t1 = none (r .t1) (is-t1 .1) i;
       t0 = none (r .t0) (is-t0 .1) i;
+      taken = none (r .taken) (is-taken .1) i;
     }

@@ -18,12 +18,13 @@ use Rattle.lock.specs.declared.Moved.{Moved}
 use Rattle.lock.specs.declared.Stepped.{Stepped}
 use Rattle.lock.specs.rules.Records.{wordAt, written}
 use Rattle.lock.specs.rules.Unreadable.{differ, unreadable}
-use Rattle.lock.specs.rules.Steps.{touched, moved}
+use Rattle.lock.specs.rules.Steps.{leaves, ownTouched, ownMoved, patienceSpent, givenUp, touched, moved}
 use Rattle.lock.specs.rules.Calls.{Tests, firstCause, treeTests, requestTests, stepTests, releaseTests, cancelTests, requested, released, cancelled, answered, requestNumber, requestAnswer, releaseAnswer, cancelAnswer, stepNumber, stepAnswer, stepWords}
 use Rattle.lock.specs.rules.Table.{Call, request, step, release, cancel, clientOf}
 use Rattle.lock.specs.rules.ByValue.{callOf, answerTo, wordsAfter}
 use Rattle.lock.specs.laws.Active.{Settled}
 use Rattle.lock.specs.laws.ActiveLaws.{settled}
+use Rattle.lock.specs.laws.PatienceLaws.{own-touched, own-moved, spent-touched, spent-moved}
 use Rattle.lock.specs.laws.CallLaws.{TreeTested, cause-tested, cause-hit, cause-skip, tree-passed, answer-accepted, refused-by}
 
 module _ (kind client a b : ℕ) where
@@ -71,16 +72,16 @@ step-onward kind clock last e h = ltb-false clock last (sym (ap (λ (x : Bool). 
 
 -- 9, the only test of a step behind 6, and the words that the step leaves
 abbrev pub clearBit : Settings → Record → List ℕ → ℕ → ℕ
-clearBit s r words clock = firstCause ((differ (moved s r (wordAt words (touched s r)) clock .number) 0, 9) ∷ [])
+clearBit s r words clock = firstCause ((differ (moved s r (wordAt words (touched s r clock)) clock .number) 0, 9) ∷ [])
 
 abbrev pub leftBy : Settings → Record → List ℕ → ℕ → List ℕ
-leftBy s r words clock = choose (eqb (clearBit s r words clock) 0) (written words (touched s r) (moved s r (wordAt words (touched s r)) clock .word)) words
+leftBy s r words clock = choose (eqb (clearBit s r words clock) 0) (written words (touched s r clock) (moved s r (wordAt words (touched s r clock)) clock .word)) words
 
 module _ (s : Settings) (r : Record) (words : List ℕ) (last : ℕ) where
   -- what a kind tests itself, behind 1, 2, 5 and 6
   unfoldable pub restOf : Call → Tests
   restOf (request c a b) = (windowOutside (s .levels) a b, 7) ∷ (differ (r .phase) 0, 8) ∷ []
-  restOf (step c t) = (differ (moved s r (wordAt words (touched s r)) t .number) 0, 9) ∷ []
+  restOf (step c t) = (differ (moved s r (wordAt words (touched s r t)) t .number) 0, 9) ∷ []
   restOf (release c) = (differ (r .phase) 9, 8) ∷ []
   restOf (cancel c) = (eqb (r .phase) 0 || eqb (r .phase) 9 || eqb (r .phase) 10, 8) ∷ []
 
@@ -100,7 +101,7 @@ module _ (s : Settings) (r : Record) (words : List ℕ) (last : ℕ) where
   -- the record, the clock and the words that an accepted call leaves, where the word that it finds has no clear bit
   unfoldable pub nextBy : Call → Record
   nextBy (request c a b) = requested s a b
-  nextBy (step c t) = moved s r (wordAt words (touched s r)) t .next
+  nextBy (step c t) = moved s r (wordAt words (touched s r t)) t .next
   nextBy (release c) = released r
   nextBy (cancel c) = cancelled r
 
@@ -122,7 +123,7 @@ module _ (s : Settings) (r : Record) (words : List ℕ) (last : ℕ) where
   unfolding treeTests firstCause choose backOf restOf nextBy clockBy wordsBy answerTo wordsAfter requestTests stepTests releaseTests cancelTests requestNumber requestAnswer releaseAnswer cancelAnswer stepNumber stepAnswer stepWords
   left-call (request c a b) x vs e q w = (q ∙ ap (λ (m : ℕ). answered m r last (requested s a b) last) (sym e), w)
   left-call (step c t) x vs e q w =
-      (q ∙ ap (λ (m : ℕ). answered m r last (nextBy (step c t)) t) (sym e), w ∙ ap (λ (m : ℕ). choose (eqb m 0) (written words (touched s r) (moved s r (wordAt words (touched s r)) t .word)) words) (sym e))
+      (q ∙ ap (λ (m : ℕ). answered m r last (nextBy (step c t)) t) (sym e), w ∙ ap (λ (m : ℕ). choose (eqb m 0) (written words (touched s r t) (moved s r (wordAt words (touched s r t)) t .word)) words) (sym e))
   left-call (release c) x vs e q w = (q ∙ ap (λ (m : ℕ). answered m r last (released r) last) (sym e), w)
   left-call (cancel c) x vs e q w = (q ∙ ap (λ (m : ℕ). answered m r last (cancelled r) last) (sym e), w)
 
@@ -171,9 +172,9 @@ module _ (s : Settings) (r : Record) (words : List ℕ) (c : Asked) (kind n : �
 
 -- ---- what is left of a step
 
-module _ (s : Settings) (r : Record) (words : List ℕ) (last clock : ℕ) (m : Moved) (e : m ≡ moved s r (wordAt words (touched s r)) clock) where
+module _ (s : Settings) (r : Record) (words : List ℕ) (last clock : ℕ) (m : Moved) (e : m ≡ moved s r (wordAt words (touched s r clock)) clock) where
   abbrev made : Moved
-  made = moved s r (wordAt words (touched s r)) clock
+  made = moved s r (wordAt words (touched s r clock)) clock
 
   pub step-refused : (x : Stepped) → (m .number ≡ 0 → ⊥) → x ≡ record { number = 9; clock = last; next = r }
       → (x ≡ answered (clearBit s r words clock) r last (made .next) clock) × (words ≡ leftBy s r words clock)
@@ -181,11 +182,26 @@ module _ (s : Settings) (r : Record) (words : List ℕ) (last clock : ℕ) (m : 
       let nine : clearBit s r words clock ≡ 9 = cause-hit _ 9 [] (ap not (ne-eqb (made .number) 0 (λ z. d (ap (λ y. y .number) e ∙ z)))) in
       (q ∙ refused-by _ 9 r last (made .next) clock nine (λ z. omega arith), sym (choose-ne (clearBit s r words clock) 0 _ words (λ z. omega arith)))
 
-  pub step-taken : (vs : List ℕ) → m .number ≡ 0 → vs ≡ written words (touched s r) (m .word)
+  pub step-taken : (vs : List ℕ) → m .number ≡ 0 → vs ≡ written words (touched s r clock) (m .word)
       → (record { number = 0; clock = clock; next = m .next } ≡ answered (clearBit s r words clock) r last (made .next) clock) × (vs ≡ leftBy s r words clock)
   unfolding firstCause
   step-taken vs z q =
       let none : clearBit s r words clock ≡ 0 = cause-skip _ 9 [] (ap not (eq-eqb (made .number) 0 (sym (ap (λ y. y .number) e) ∙ z))) in (
         ap (λ (y : Record). record { number = 0; clock = clock; next = y }) (ap (λ y. y .next) e) ∙ sym (answer-accepted _ r last (made .next) clock none),
-        q ∙ ap (λ (y : ℕ). written words (touched s r) y) (ap (λ y. y .word) e) ∙ sym (choose-eq (clearBit s r words clock) 0 _ words none),
+        q ∙ ap (λ (y : ℕ). written words (touched s r clock) y) (ap (λ y. y .word) e) ∙ sym (choose-eq (clearBit s r words clock) 0 _ words none),
       )
+
+-- the work of the phase, where patience is not spent: on the node n, where `found` is
+pub step-work : (s : Settings) (r : Record) (words : List ℕ) (clock : ℕ) → patienceSpent s r clock ≡ false → (n found : ℕ) (m : Moved) → n ≡ ownTouched s r → found ≡ wordAt words n
+    → m ≡ ownMoved s r found clock → m ≡ moved s r (wordAt words (touched s r clock)) clock
+step-work s r words clock e n found m i j k =
+    k ∙ ap (λ (x : ℕ). ownMoved s r x clock) (j ∙ ap (wordAt words) (i ∙ sym (own-touched s r clock e))) ∙ sym (own-moved s r clock e _)
+
+-- patience is spent
+pub step-given-up : (s : Settings) (r : Record) (words : List ℕ) (last clock : ℕ) → patienceSpent s r clock ≡ true → (q : Record) → q ≡ givenUp r
+    → (record { number = 0; clock = clock; next = q } ≡ answered (clearBit s r words clock) r last (moved s r (wordAt words (touched s r clock)) clock .next) clock)
+    × (words ≡ leftBy s r words clock)
+unfolding written
+step-given-up s r words last clock e q f =
+    let w = wordAt words (touched s r clock) in
+    step-taken s r words last clock (leaves w q) (ap (leaves w) f ∙ sym (spent-moved s r clock e w)) words refl (sym (ap (λ (n : ℕ). written words n w) (spent-touched s r clock e)))

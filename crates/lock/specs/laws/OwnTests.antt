@@ -14,52 +14,55 @@ use Rattle.tree.specs.rules.Lists.{notifyList}
 use Rattle.lock.specs.declared.Record.{Record}
 use Rattle.lock.specs.declared.Settings.{Settings}
 use Rattle.lock.specs.rules.Records.{phaseOf, pieces, currentPiece}
-use Rattle.lock.specs.rules.Unreadable.{nonzero, differ, numberTooLarge, idleFilled, notCovered, noCurrent, ticketTooLarge, placePast, noticesWrong, timeAhead, phaseElsewhere, heldEarly, outcomeWrong, gripLacking, givingWrong, fieldsWrong, unreadable}
+use Rattle.lock.specs.rules.Unreadable.{nonzero, differ, numberTooLarge, idleFilled, notCovered, noCurrent, ticketTooLarge, placePast, noticesWrong, timeAhead, phaseElsewhere, heldEarly, outcomeWrong, gripLacking, givingWrong, impatientFirst, takenFirst, fieldsWrong, unreadable}
 use Rattle.lock.specs.laws.ReadableLaws.{pastList, past-none, past-some, place-is, list-none, elsewhere-none}
 
 -- what every phase but idle asks
 unfoldable pub notBegun : Settings → Record → ℕ → Bool
-notBegun s r last = notCovered s r || noCurrent r || ticketTooLarge r || timeAhead r last
+notBegun s r last = notCovered s r || noCurrent r || ticketTooLarge r || timeAhead r last || takenFirst r
 
 -- what the phase asks beside it
 unfoldable pub ownWrong : Settings → Record → Bool
 ownWrong s r =
     numberTooLarge r || (placePast s r || (noticesWrong s r || (phaseElsewhere s r (phaseOf (r .phase))
-    || (heldEarly r || (outcomeWrong r || (gripLacking s r (phaseOf (r .phase)) || givingWrong r))))))
+    || (heldEarly r || (outcomeWrong r || (gripLacking s r (phaseOf (r .phase)) || (givingWrong r || impatientFirst r)))))))
 
--- the clauses in document 01's order, and in two parts
-parted : (n c u t p q a e h o l v : Bool)
-    → (n || ((c || u) || ((((((((t || p) || q) || a) || e) || h) || o) || l) || v))) ≡ ((((c || u) || t) || a) || (n || (p || (q || (e || (h || (o || (l || v))))))))
-parted n true u t p q a e h o l v = sym (true-later n _ refl)
-parted n false true t p q a e h o l v = sym (true-later n _ refl)
-parted n false false true p q a e h o l v = sym (true-later n _ refl)
-parted n false false false true q true e h o l v = sym (true-later n _ refl)
-parted n false false false false true true e h o l v = sym (true-later n _ refl)
-parted n false false false false false true e h o l v = sym (true-later n _ refl)
-parted n false false false true q false e h o l v = refl
-parted n false false false false true false e h o l v = refl
-parted n false false false false false false true h o l v = refl
-parted n false false false false false false false true o l v = refl
-parted n false false false false false false false false true l v = refl
-parted n false false false false false false false false false true v = refl
-parted n false false false false false false false false false false v = refl
+pub or-false : (b : Bool) → (b || false) ≡ b
+or-false true = refl
+or-false false = refl
+
+-- the clauses in the documents' order, and in two parts
+parted : (n c u t p q a e h o l v i f : Bool)
+    → (n || ((c || u) || ((((((((((t || p) || q) || a) || e) || h) || o) || l) || v) || i) || f)))
+    ≡ (((((c || u) || t) || a) || f) || (n || (p || (q || (e || (h || (o || (l || (v || i)))))))))
+parted n true u t p q a e h o l v i f = sym (true-later n _ refl)
+parted n false true t p q a e h o l v i f = sym (true-later n _ refl)
+parted n false false true p q a e h o l v i f = sym (true-later n _ refl)
+parted n false false false p q true e h o l v i f =
+    sym (true-later n _ (ap (λ x. ((((((x || e) || h) || o) || l) || v) || i) || f) (true-later (p || q) true refl)))
+parted n false false false p q false e h o l v i true =
+    sym (true-later n _ (true-later ((((((((p || q) || false) || e) || h) || o) || l) || v) || i) true refl))
+parted n false false false true q false e h o l v i false = refl
+parted n false false false false true false e h o l v i false = refl
+parted n false false false false false false true h o l v i false = refl
+parted n false false false false false false false true o l v i false = refl
+parted n false false false false false false false false true l v i false = refl
+parted n false false false false false false false false false true v i false = refl
+parted n false false false false false false false false false false true i false = refl
+parted n false false false false false false false false false false false i false = ap (λ x. n || x) (or-false i)
 
 pub unreadable-parts : (s : Settings) (r : Record) (last : ℕ) → (r .phase ≡ 0 → ⊥) → unreadable s r last ≡ (notBegun s r last || ownWrong s r)
 unfolding unreadable fieldsWrong notBegun ownWrong
 unreadable-parts s r last d =
     ap (λ b. numberTooLarge r || b) (choose-ne (r .phase) 0 (idleFilled r) _ d)
-    ∙ parted (numberTooLarge r) (notCovered s r) (noCurrent r) (ticketTooLarge r) (placePast s r) (noticesWrong s r) (timeAhead r last) _ _ _ _ _
+    ∙ parted (numberTooLarge r) (notCovered s r) (noCurrent r) (ticketTooLarge r) (placePast s r) (noticesWrong s r) (timeAhead r last) _ _ _ _ _ _ _
 
-pub unreadable-idle : (s : Settings) (r : Record) (last : ℕ) → r .phase ≡ 0 → unreadable s r last ≡ (ltb 3 (r .outcome) || idleFilled r)
+pub unreadable-idle : (s : Settings) (r : Record) (last : ℕ) → r .phase ≡ 0 → unreadable s r last ≡ (ltb 4 (r .outcome) || idleFilled r)
 unfolding unreadable numberTooLarge
 unreadable-idle s r last e =
-    ap₂ (λ (b c : Bool). (b || ltb 3 (r .outcome)) || c) (le-ltb 10 (r .phase) (omega arith)) (choose-eq (r .phase) 0 (idleFilled r) _ e)
+    ap₂ (λ (b c : Bool). (b || ltb 4 (r .outcome)) || c) (le-ltb 10 (r .phase) (omega arith)) (choose-eq (r .phase) 0 (idleFilled r) _ e)
 
 -- ---- tests that say the same
-
-pub or-false : (b : Bool) → (b || false) ≡ b
-or-false true = refl
-or-false false = refl
 
 pub untaken-is : (leaf : Bool) (grip : ℕ) → choose leaf (differ grip 0) (differ grip 2) ≡ differ grip (choose leaf 0 2)
 unfolding choose
@@ -124,17 +127,22 @@ module _ (s : Settings) (r : Record) where
 
   -- ---- 1 to 9: tests of the grip, of where the phase may be and its place, of the notices
 
+  not-impatient : (r .phase ≡ 10 → ⊥) → impatientFirst r ≡ false
+  unfolding impatientFirst
+  not-impatient d = ap (λ b. b && eqb (r .outcome) 4 && eqb (r .current) 0) (ne-eqb (r .phase) 10 d)
+
   pub own-taking : r .phase ≤ 9 → (l a k : Bool) → l ≡ lacking → (l ≡ false → a ≡ (elsewhere || placePast s r)) → (l ≡ false → a ≡ false → k ≡ (heldEarly r || noticesWrong s r))
       → ((((nonzero (r .outcome) || nonzero (r .giving)) || l) || a) || k) ≡ ownWrong s r
   unfolding ownWrong numberTooLarge outcomeWrong givingWrong
   own-taking b l a k q f g =
       let d : r .phase ≡ 10 → ⊥ = λ e. omega arith in
       shortened (numberTooLarge r) (placePast s r) (noticesWrong s r) elsewhere (heldEarly r) (nonzero (r .outcome)) l (ltb (r .current) (r .giving)) (nonzero (r .giving)) a k
-      (λ t. lt→ltb 0 (r .outcome) (let u : T (ltb 3 (r .outcome)) = subst (λ (c : Bool). T (c || ltb 3 (r .outcome))) (le-ltb 10 (r .phase) (omega arith)) t in omega (arith, ltb→lt 3 (r .outcome) u)))
+      (λ t. lt→ltb 0 (r .outcome) (let u : T (ltb 4 (r .outcome)) = subst (λ (c : Bool). T (c || ltb 4 (r .outcome))) (le-ltb 10 (r .phase) (omega arith)) t in omega (arith, ltb→lt 4 (r .outcome) u)))
       (λ t. lt→ltb 0 (r .giving) (omega (arith, ltb→lt (r .current) (r .giving) t))) f g
       ∙ ap₂ (λ (x y : Bool). numberTooLarge r || (placePast s r || (noticesWrong s r || (elsewhere || (heldEarly r || (x || y))))))
       (sym (choose-ne (r .phase) 10 (eqb (r .outcome) 0) (nonzero (r .outcome)) d))
-      (ap₂ (λ (x y : Bool). x || (ltb (r .current) (r .giving) || y)) q (sym (choose-ne (r .phase) 10 _ (nonzero (r .giving)) d)))
+      (ap₂ _||_ q
+      (sym (or-false _) ∙ ap₂ _||_ (ap (λ (y : Bool). ltb (r .current) (r .giving) || y) (sym (choose-ne (r .phase) 10 _ (nonzero (r .giving)) d))) (sym (not-impatient d))))
 
   -- ---- the notices
 

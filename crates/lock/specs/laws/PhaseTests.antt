@@ -18,18 +18,19 @@ use Rattle.tree.specs.laws.Code.{bounded, count-none}
 use Rattle.lock.specs.declared.Record.{Record}
 use Rattle.lock.specs.declared.Settings.{Settings}
 use Rattle.lock.specs.rules.Records.{pieces, currentPiece, isLeaf, isRoot, gripOf, noticesOf}
-use Rattle.lock.specs.rules.Unreadable.{nonzero, differ, numberTooLarge, placePast, noticesWrong, outcomeWrong, heldEarly, givingWrong}
+use Rattle.lock.specs.rules.Unreadable.{nonzero, differ, numberTooLarge, placePast, noticesWrong, outcomeWrong, heldEarly, givingWrong, impatientFirst}
 use Rattle.lock.specs.laws.ReadableLaws.{same-number, Begun, past-some, place-is, list-climbing, list-notifying, list-checking, list-returning, elsewhere-leaf, elsewhere-root, elsewhere-none, grip-climbing, grip-taken, grip-returning}
 use Rattle.lock.specs.laws.ActiveLaws.{below-root, notified, checked}
 use Rattle.lock.specs.laws.OwnTests.{ownWrong, or-false, untaken-is, past-or, past-or-root, elsewhere, lacking, count, own-taking, notices-at, notices-few, notices-many, notices-waiting, notices-place, none-walked, bare}
 
-in-order : (n p q o l v : Bool) → (((((n || p) || q) || o) || l) || v) ≡ (n || (p || (q || (false || (false || (o || (l || v)))))))
-in-order true p q o l v = refl
-in-order false true q o l v = refl
-in-order false false true o l v = refl
-in-order false false false true l v = refl
-in-order false false false false true v = refl
-in-order false false false false false v = refl
+in-order : (n p q o l v i : Bool) → ((((((n || p) || q) || o) || l) || v) || i) ≡ (n || (p || (q || (false || (false || (o || (l || (v || i))))))))
+in-order true p q o l v i = refl
+in-order false true q o l v i = refl
+in-order false false true o l v i = refl
+in-order false false false true l v i = refl
+in-order false false false false true v i = refl
+in-order false false false false false true i = refl
+in-order false false false false false false i = refl
 
 module _ {s : Settings} {r : Record} (v : Begun s r) where
   abbrev piece : ℕ
@@ -142,11 +143,12 @@ module _ {s : Settings} {r : Record} (v : Begun s r) where
       -- 10 returning
       pub own-returning : r .phase ≡ 10 → {past lack : Bool} → past ≡ ltb (noticesOf s r (r .giving)) (r .place) → lack ≡ choose leaf (differ (r .grip) 0 && differ (r .grip) 3) (ltb 3 (r .grip))
           → {g : ℕ} → g ≡ gripOf r (r .giving)
-          → (((((ltb 3 (r .outcome) || past) || (ltb n (r .notices) || nonzero (r .notices) && ltb (r .grip) 3)) || eqb (r .outcome) 0) || lack) || (ltb (r .current) (r .giving) || eqb g 0)) ≡ ownWrong s r
-      unfolding ownWrong numberTooLarge outcomeWrong heldEarly givingWrong
+          → ((((((ltb 4 (r .outcome) || past) || (ltb n (r .notices) || nonzero (r .notices) && ltb (r .grip) 3)) || eqb (r .outcome) 0) || lack) || (ltb (r .current) (r .giving) || eqb g 0))
+          || eqb (r .outcome) 4 && eqb (r .current) 0) ≡ ownWrong s r
+      unfolding ownWrong numberTooLarge outcomeWrong heldEarly givingWrong impatientFirst
       own-returning e {past} {lack} p l {g} h =
           let listed = suc (noticesOf s r (r .giving)) in
-          let number : ltb 3 (r .outcome) ≡ (ltb 10 (r .phase) || ltb 3 (r .outcome)) = sym (ap (λ (b : Bool). b || ltb 3 (r .outcome)) (le-ltb 10 (r .phase) (omega arith))) in
+          let number : ltb 4 (r .outcome) ≡ (ltb 10 (r .phase) || ltb 4 (r .outcome)) = sym (ap (λ (b : Bool). b || ltb 4 (r .outcome)) (le-ltb 10 (r .phase) (omega arith))) in
           let place = p ∙ past-some listed (r .place) (λ z. omega arith) ∙ place-is s r listed (list-returning s r (r .phase) e) in
           let notices = ap (λ (b : Bool). b || nonzero (r .notices) && ltb (r .grip) 3) (more _ refl) ∙ sym (or-false _) ∙ notices-at s r _ false refl (ne-eqb (r .phase) 6 (λ z. omega arith)) in
           let nowhere = elsewhere-none s r (r .phase) (λ a b. omega arith) (λ a b. omega arith) in
@@ -154,10 +156,12 @@ module _ {s : Settings} {r : Record} (v : Begun s r) where
           let outcome = sym (choose-eq (r .phase) 10 (eqb (r .outcome) 0) (nonzero (r .outcome)) e) in
           let grip = l ∙ ap (λ (b : Bool). choose b (differ (r .grip) 0 && differ (r .grip) 3) (ltb 3 (r .grip))) is-leaf ∙ grip-returning (isLeaf s piece) (r .grip) (r .phase) e in
           let giving = ap (λ (x : ℕ). ltb (r .current) (r .giving) || eqb x 0) h ∙ ap (λ (b : Bool). ltb (r .current) (r .giving) || b) (sym (choose-eq (r .phase) 10 _ (nonzero (r .giving)) e)) in
-          in-order (ltb 3 (r .outcome)) past (ltb n (r .notices) || nonzero (r .notices) && ltb (r .grip) 3) (eqb (r .outcome) 0) lack (ltb (r .current) (r .giving) || eqb g 0)
-          ∙ (λ i. number i || (place i || (notices i || (nowhere i || (held i || (outcome i || (grip i || giving i)))))))
+          let impatient = sym (ap (λ (b : Bool). b && eqb (r .outcome) 4 && eqb (r .current) 0) (eq-eqb (r .phase) 10 e)) in
+          in-order (ltb 4 (r .outcome)) past (ltb n (r .notices) || nonzero (r .notices) && ltb (r .grip) 3) (eqb (r .outcome) 0) lack (ltb (r .current) (r .giving) || eqb g 0)
+          (eqb (r .outcome) 4 && eqb (r .current) 0)
+          ∙ (λ i. number i || (place i || (notices i || (nowhere i || (held i || (outcome i || (grip i || (giving i || impatient i))))))))
 
   -- a number that is no phase
   pub own-unknown : 10 < r .phase → true ≡ ownWrong s r
   unfolding ownWrong numberTooLarge
-  own-unknown b = true-first (numberTooLarge r) _ (ap (λ (c : Bool). c || ltb 3 (r .outcome)) (lt-ltb 10 (r .phase) b))
+  own-unknown b = true-first (numberTooLarge r) _ (ap (λ (c : Bool). c || ltb 4 (r .outcome)) (lt-ltb 10 (r .phase) b))

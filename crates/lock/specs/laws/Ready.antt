@@ -1,23 +1,23 @@
 -- Laws: what an accepted call knows of its client's record, which is readable: grip, notices, pieces and place by phase. Assumes nothing.
-use mathlib.Core.Path.{_≡_, sym, ap, _∙_}
+use mathlib.Core.Path.{_≡_, sym, ap, ap₂, subst, _∙_}
 use mathlib.Core.Logic.{_≢_, _⊎_, inl, inr, ⊎-elim}
-use mathlib.Core.Bool.{Bool, true, false, not, _&&_}
+use mathlib.Core.Bool.{false, not, _&&_, _||_}
 use Prim.Native.Nat.{ℕ, suc, _≤_, _<_}
 use native.Mathlib.Omega.{arith}
 use borrow.Author.Tests.{ltb-false, eqb-false, lt-ltb, eq-eqb, ne-eqb}
-use lib.Dec.{eqb, ltb}
+use lib.Dec.{T, eqb, ltb}
 use lib.ListN.{length}
 use Rattle.base.specs.rules.Choice.{choose}
 use Rattle.base.specs.laws.ChoiceLaws.{choose-eq, choose-ne, by-lt, by-eq}
-use Rattle.base.specs.laws.TestLaws.{both-false}
+use Rattle.base.specs.laws.TestLaws.{both-false, second-false, second-of}
 use Rattle.tree.specs.rules.Tree.{level}
 use Rattle.tree.specs.rules.Lists.{notifyList}
 use Rattle.lock.specs.declared.Record.{Record}
 use Rattle.lock.specs.declared.Settings.{Settings}
 use Rattle.lock.specs.rules.Records.{Phase, phaseOf, pieces, currentPiece, isLeaf, gripOf}
 use Rattle.lock.specs.laws.Phases.{at-ticket, at-turn, at-climb, at-blocked, at-claim, at-notify, at-wait, at-check, at-returning}
-use Rattle.lock.specs.rules.Unreadable.{nonzero, differ, numberTooLarge, noticesWrong, phaseElsewhere, heldEarly, outcomeWrong, lacksGrip, gripLacking, givingWrong, unreadable}
-use Rattle.lock.specs.laws.Active.{Settled, Active}
+use Rattle.lock.specs.rules.Unreadable.{nonzero, differ, numberTooLarge, noticesWrong, phaseElsewhere, heldEarly, outcomeWrong, lacksGrip, gripLacking, givingWrong, impatientFirst, takenFirst, unreadable}
+use Rattle.lock.specs.laws.Active.{Settled, NoEarlyTime, Active}
 use Rattle.lock.specs.laws.ReadableLaws.{same-number, grip-taken}
 use Rattle.lock.specs.laws.ActiveLaws.{Passed, passed, active}
 
@@ -36,15 +36,13 @@ pub record Ready (s : Settings) (r : Record) (last : ℕ) : Type 0 where
   pub no-notices : r .grip < 3 → r .notices ≡ 0
   pub notices-place : r .phase ≡ 6 → r .notices ≡ r .place
   pub whole : r .phase ≡ 9 → length (pieces r) ≤ suc (r .current)
-  pub outcome-most : r .outcome ≤ 3
+  pub outcome-most : r .outcome ≤ 4
   pub no-outcome : r .phase ≢ 10 → r .outcome ≡ 0
   pub outcome-some : r .phase ≡ 10 → r .outcome ≢ 0
   pub no-giving : r .phase ≢ 10 → r .giving ≡ 0
   pub giving-gripped : r .phase ≡ 10 → gripOf r (r .giving) ≢ 0
-
--- the second of two joined tests, where the first is true
-and-second : (a b : Bool) → a ≡ true → (a && b) ≡ false → b ≡ false
-and-second a b t e = sym (ap (λ x. x && b) t) ∙ e
+  pub patient-first : r .phase ≡ 10 → r .outcome ≡ 4 → r .current ≢ 0
+  pub no-early-time : NoEarlyTime r
 
 module _ (s : Settings) (r : Record) (last : ℕ) (k : Passed s r last) where
   lacks : (p : Phase) → phaseOf (r .phase) ≡ p → gripLacking s r p ≡ false
@@ -73,7 +71,7 @@ module _ (s : Settings) (r : Record) (last : ℕ) (k : Passed s r last) where
   unfolding lacksGrip isLeaf
   leaf-returning e f =
       let both : (differ (r .grip) 0 && differ (r .grip) 3) ≡ false = sym (choose-eq (level (currentPiece r)) (s .levels) _ (ltb 3 (r .grip)) f) ∙ lacks _ (at-returning (r .phase) e) in
-      by-eq (r .grip) 0 inl (λ d. inr (same-number (r .grip) 3 (and-second (differ (r .grip) 0) _ (ap not (ne-eqb (r .grip) 0 d)) both)))
+      by-eq (r .grip) 0 inl (λ d. inr (same-number (r .grip) 3 (second-of (differ (r .grip) 0) _ (ap not (ne-eqb (r .grip) 0 d)) both)))
 
   most-returning : r .phase ≡ 10 → r .grip ≤ 3
   unfolding lacksGrip isLeaf
@@ -92,6 +90,20 @@ module _ (s : Settings) (r : Record) (last : ℕ) (k : Passed s r last) where
   unfolding givingWrong
   giving-test = both-false (ltb (r .current) (r .giving)) _ (k .giving) .1
 
+  patient : r .phase ≡ 10 → r .outcome ≡ 4 → r .current ≢ 0
+  unfolding impatientFirst
+  patient e o = eqb-false (r .current) 0 (second-of (eqb (r .phase) 10 && eqb (r .outcome) 4) _ (λ i. eq-eqb (r .phase) 10 e i && eq-eqb (r .outcome) 4 o i) (k .impatient))
+
+  early : NoEarlyTime r
+  unfolding takenFirst
+  early e d g =
+      let other : (eqb (r .phase) 10 && eqb (r .outcome) 1) ≡ false = by-eq (r .phase) 10
+      (λ t. second-false (eqb (r .phase) 10) _ (ne-eqb (r .outcome) 1 (g t))) (λ t. ap (λ b. b && eqb (r .outcome) 1) (ne-eqb (r .phase) 10 t)) in
+      by-lt 0 (r .taken)
+      (λ l. let kept = second-of (nonzero (r .taken) && eqb (r .current) 0) _ (λ i. lt-ltb 0 (r .taken) l i && eq-eqb (r .current) 0 e i) (k .first-time) in
+      absurd (subst T (sym (ap₂ (λ x y. not (x || y)) (ne-eqb (r .phase) 9 d) other) ∙ kept) tt))
+      (λ l. omega arith)
+
   ready-passed : r .phase ≢ 0 → Active s r last → Ready s r last
   unfolding numberTooLarge phaseElsewhere heldEarly outcomeWrong lacksGrip
   ready-passed z a = record {
@@ -109,15 +121,17 @@ module _ (s : Settings) (r : Record) (last : ℕ) (k : Passed s r last) where
     below = λ o. eqb-false (currentPiece r) 1 (⊎-elim (λ e. elsewhere _ (at-climb (r .phase) e)) (λ o. ⊎-elim (λ e. elsewhere _ (at-blocked (r .phase) e))
         (λ e. elsewhere _ (at-notify (r .phase) e)) o) o);
     no-notices = λ b. by-lt 0 (r .notices)
-        (λ l. absurd (omega (arith, ltb-false (r .grip) 3 (and-second (nonzero (r .notices)) (ltb (r .grip) 3) (lt-ltb 0 (r .notices) l) (notice-tests .0)))))
+        (λ l. absurd (omega (arith, ltb-false (r .grip) 3 (second-of (nonzero (r .notices)) (ltb (r .grip) 3) (lt-ltb 0 (r .notices) l) (notice-tests .0)))))
         (λ l. omega arith);
-    notices-place = λ e. same-number (r .notices) (r .place) (and-second (eqb (r .phase) 6) _ (eq-eqb (r .phase) 6 e) (notice-tests .1));
-    whole = λ e. ltb-false (suc (r .current)) (length (pieces r)) (and-second (eqb (r .phase) 9) _ (eq-eqb (r .phase) 9 e) (k .held));
-    outcome-most = ltb-false 3 (r .outcome) (both-false (ltb 10 (r .phase)) (ltb 3 (r .outcome)) (k .numbers) .1);
+    notices-place = λ e. same-number (r .notices) (r .place) (second-of (eqb (r .phase) 6) _ (eq-eqb (r .phase) 6 e) (notice-tests .1));
+    whole = λ e. ltb-false (suc (r .current)) (length (pieces r)) (second-of (eqb (r .phase) 9) _ (eq-eqb (r .phase) 9 e) (k .held));
+    outcome-most = ltb-false 4 (r .outcome) (both-false (ltb 10 (r .phase)) (ltb 4 (r .outcome)) (k .numbers) .1);
     no-outcome = λ d. omega (arith, ltb-false 0 (r .outcome) (sym (choose-ne (r .phase) 10 (eqb (r .outcome) 0) _ d) ∙ k .outcome));
     outcome-some = λ e. eqb-false (r .outcome) 0 (sym (choose-eq (r .phase) 10 _ (nonzero (r .outcome)) e) ∙ k .outcome);
     no-giving = λ d. omega (arith, ltb-false 0 (r .giving) (sym (choose-ne (r .phase) 10 (eqb (gripOf r (r .giving)) 0) _ d) ∙ giving-test));
     giving-gripped = λ e. eqb-false (gripOf r (r .giving)) 0 (sym (choose-eq (r .phase) 10 _ (nonzero (r .giving)) e) ∙ giving-test);
+    patient-first = patient;
+    no-early-time = early;
   }
 
 pub ready : (s : Settings) (r : Record) (last : ℕ) → Settled s → unreadable s r last ≡ false → r .phase ≢ 0 → Ready s r last

@@ -18,7 +18,7 @@ use Rattle.tree.specs.laws.Closed.{first-small}
 use Rattle.lock.specs.declared.Record.{Record}
 use Rattle.lock.specs.declared.Settings.{Settings}
 use Rattle.lock.specs.rules.Records.{pieces, pieceAt, currentPiece, isLeaf, change, toPhase, toBlocked, withOutcome, withGrip, withPlace, withNotices, withT1, withT0}
-use Rattle.lock.specs.rules.Steps.{startPhase, begin, taken, turnAwaited, goUp, climbed, unblocked, bitsClaimed, occClaimed, allNotified, noticeGiven, waited, checkPassed}
+use Rattle.lock.specs.rules.Steps.{startPhase, begin, firstNoted, taken, turnAwaited, goUp, climbed, unblocked, bitsClaimed, occClaimed, allNotified, noticeGiven, waited, checkPassed}
 use Rattle.lock.specs.laws.Placed.{Pieced}
 
 -- the ancestor n that a climbing record reads
@@ -136,17 +136,17 @@ module _ (s : Settings) where
   start-inner n e = ap (λ (b : Bool). choose b 3 1) e
 
   module _ (r : Record) where
-    pub begin-is : (i p : ℕ) → p ≡ startPhase s (pieceAt r i) → change r p (r .outcome) i (r .giving) 0 0 0 0 0 0 ≡ begin s r i
+    pub begin-is : (i p : ℕ) → p ≡ startPhase s (pieceAt r i) → change r p (r .outcome) i (r .giving) 0 0 0 0 0 0 (r .taken) ≡ begin s r i
     unfolding begin
-    begin-is i p e = ap (λ (x : ℕ). change r x (r .outcome) i (r .giving) 0 0 0 0 0 0) e
+    begin-is i p e = ap (λ (x : ℕ). change r x (r .outcome) i (r .giving) 0 0 0 0 0 0 (r .taken)) e
 
-    pub taken-more : r .current + 1 < length (pieces r) → taken s r ≡ begin s r (r .current + 1)
+    pub taken-more : (t : ℕ) → r .current + 1 < length (pieces r) → taken s r t ≡ begin s (firstNoted r t) (r .current + 1)
     unfolding taken
-    taken-more b = choose-lt (suc (r .current)) _ _ _ (omega arith) ∙ ap (λ (i : ℕ). begin s r i) (sym (plus-one (r .current)))
+    taken-more t b = choose-lt (suc (r .current)) _ _ _ (omega arith) ∙ ap (λ (i : ℕ). begin s (firstNoted r t) i) (sym (plus-one (r .current)))
 
-    pub taken-last : length (pieces r) ≤ r .current + 1 → taken s r ≡ toPhase 9 r
+    pub taken-last : (t : ℕ) → length (pieces r) ≤ r .current + 1 → taken s r t ≡ toPhase 9 (firstNoted r t)
     unfolding taken
-    taken-last b = choose-ge (suc (r .current)) _ _ _ (omega arith)
+    taken-last t b = choose-ge (suc (r .current)) _ _ _ (omega arith)
 
     -- ---- 6 notify
 
@@ -154,13 +154,13 @@ module _ (s : Settings) where
     unfolding allNotified
     notified-late t b = choose-le (s .wait) (t - r .t1) _ _ b
 
-    pub notified-leaf : (t : ℕ) → t - r .t1 < s .wait → isLeaf s (currentPiece r) ≡ true → allNotified s r t ≡ taken s r
+    pub notified-leaf : (t : ℕ) → t - r .t1 < s .wait → isLeaf s (currentPiece r) ≡ true → allNotified s r t ≡ taken s r t
     unfolding allNotified choose
-    notified-leaf t b e = choose-gt (s .wait) (t - r .t1) _ _ b ∙ ap (λ (x : Bool). choose x (taken s r) (toPhase 7 r)) e
+    notified-leaf t b e = choose-gt (s .wait) (t - r .t1) _ _ b ∙ ap (λ (x : Bool). choose x (taken s r t) (toPhase 7 r)) e
 
     pub notified-inner : (t : ℕ) → t - r .t1 < s .wait → isLeaf s (currentPiece r) ≡ false → allNotified s r t ≡ toPhase 7 r
     unfolding allNotified choose
-    notified-inner t b e = choose-gt (s .wait) (t - r .t1) _ _ b ∙ ap (λ (x : Bool). choose x (taken s r) (toPhase 7 r)) e
+    notified-inner t b e = choose-gt (s .wait) (t - r .t1) _ _ b ∙ ap (λ (x : Bool). choose x (taken s r t) (toPhase 7 r)) e
 
     pub notice-more : (t : ℕ) → r .place + 1 < length (notifyList (s .distance) (currentPiece r))
         → noticeGiven s r t ≡ withPlace (r .place + 1) (withNotices (r .place + 1) r)
@@ -182,20 +182,20 @@ module _ (s : Settings) where
     unfolding waited
     wait-on t b = choose-gt (s .wait) (t - r .t0) _ r b
 
-    pub check-stays : (w : ℕ) → (dcnt w ≡ dmax w → ⊥) → checkPassed s r w ≡ r
+    pub check-stays : (w t : ℕ) → (dcnt w ≡ dmax w → ⊥) → checkPassed s r w t ≡ r
     unfolding checkPassed
-    check-stays w d = choose-ne (dcnt w) (dmax w) _ r d
+    check-stays w t d = choose-ne (dcnt w) (dmax w) _ r d
 
-    pub check-more : (w : ℕ) → dcnt w ≡ dmax w → r .place + 1 < length (checkList (s .levels) (s .distance) (currentPiece r))
-        → checkPassed s r w ≡ withPlace (r .place + 1) r
+    pub check-more : (w t : ℕ) → dcnt w ≡ dmax w → r .place + 1 < length (checkList (s .levels) (s .distance) (currentPiece r))
+        → checkPassed s r w t ≡ withPlace (r .place + 1) r
     unfolding checkPassed
-    check-more w e b =
+    check-more w t e b =
         choose-eq (dcnt w) (dmax w) _ r e ∙ choose-lt (suc (r .place)) _ _ _ (omega arith) ∙ ap (λ (p : ℕ). withPlace p r) (sym (plus-one (r .place)))
 
-    pub check-last : (w : ℕ) → dcnt w ≡ dmax w → length (checkList (s .levels) (s .distance) (currentPiece r)) ≤ r .place + 1
-        → checkPassed s r w ≡ taken s r
+    pub check-last : (w t : ℕ) → dcnt w ≡ dmax w → length (checkList (s .levels) (s .distance) (currentPiece r)) ≤ r .place + 1
+        → checkPassed s r w t ≡ taken s r t
     unfolding checkPassed
-    check-last w e b = choose-eq (dcnt w) (dmax w) _ r e ∙ choose-ge (suc (r .place)) _ _ _ (omega arith)
+    check-last w t e b = choose-eq (dcnt w) (dmax w) _ r e ∙ choose-ge (suc (r .place)) _ _ _ (omega arith)
 
 -- a check list is short
 pub check-small : (h m n : ℕ) → h ≤ 12 → 1 ≤ m → length (checkList h m n) < 5592406

@@ -93,6 +93,7 @@ pub record Readable (s : Settings) (r : Record) (last : ℕ) : Type 0 where
   pub sound : Sound s r
   pub t1-past : r .t1 ≤ last
   pub t0-past : r .t0 ≤ last
+  pub taken-past : r .taken ≤ last
 
 pub readable : (s : Settings) (r : Record) (last : ℕ) → Settled s → unreadable s r last ≡ false → Readable s r last
 readable s r last v u =
@@ -101,8 +102,9 @@ readable s r last v u =
           let i = idle-readable s r last u e in
           let a : r .t1 ≡ 0 = ap (λ x. x .t1) i in
           let b : r .t0 ≡ 0 = ap (λ x. x .t0) i in
-          record { sound = inl e; t1-past = omega arith; t0-past = omega arith }
+          let c : r .taken ≡ 0 = ap (λ x. x .taken) i in
+          record { sound = inl e; t1-past = omega arith; t0-past = omega arith; taken-past = omega arith }
       | no d ↦
           let a = active s r last v u d in
-          record { sound = inr (placed s r last a); t1-past = a .t1-past; t0-past = a .t0-past }
+          record { sound = inr (placed s r last a); t1-past = a .t1-past; t0-past = a .t0-past; taken-past = a .taken-past }
     ]

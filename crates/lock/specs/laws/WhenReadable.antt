@@ -5,11 +5,11 @@ use mathlib.Core.Bool.{Bool, true, false, not, _&&_, _||_}
 use Prim.Native.Nat.{ℕ, _+_, _-_, _≤_, _<_}
 use native.Mathlib.Omega.{arith}
 use borrow.Author.Tests.{ltb-false, leb-false, le-ltb, lt-leb, eq-eqb, ne-eqb}
-use lib.Dec.{ltb}
+use lib.Dec.{eqb, ltb}
 use lib.ListN.{length, getD}
 use Rattle.base.specs.rules.Choice.{choose}
 use Rattle.base.specs.laws.ChoiceLaws.{choose-eq, choose-ne, by-lt, by-eq}
-use Rattle.base.specs.laws.TestLaws.{both-false}
+use Rattle.base.specs.laws.TestLaws.{true-later, both-false, second-false}
 use Rattle.tree.specs.rules.Tree.{level}
 use Rattle.tree.specs.rules.Lists.{ancestors, notifyList, checkList}
 use Rattle.tree.specs.laws.Ancestors.{ancestors-count}
@@ -18,9 +18,10 @@ use Rattle.cover.specs.laws.Code.{window-right}
 use Rattle.lock.specs.declared.Record.{Record}
 use Rattle.lock.specs.declared.Settings.{Settings}
 use Rattle.lock.specs.rules.Records.{coverOf, pieces, pieceAt, currentPiece, isLeaf, gripOf, noticesOf, idleWith}
-use Rattle.lock.specs.rules.Unreadable.{nonzero, differ, idleFilled, notCovered, noCurrent, ticketTooLarge, timeAhead, unreadable}
+use Rattle.lock.specs.rules.Unreadable.{nonzero, differ, idleFilled, notCovered, noCurrent, ticketTooLarge, timeAhead, takenFirst, unreadable}
 use Rattle.lock.specs.rules.Steps.{startPhase}
-use Rattle.lock.specs.laws.Active.{Settled}
+use Rattle.lock.specs.laws.Active.{Settled, NoEarlyTime}
+use Rattle.lock.specs.laws.PatienceLaws.{no-time, later-time, first-time}
 use Rattle.lock.specs.laws.Pieces.{piece-first, second-is}
 use Rattle.lock.specs.laws.StepLaws.{start-leaf, start-inner}
 use Rattle.lock.specs.laws.ReadableLaws.{Begun, grip-ticket, grip-turn}
@@ -36,15 +37,11 @@ none n e = le-ltb 0 n (omega arith)
 alike : (m n : ℕ) → m ≡ n → differ m n ≡ false
 alike m n e = ap not (eq-eqb m n e)
 
-second-false : (a b : Bool) → b ≡ false → (a && b) ≡ false
-second-false true b e = e
-second-false false b e = refl
-
 -- ---- an idle record, and a later clock
 
-pub readable-idle : (s : Settings) (o last : ℕ) → o ≤ 3 → unreadable s (idleWith o) last ≡ false
+pub readable-idle : (s : Settings) (o last : ℕ) → o ≤ 4 → unreadable s (idleWith o) last ≡ false
 unfolding idleFilled
-readable-idle s o last b = unreadable-idle s (idleWith o) last refl ∙ ap (λ c. c || idleFilled (idleWith o)) (le-ltb 3 o b)
+readable-idle s o last b = unreadable-idle s (idleWith o) last refl ∙ ap (λ c. c || idleFilled (idleWith o)) (le-ltb 4 o b)
 
 pub readable-later : (s : Settings) (r : Record) (last now : ℕ) → last ≤ now → unreadable s r last ≡ false → unreadable s r now ≡ false
 unfolding notBegun timeAhead
@@ -52,10 +49,13 @@ readable-later s r last now l u =
     by-eq (r .phase) 0
     (λ e. unreadable-idle s r now e ∙ sym (unreadable-idle s r last e) ∙ u)
     (λ d. let p = both-false (notBegun s r last) (ownWrong s r) (sym (unreadable-parts s r last d) ∙ u) in
-    let t = both-false (notCovered s r || noCurrent r || ticketTooLarge r) (timeAhead r last) (p .0) in
-    let n = both-false (ltb last (r .t1)) (ltb last (r .t0)) (t .1) in
+    let f = both-false _ (takenFirst r) (p .0) in
+    let t = both-false (notCovered s r || noCurrent r || ticketTooLarge r) (timeAhead r last) (f .0) in
+    let m = both-false _ (ltb last (r .taken)) (t .1) in
+    let n = both-false (ltb last (r .t1)) (ltb last (r .t0)) (m .0) in
+    let past : (time : ℕ) → ltb last time ≡ false → ltb now time ≡ false = λ time e. le-ltb now time (omega (arith, ltb-false last time e)) in
     unreadable-parts s r now d
-    ∙ ap₂ _||_ (ap₂ _||_ (t .0) (ap₂ _||_ (le-ltb now (r .t1) (omega (arith, ltb-false last (r .t1) (n .0)))) (le-ltb now (r .t0) (omega (arith, ltb-false last (r .t0) (n .1)))))) (p .1))
+    ∙ ap₂ _||_ (ap₂ _||_ (ap₂ _||_ (t .0) (ap₂ _||_ (ap₂ _||_ (past (r .t1) (n .0)) (past (r .t0) (n .1))) (past (r .taken) (m .1)))) (f .1)) (p .1))
 
 module _ (s : Settings) (r : Record) where
   abbrev n : ℕ
@@ -70,18 +70,36 @@ module _ (s : Settings) (r : Record) where
       (ap₂ _||_ (window-right (s .levels) (r .left) (r .right) w) (alike (r .first) _ (sym (piece-first r) ∙ ap (λ c. getD c 0 0) e)))
       (alike (r .second) _ (second-is r ∙ ap (λ c. getD c 1 0) e))
 
+  not-early : NoEarlyTime r → takenFirst r ≡ false
+  not-early f =
+      by-eq (r .taken) 0 (no-time r) (λ some.
+      by-eq (r .current) 0
+      (λ e. let kept : (eqb (r .phase) 9 || eqb (r .phase) 10 && eqb (r .outcome) 1) ≡ true = by-eq (r .phase) 9
+      (λ n. ap (λ b. b || eqb (r .phase) 10 && eqb (r .outcome) 1) (eq-eqb (r .phase) 9 n))
+      (λ d. by-eq (r .phase) 10
+      (λ t. by-eq (r .outcome) 1
+      (λ o. sym (true-later (eqb (r .phase) 9) _ (λ i. sym (eq-eqb (r .phase) 10 t) i && sym (eq-eqb (r .outcome) 1 o) i)))
+      (λ o. absurd (some (f e d (λ _. o)))))
+      (λ t. absurd (some (f e d (λ z. absurd (t z)))))) in
+      sym (first-time r some e) ∙ ap not kept)
+      (later-time r))
+
   module _ (last : ℕ) where
     pub asked : Window (s .levels) (r .left) (r .right) → pieces r ≡ coverOf s (r .left) (r .right) → r .current < length (pieces r) → r .ticket ≤ 32767 → r .t1 ≤ last
-        → r .t0 ≤ last → notBegun s r last ≡ false
+        → r .t0 ≤ last → r .taken ≤ last → NoEarlyTime r → notBegun s r last ≡ false
     unfolding notBegun noCurrent ticketTooLarge timeAhead
-    asked w e x k a b =
-        ap₂ _||_ (ap₂ _||_ (ap₂ _||_ (covered w e) (lt-leb (length (pieces r)) (r .current) x)) (le-ltb 32767 (r .ticket) k)) (ap₂ _||_ (le-ltb last (r .t1) a) (le-ltb last (r .t0) b))
+    asked w e x k a b c f =
+        ap₂ _||_
+        (ap₂ _||_ (ap₂ _||_ (ap₂ _||_ (covered w e) (lt-leb (length (pieces r)) (r .current) x)) (le-ltb 32767 (r .ticket) k))
+        (ap₂ _||_ (ap₂ _||_ (le-ltb last (r .t1) a) (le-ltb last (r .t0) b)) (le-ltb last (r .taken) c)))
+        (not-early f)
 
     module _ (g : Settled s) (every : notBegun s r last ≡ false) where
       pub asked-begun : Begun s r
       unfolding notBegun noCurrent
       asked-begun =
-          let t = both-false _ (timeAhead r last) every in
+          let f = both-false _ (takenFirst r) every in
+          let t = both-false _ (timeAhead r last) (f .0) in
           let k = both-false _ (ticketTooLarge r) (t .0) in
           let c = both-false (notCovered s r) (noCurrent r) (k .0) in
           begun s r g (c .0) (leb-false (length (pieces r)) (r .current) (c .1))
@@ -168,11 +186,13 @@ module _ (s : Settings) (r : Record) where
             (λ e. choose-eq (level n) (s .levels) _ _ e ∙ ⊎-elim (λ z. ap (λ b. b && differ (r .grip) 3) (alike (r .grip) 0 z)) (λ z. second-false (differ (r .grip) 0) _ (alike (r .grip) 3 z)) (leaf e))
             (λ d. choose-ne (level n) (s .levels) _ _ d ∙ le-ltb 3 (r .grip) most)
 
-        pub readable-returning : r .phase ≡ 10 → r .outcome ≢ 0 → r .outcome ≤ 3 → r .place ≤ noticesOf s r (r .giving) → r .notices ≤ length (notifyList (s .distance) n)
+        pub readable-returning : r .phase ≡ 10 → r .outcome ≢ 0 → r .outcome ≤ 4 → (r .outcome ≡ 4 → r .current ≢ 0) → r .place ≤ noticesOf s r (r .giving) → r .notices ≤ length (notifyList (s .distance) n)
             → (r .grip < 3 → r .notices ≡ 0) → r .giving ≤ r .current → gripOf r (r .giving) ≢ 0 → unreadable s r last ≡ false
-        readable-returning e o m p c h v k =
+        readable-returning e o m j p c h v k =
             let notices : (nonzero (r .notices) && ltb (r .grip) 3) ≡ false = by-lt (r .grip) 3
             (λ b. ap (λ x. x && ltb (r .grip) 3) (none (r .notices) (h b))) (λ b. second-false (nonzero (r .notices)) _ (le-ltb (r .grip) 3 b)) in
+            let impatient : (eqb (r .outcome) 4 && eqb (r .current) 0) ≡ false = by-eq (r .outcome) 4
+            (λ z. second-false (eqb (r .outcome) 4) _ (ne-eqb (r .current) 0 (j z))) (λ d. ap (λ x. x && eqb (r .current) 0) (ne-eqb (r .outcome) 4 d)) in
             readable (omega arith) (sym (own-returning asked-begun refl refl e refl refl refl)
-            ∙ ap₂ _||_ (ap₂ _||_ (ap₂ _||_ (ap₂ _||_ (ap₂ _||_ (le-ltb 3 (r .outcome) m) (le-ltb _ (r .place) p)) (ap₂ _||_ (le-ltb _ (r .notices) c) notices)) (ne-eqb (r .outcome) 0 o)) grip-returning)
-            (ap₂ _||_ (le-ltb (r .current) (r .giving) v) (ne-eqb (gripOf r (r .giving)) 0 k)))
+            ∙ ap₂ _||_ (ap₂ _||_ (ap₂ _||_ (ap₂ _||_ (ap₂ _||_ (ap₂ _||_ (le-ltb 4 (r .outcome) m) (le-ltb _ (r .place) p)) (ap₂ _||_ (le-ltb _ (r .notices) c) notices)) (ne-eqb (r .outcome) 0 o)) grip-returning)
+            (ap₂ _||_ (le-ltb (r .current) (r .giving) v) (ne-eqb (gripOf r (r .giving)) 0 k))) impatient)

@@ -1,4 +1,4 @@
--- To be believed: document 01, section "Refused calls" and the last paragraph of "Phases": the tests of each call in their order, and what an accepted call
+-- To be believed: document 01, section "Refused calls" and the last paragraph of "Phases", with document 02's patience: the tests of each call in their order, and what an accepted call
 -- makes of the record, the words and the clock. The calls are by value, on one record; Table.antt has the same over the table. Assumes nothing.
 use mathlib.Core.Bool.{Bool, not, _||_}
 use mathlib.Core.List.{List, [], _∷_, _++_}
@@ -24,9 +24,11 @@ unfoldable pub firstCause : Tests → ℕ
 firstCause [] = 0
 firstCause (test ∷ tests) = choose (test .0) (test .1) (firstCause tests)
 
--- "H, m or T outside its range": "m (1..4)", "T (1..2^32 - 1)"
+-- "H, m or T outside its range": "m (1..4)", "T (1..2^32 - 1)"; 2.2, "a patience P (1..2^32 - 1, tested with cause 1)"
 unfoldable pub settingsOutside : Settings → Bool
-settingsOutside s = levelsOutside (s .levels) || ltb (s .distance) 1 || ltb 4 (s .distance) || ltb (s .wait) 1 || ltb 4294967295 (s .wait)
+settingsOutside s =
+    levelsOutside (s .levels) || ltb (s .distance) 1 || ltb 4 (s .distance) || ltb (s .wait) 1 || ltb 4294967295 (s .wait)
+    || ltb (s .patience) 1 || ltb 4294967295 (s .patience)
 
 -- 1 and 2, "word count not the tree's"
 unfoldable pub treeTests : Settings → ℕ → Tests
@@ -46,7 +48,7 @@ requestTests s r last a b = (unreadable s r last, 6) ∷ (windowOutside (s .leve
 -- step: 5, 6, 9; "Only a step tests 5 and 9"
 unfoldable pub stepTests : Settings → Record → List ℕ → ℕ → ℕ → Tests
 stepTests s r words last clock =
-    (ltb clock last, 5) ∷ (unreadable s r last, 6) ∷ (differ (moved s r (wordAt words (touched s r)) clock .number) 0, 9) ∷ []
+    (ltb clock last, 5) ∷ (unreadable s r last, 6) ∷ (differ (moved s r (wordAt words (touched s r clock)) clock .number) 0, 9) ∷ []
 
 -- release: 6, 8, "release when not held"
 unfoldable pub releaseTests : Settings → Record → ℕ → Tests
@@ -96,8 +98,8 @@ stepNumber s r words last clock = firstCause (treeTests s (length words) ++ step
 -- "An accepted step sets the last clock."
 unfoldable pub stepAnswer : Settings → Record → List ℕ → ℕ → ℕ → Stepped
 stepAnswer s r words last clock =
-    answered (stepNumber s r words last clock) r last (moved s r (wordAt words (touched s r)) clock .next) clock
+    answered (stepNumber s r words last clock) r last (moved s r (wordAt words (touched s r clock)) clock .next) clock
 
 unfoldable pub stepWords : Settings → Record → List ℕ → ℕ → ℕ → List ℕ
 stepWords s r words last clock =
-    choose (eqb (stepNumber s r words last clock) 0) (written words (touched s r) (moved s r (wordAt words (touched s r)) clock .word)) words
+    choose (eqb (stepNumber s r words last clock) 0) (written words (touched s r clock) (moved s r (wordAt words (touched s r clock)) clock .word)) words

@@ -16,7 +16,8 @@ use Rattle.lock.specs.rules.Table.{State, Call, request, step, release, 
 
 -- ---- "A history is a list of calls"
 
--- "Every call in it is made with that opening's H, m and T, on the words, records and last clock that the call before left"
+-- "Every call in it is made with that opening's H, m and T, on the words, records and last clock that the call before left"; and 2.9, "each history keeping one P .. as
+-- it keeps one H, m and T"
 unfoldable pub run : Settings → State → List Call → State
 run s st [] = st
 run s st (k ∷ ks) = run s (call s st k .state) ks

@@ -1,5 +1,5 @@
--- To be believed: document 01, section "Phases": the client record's pieces, grips and lists, and the changes of its fields. Settings and Record
--- are the structs of src/lib.rt. Assumes nothing.
+-- To be believed: document 01, section "Phases", and document 02, request 2.2: the client record's pieces, grips and lists, and the changes of its fields. Settings
+-- and Record are the structs of src/lib.rt. Assumes nothing.
 use mathlib.Core.Bool.{Bool}
 use mathlib.Core.List.{List, [], _∷_}
 use Prim.Native.Nat.{ℕ, zero, suc, _-_}
@@ -70,8 +70,8 @@ written words (suc i) w = set words i w
 
 -- ---- changes of a record; window and pieces stay from the request on
 
-abbrev pub change : Record → (phase outcome current giving grip own-ticket place notices t1 t0 : ℕ) → Record
-change r phase outcome current giving grip own-ticket place notices t1 t0 = record {
+abbrev pub change : Record → (phase outcome current giving grip own-ticket place notices t1 t0 taken : ℕ) → Record
+change r phase outcome current giving grip own-ticket place notices t1 t0 taken = record {
   phase = phase;
   outcome = outcome;
   left = r .left;
@@ -86,38 +86,42 @@ change r phase outcome current giving grip own-ticket place notices t1 t0 = reco
   notices = notices;
   t1 = t1;
   t0 = t0;
+  taken = taken;
 }
 
 -- "A change of phase sets the place to 0, except from 3 to 4."
 abbrev pub toPhase : ℕ → Record → Record
-toPhase p r = change r p (r .outcome) (r .current) (r .giving) (r .grip) (r .ticket) 0 (r .notices) (r .t1) (r .t0)
+toPhase p r = change r p (r .outcome) (r .current) (r .giving) (r .grip) (r .ticket) 0 (r .notices) (r .t1) (r .t0) (r .taken)
 
 abbrev pub toBlocked : Record → Record
-toBlocked r = change r 4 (r .outcome) (r .current) (r .giving) (r .grip) (r .ticket) (r .place) (r .notices) (r .t1) (r .t0)
+toBlocked r = change r 4 (r .outcome) (r .current) (r .giving) (r .grip) (r .ticket) (r .place) (r .notices) (r .t1) (r .t0) (r .taken)
 
 abbrev pub withOutcome : ℕ → Record → Record
-withOutcome o r = change r (r .phase) o (r .current) (r .giving) (r .grip) (r .ticket) (r .place) (r .notices) (r .t1) (r .t0)
+withOutcome o r = change r (r .phase) o (r .current) (r .giving) (r .grip) (r .ticket) (r .place) (r .notices) (r .t1) (r .t0) (r .taken)
 
 abbrev pub withGiving : ℕ → Record → Record
-withGiving g r = change r (r .phase) (r .outcome) (r .current) g (r .grip) (r .ticket) (r .place) (r .notices) (r .t1) (r .t0)
+withGiving g r = change r (r .phase) (r .outcome) (r .current) g (r .grip) (r .ticket) (r .place) (r .notices) (r .t1) (r .t0) (r .taken)
 
 abbrev pub withGrip : ℕ → Record → Record
-withGrip g r = change r (r .phase) (r .outcome) (r .current) (r .giving) g (r .ticket) (r .place) (r .notices) (r .t1) (r .t0)
+withGrip g r = change r (r .phase) (r .outcome) (r .current) (r .giving) g (r .ticket) (r .place) (r .notices) (r .t1) (r .t0) (r .taken)
 
 abbrev pub withTicket : ℕ → Record → Record
-withTicket k r = change r (r .phase) (r .outcome) (r .current) (r .giving) (r .grip) k (r .place) (r .notices) (r .t1) (r .t0)
+withTicket k r = change r (r .phase) (r .outcome) (r .current) (r .giving) (r .grip) k (r .place) (r .notices) (r .t1) (r .t0) (r .taken)
 
 abbrev pub withPlace : ℕ → Record → Record
-withPlace p r = change r (r .phase) (r .outcome) (r .current) (r .giving) (r .grip) (r .ticket) p (r .notices) (r .t1) (r .t0)
+withPlace p r = change r (r .phase) (r .outcome) (r .current) (r .giving) (r .grip) (r .ticket) p (r .notices) (r .t1) (r .t0) (r .taken)
 
 abbrev pub withNotices : ℕ → Record → Record
-withNotices n r = change r (r .phase) (r .outcome) (r .current) (r .giving) (r .grip) (r .ticket) (r .place) n (r .t1) (r .t0)
+withNotices n r = change r (r .phase) (r .outcome) (r .current) (r .giving) (r .grip) (r .ticket) (r .place) n (r .t1) (r .t0) (r .taken)
 
 abbrev pub withT1 : ℕ → Record → Record
-withT1 t r = change r (r .phase) (r .outcome) (r .current) (r .giving) (r .grip) (r .ticket) (r .place) (r .notices) t (r .t0)
+withT1 t r = change r (r .phase) (r .outcome) (r .current) (r .giving) (r .grip) (r .ticket) (r .place) (r .notices) t (r .t0) (r .taken)
 
 abbrev pub withT0 : ℕ → Record → Record
-withT0 t r = change r (r .phase) (r .outcome) (r .current) (r .giving) (r .grip) (r .ticket) (r .place) (r .notices) (r .t1) t
+withT0 t r = change r (r .phase) (r .outcome) (r .current) (r .giving) (r .grip) (r .ticket) (r .place) (r .notices) (r .t1) t (r .taken)
+
+abbrev pub withTaken : ℕ → Record → Record
+withTaken t r = change r (r .phase) (r .outcome) (r .current) (r .giving) (r .grip) (r .ticket) (r .place) (r .notices) (r .t1) (r .t0) t
 
 -- "idle: all zero but the outcome"
 abbrev pub idleWith : ℕ → Record
@@ -136,6 +140,7 @@ idleWith o = record {
   notices = 0;
   t1 = 0;
   t0 = 0;
+  taken = 0;
 }
 
 -- "sets window and pieces, zeroes the rest, and sets phase 1 for an inner first piece and 3 for a leaf"
@@ -155,4 +160,5 @@ windowed phase left right first second = record {
   notices = 0;
   t1 = 0;
   t0 = 0;
+  taken = 0;
 }

@@ -1,6 +1,7 @@
--- To be believed: document 01, section "Phases", the table: for each phase which node a step touches, what it leaves there, and the next record.
+-- To be believed: document 01, section "Phases", the table: for each phase which node a step touches, what it leaves there, and the next record; and document 02,
+-- request 2.2: when patience is spent, and what the step does then.
 -- s are the settings, r the record, w the word found at the touched node, t the step's clock. Assumes nothing.
-use mathlib.Core.Bool.{Bool}
+use mathlib.Core.Bool.{Bool, _&&_}
 use Prim.Native.Nat.{ℕ, suc, _+_, _-_}
 use lib.Dec.{eqb, leb, ltb}
 use lib.ListN.{length, getD}
@@ -11,7 +12,7 @@ use Rattle.tree.specs.rules.Lists.{ancestors, notifyList, checkList}
 use Rattle.lock.specs.declared.Moved.{Moved}
 use Rattle.lock.specs.declared.Record.{Record}
 use Rattle.lock.specs.declared.Settings.{Settings}
-use Rattle.lock.specs.rules.Records.{pieceAt, Phase, idle, ticket, turn, climb, blocked, claim, notify, wait, check, held, returning, unknown, phaseOf, pieces, currentPiece, givenPiece, isLeaf, isRoot, gripOf, noticesOf, change, toPhase, toBlocked, withOutcome, withGiving, withGrip, withTicket, withPlace, withNotices, withT1, withT0, idleWith}
+use Rattle.lock.specs.rules.Records.{pieceAt, Phase, idle, ticket, turn, climb, blocked, claim, notify, wait, check, held, returning, unknown, phaseOf, pieces, currentPiece, givenPiece, isLeaf, isRoot, gripOf, noticesOf, change, toPhase, toBlocked, withOutcome, withGiving, withGrip, withTicket, withPlace, withNotices, withT1, withT0, withTaken, idleWith}
 
 -- ---- "touches at most one word": the node that a step touches, 0 for none
 
@@ -37,11 +38,16 @@ startPhase s n = choose (isLeaf s n) 3 1
 
 -- "Beginning a piece zeroes grip, ticket, notices, t1 and t0."
 unfoldable pub begin : Settings → Record → ℕ → Record
-begin s r i = change r (startPhase s (pieceAt r i)) (r .outcome) i (r .giving) 0 0 0 0 0 0
+begin s r i = change r (startPhase s (pieceAt r i)) (r .outcome) i (r .giving) 0 0 0 0 0 0 (r .taken)
+
+-- 2.2, "a third noted time, the clock at which its first piece was taken"
+unfoldable pub firstNoted : Record → ℕ → Record
+firstNoted r t = choose (eqb (r .current) 0) (withTaken t r) r
 
 -- "A taken piece starts the next the same way, or gives 9."
-unfoldable pub taken : Settings → Record → Record
-taken s r = choose (ltb (suc (r .current)) (length (pieces r))) (begin s r (suc (r .current))) (toPhase 9 r)
+unfoldable pub taken : Settings → Record → ℕ → Record
+taken s r t =
+    choose (ltb (suc (r .current)) (length (pieces r))) (begin s (firstNoted r t) (suc (r .current))) (toPhase 9 (firstNoted r t))
 
 -- ---- the next record, a row of the table each
 
@@ -76,7 +82,7 @@ occClaimed r t = toPhase (choose (isRoot (currentPiece r)) 7 6) (withT0 t (withG
 -- 6 notify, "After the last: clock - t1 ≥ T gives outcome 2 and 10; else inner to 7, a leaf is taken"
 unfoldable pub allNotified : Settings → Record → ℕ → Record
 allNotified s r t =
-    choose (leb (s .wait) (t - r .t1)) (toPhase 10 (withOutcome 2 r)) (choose (isLeaf s (currentPiece r)) (taken s r) (toPhase 7 r))
+    choose (leb (s .wait) (t - r .t1)) (toPhase 10 (withOutcome 2 r)) (choose (isLeaf s (currentPiece r)) (taken s r t) (toPhase 7 r))
 
 -- 6 notify: the next place, and as many notices
 unfoldable pub noticeGiven : Settings → Record → ℕ → Record
@@ -90,10 +96,10 @@ unfoldable pub waited : Settings → Record → ℕ → Record
 waited s r t = choose (leb (s .wait) (t - r .t0)) (toPhase 8 r) r
 
 -- 8 check: "DCnt = DMax: move on; after the last the piece is taken"
-unfoldable pub checkPassed : Settings → Record → ℕ → Record
-checkPassed s r w =
+unfoldable pub checkPassed : Settings → Record → ℕ → ℕ → Record
+checkPassed s r w t =
     choose (eqb (dcnt w) (dmax w))
-    (choose (ltb (suc (r .place)) (length (checkList (s .levels) (s .distance) (currentPiece r)))) (withPlace (suc (r .place)) r) (taken s r))
+    (choose (ltb (suc (r .place)) (length (checkList (s .levels) (s .distance) (currentPiece r)))) (withPlace (suc (r .place)) r) (taken s r t))
     r
 
 -- ---- 10 returning: "piece by piece, first piece first, each with its own word at place 0 and its notices after it"
@@ -157,13 +163,31 @@ movedIn s r w t blocked = leaves w (unblocked r w)
 movedIn s r w t claim = claimPiece s r w t
 movedIn s r w t notify = leaves (addDmax 1 w) (noticeGiven s r t)
 movedIn s r w t wait = leaves w (waited s r t)
-movedIn s r w t check = leaves w (checkPassed s r w)
+movedIn s r w t check = leaves w (checkPassed s r w t)
 movedIn s r w t held = leaves w r
 movedIn s r w t returning = giveBack s r w
 movedIn s r w t unknown = leaves w r
 
-abbrev pub touched : Settings → Record → ℕ
-touched s r = touchedIn s r (phaseOf (r .phase))
+-- the work of the record's phase
+abbrev pub ownTouched : Settings → Record → ℕ
+ownTouched s r = touchedIn s r (phaseOf (r .phase))
+
+abbrev pub ownMoved : Settings → Record → ℕ → ℕ → Moved
+ownMoved s r w t = movedIn s r w t (phaseOf (r .phase))
+
+-- ---- 2.2, "Patience between two pieces"
+
+-- "A step in phases 1 to 8 of a second piece, with clock less that time at least P"; 2.9: "Patience runs from the first piece for every later one."
+unfoldable pub patienceSpent : Settings → Record → ℕ → Bool
+patienceSpent s r t = leb 1 (r .phase) && leb (r .phase) 8 && ltb 0 (r .current) && leb (s .patience) (t - r .taken)
+
+-- "sets outcome 4 and goes to returning"
+abbrev pub givenUp : Record → Record
+givenUp r = toPhase 10 (withOutcome 4 r)
+
+-- "touches no word, .. instead of the phase's own work"
+abbrev pub touched : Settings → Record → ℕ → ℕ
+touched s r t = choose (patienceSpent s r t) 0 (ownTouched s r)
 
 abbrev pub moved : Settings → Record → ℕ → ℕ → Moved
-moved s r w t = movedIn s r w t (phaseOf (r .phase))
+moved s r w t = choose (patienceSpent s r t) (leaves w (givenUp r)) (ownMoved s r w t)

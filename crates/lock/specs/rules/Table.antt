@@ -52,8 +52,8 @@ numberOf s st k = firstCause (treeTests s (length (st .words)) ++ (clientTests (
 unfoldable pub after : Settings → State → Call → State
 after s st (request c l r) = record { words = st .words; records = set (st .records) c (requested s l r); clock = st .clock }
 after s st (step c t) = record {
-  words = written (st .words) (touched s (recordAt st c)) (moved s (recordAt st c) (wordAt (st .words) (touched s (recordAt st c))) t .word);
-  records = set (st .records) c (moved s (recordAt st c) (wordAt (st .words) (touched s (recordAt st c))) t .next);
+  words = written (st .words) (touched s (recordAt st c) t) (moved s (recordAt st c) (wordAt (st .words) (touched s (recordAt st c) t)) t .word);
+  records = set (st .records) c (moved s (recordAt st c) (wordAt (st .words) (touched s (recordAt st c) t)) t .next);
   clock = t;
 }
 after s st (release c) = record { words = st .words; records = set (st .records) c (released (recordAt st c)); clock = st .clock }

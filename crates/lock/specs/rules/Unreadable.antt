@@ -1,5 +1,5 @@
--- To be believed: document 01, section "Refused calls", the paragraph "Unreadable", clause by clause in its order. Each test is true where the record is
--- unreadable by that clause; `last` is the last clock. Assumes nothing.
+-- To be believed: document 01, section "Refused calls", the paragraph "Unreadable", clause by clause in its order, and what document 02's request 2.2 adds to it. Each
+-- test is true where the record is unreadable by that clause; `last` is the last clock. Assumes nothing.
 use mathlib.Core.Bool.{Bool, true, false, not, _&&_, _||_}
 use Prim.Native.Nat.{ℕ, suc}
 use lib.Dec.{eqb, leb, ltb}
@@ -17,15 +17,16 @@ nonzero n = ltb 0 n
 abbrev pub differ : ℕ → ℕ → Bool
 differ m n = not (eqb m n)
 
--- "a phase over 10 or outcome over 3"
+-- "a phase over 10 or outcome over 3"; 2.2, "Outcomes now go to 4"
 unfoldable pub numberTooLarge : Record → Bool
-numberTooLarge r = ltb 10 (r .phase) || ltb 3 (r .outcome)
+numberTooLarge r = ltb 10 (r .phase) || ltb 4 (r .outcome)
 
 -- "idle with a nonzero field beside the outcome"
 unfoldable pub idleFilled : Record → Bool
 idleFilled r =
     nonzero (r .left) || nonzero (r .right) || nonzero (r .first) || nonzero (r .second) || nonzero (r .current) || nonzero (r .giving)
     || nonzero (r .grip) || nonzero (r .ticket) || nonzero (r .place) || nonzero (r .notices) || nonzero (r .t1) || nonzero (r .t0)
+    || nonzero (r .taken)
 
 -- "a window outside the tree, pieces that aren't its cover"
 unfoldable pub notCovered : Settings → Record → Bool
@@ -70,7 +71,7 @@ noticesWrong s r =
 
 -- "a noted time after the last clock"
 unfoldable pub timeAhead : Record → ℕ → Bool
-timeAhead r last = ltb last (r .t1) || ltb last (r .t0)
+timeAhead r last = ltb last (r .t1) || ltb last (r .t0) || ltb last (r .taken)
 
 -- "phase 1, 2, 7 or 8 at a leaf, 3, 4 or 6 at the root"
 unfoldable pub phaseElsewhere : Settings → Record → Phase → Bool
@@ -118,11 +119,19 @@ gripLacking s r phase = lacksGrip (isLeaf s (currentPiece r)) (r .grip) phase
 unfoldable pub givingWrong : Record → Bool
 givingWrong r = ltb (r .current) (r .giving) || choose (eqb (r .phase) 10) (eqb (gripOf r (r .giving)) 0) (nonzero (r .giving))
 
+-- 2.2, "unreadable are also 4 in phase 10 at a first piece"
+unfoldable pub impatientFirst : Record → Bool
+impatientFirst r = eqb (r .phase) 10 && eqb (r .outcome) 4 && eqb (r .current) 0
+
+-- 2.2, "and a nonzero time at a first piece, save in 9 or in 10 with outcome 1"
+unfoldable pub takenFirst : Record → Bool
+takenFirst r = nonzero (r .taken) && eqb (r .current) 0 && not (eqb (r .phase) 9 || eqb (r .phase) 10 && eqb (r .outcome) 1)
+
 -- the clauses from the ticket on
 unfoldable pub fieldsWrong : Settings → Record → ℕ → Bool
 fieldsWrong s r last =
     ticketTooLarge r || placePast s r || noticesWrong s r || timeAhead r last || phaseElsewhere s r (phaseOf (r .phase)) || heldEarly r || outcomeWrong r
-    || gripLacking s r (phaseOf (r .phase)) || givingWrong r
+    || gripLacking s r (phaseOf (r .phase)) || givingWrong r || impatientFirst r || takenFirst r
 
 unfoldable pub unreadable : Settings → Record → ℕ → Bool
 unreadable s r last =

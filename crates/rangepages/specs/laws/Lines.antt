@@ -14,7 +14,7 @@ use Rattle.rangepages.specs.rules.Printed.{lineEach}
 -- ---- the ends of a run's line: from the noted times on, and from the current piece on
 
 abbrev pub timesText : Record → ℕ → List ℕ
-timesText r held = spaced (r .t1) ++ (spaced (r .t0) ++ (spaced held ++ text "\n"))
+timesText r held = spaced (r .t1) ++ (spaced (r .t0) ++ (spaced (r .taken) ++ (spaced held ++ text "\n")))
 
 abbrev pub currentText : Record → ℕ → List ℕ
 currentText r held =

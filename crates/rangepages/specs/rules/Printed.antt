@@ -1,4 +1,4 @@
--- To be believed: document 02, request 2.1: what `rangepages` prints of a schedule, byte by byte (ASCII). Assumes nothing.
+-- To be believed: document 02, requests 2.1 and 2.2: what `rangepages` prints of a schedule, byte by byte (ASCII). Assumes nothing.
 use mathlib.Core.List.{List, [], _∷_, _++_}
 use Prim.Native.Nat.{ℕ, suc}
 use Rattle.lock.specs.declared.Record.{Record}
@@ -19,13 +19,13 @@ rowText client w =
 unfoldable pub rowLine : Settings → ℕ → Record → List ℕ
 rowLine s client r = rowText client (rowOf s r)
 
--- ---- "then one for each, number, record and count, in the papers' order": the record's fields in document 01's order
+-- ---- "then one for each, number, record and count, in the papers' order, later fields ending row or record": the record's fields in document 01's order, then 2.2's time
 
 unfoldable pub recordLine : ℕ → ℕ → Record → List ℕ
 recordLine held client r =
     decimal client ++ (spaced (r .phase) ++ (spaced (r .outcome) ++ (spaced (r .left) ++ (spaced (r .right) ++ (spaced (r .first) ++ (spaced (r .second) ++ (spaced (r .current)
     ++ (spaced (r .giving) ++ (spaced (r .grip) ++ (spaced (r .ticket) ++ (spaced (r .place) ++ (spaced (r .notices) ++ (spaced (r .t1) ++ (spaced (r .t0)
-    ++ (spaced held ++ text "\n")))))))))))))))
+    ++ (spaced (r .taken) ++ (spaced held ++ text "\n"))))))))))))))))
 
 -- ---- the two pages
 
@@ -41,9 +41,9 @@ pagesText s records = lineEach (rowLine s) 0 records ++ lineEach (recordLine (he
 unfoldable pub pagesOf : List ℕ → List ℕ
 pagesOf bytes = unlessRefused bytes (pagesText (settingsIn bytes) (afterCalls bytes .records))
 
--- both pages of every table fit here: it has at most 64 clients, and their lines have at most 147 and 336 bytes
+-- both pages of every table fit here: it has at most 64 clients, and their lines have at most 147 and 357 bytes
 abbrev pub room : ℕ
-room = 32000
+room = 33000
 
 -- the pages in lent bytes
 abbrev pub Paged : List ℕ → List ℕ → List ℕ → ℕ → Type 0

@@ -57,7 +57,7 @@ module _ (bytes : List ℕ) (k : ℕ) where
   unfolding placeOf
   place-small h = omega arith
 
-  pub header-inside : placeOf bytes (suc k) ≤ length bytes → 16 ≤ length bytes
+  pub header-inside : placeOf bytes (suc k) ≤ length bytes → 20 ≤ length bytes
   unfolding placeOf
   header-inside h = omega arith
 

@@ -15,8 +15,8 @@ use Rattle.schedule.specs.laws.FormatLaws.{earlier-inside}
 
 pub record WellFormed (bytes : List ℕ) : Type 0 where
   pub short : length bytes ≤ 65536
-  pub header : 16 ≤ length bytes
-  pub offset : 16 ≤ offsetIn bytes
+  pub header : 20 ≤ length bytes
+  pub offset : 20 ≤ offsetIn bytes
   pub inside : placeOf bytes (countIn bytes) ≤ length bytes
   pub right : anyWrong bytes (countIn bytes) ≡ false
   pub levels : settingsIn bytes .levels ≤ 6
@@ -30,22 +30,22 @@ module _ (bytes : List ℕ) where
   too-long h = true-first _ _ (lt-ltb _ _ h)
 
   module _ (short : length bytes ≤ 65536) where
-    pub too-short : length bytes < 16 → true ≡ malformed bytes
+    pub too-short : length bytes < 20 → true ≡ malformed bytes
     unfolding malformed
     too-short h = next-test _ _ _ (le-ltb _ _ short) (true-first _ _ (lt-ltb _ _ h))
 
-    module _ (header : 16 ≤ length bytes) (offset : ℕ) (eo : offset ≡ offsetIn bytes) where
-      pub offset-low : offset < 16 → true ≡ malformed bytes
+    module _ (header : 20 ≤ length bytes) (offset : ℕ) (eo : offset ≡ offsetIn bytes) where
+      pub offset-low : offset < 20 → true ≡ malformed bytes
       unfolding malformed
       offset-low h =
-          next-test _ _ _ (le-ltb _ _ short) (next-test _ _ _ (le-ltb _ _ header) (true-first _ _ (lt-ltb _ _ (subst (λ (n : ℕ). n < 16) eo h))))
+          next-test _ _ _ (le-ltb _ _ short) (next-test _ _ _ (le-ltb _ _ header) (true-first _ _ (lt-ltb _ _ (subst (λ (n : ℕ). n < 20) eo h))))
 
-      module _ (high : 16 ≤ offset) (end : ℕ) (ee : end ≡ placeOf bytes (countIn bytes)) where
+      module _ (high : 20 ≤ offset) (end : ℕ) (ee : end ≡ placeOf bytes (countIn bytes)) where
         from-end : (x : Bool) → x ≡ (ltb (length bytes) (placeOf bytes (countIn bytes)) || anyWrong bytes (countIn bytes)) → x ≡ malformed bytes
         unfolding malformed
         from-end x h =
             next-test _ _ _ (le-ltb _ _ short)
-            (next-test _ _ _ (le-ltb _ _ header) (next-test _ _ _ (le-ltb _ _ (subst (λ (n : ℕ). 16 ≤ n) eo high)) h))
+            (next-test _ _ _ (le-ltb _ _ header) (next-test _ _ _ (le-ltb _ _ (subst (λ (n : ℕ). 20 ≤ n) eo high)) h))
 
         pub calls-outside : length bytes < end → true ≡ malformed bytes
         calls-outside h = from-end _ (true-first _ _ (lt-ltb _ _ (subst (λ (n : ℕ). length bytes < n) ee h)))
@@ -72,9 +72,9 @@ module _ (bytes : List ℕ) where
   unfolding fileCause firstCause choose
   cause-none e f = rw (e, f)
 
-  pub long-enough : malformed bytes ≡ false → 16 ≤ length bytes
+  pub long-enough : malformed bytes ≡ false → 20 ≤ length bytes
   unfolding malformed
-  long-enough e = ltb-false _ _ (both-false (ltb (length bytes) 16) _ (both-false (ltb 65536 (length bytes)) _ e .1) .0)
+  long-enough e = ltb-false _ _ (both-false (ltb (length bytes) 20) _ (both-false (ltb 65536 (length bytes)) _ e .1) .0)
 
 none-true : (m l : Bool) → firstCause ((m, 10) ∷ (l, 11) ∷ []) ≡ 0 → (m ≡ false) × (l ≡ false)
 unfolding firstCause choose
@@ -96,12 +96,12 @@ module _ (bytes : List ℕ) (e : fileCause bytes ≡ 0) where
   unfolding malformed tooLarge
   well-formed =
       let f2 = both-false (ltb 65536 (length bytes)) _ right-form .1 in
-      let f3 = both-false (ltb (length bytes) 16) _ f2 .1 in
-      let f4 = both-false (ltb (offsetIn bytes) 16) _ f3 .1 in
+      let f3 = both-false (ltb (length bytes) 20) _ f2 .1 in
+      let f4 = both-false (ltb (offsetIn bytes) 20) _ f3 .1 in
       record {
         short = ltb-false _ _ (both-false (ltb 65536 (length bytes)) _ right-form .0);
-        header = ltb-false _ _ (both-false (ltb (length bytes) 16) _ f2 .0);
-        offset = ltb-false _ _ (both-false (ltb (offsetIn bytes) 16) _ f3 .0);
+        header = ltb-false _ _ (both-false (ltb (length bytes) 20) _ f2 .0);
+        offset = ltb-false _ _ (both-false (ltb (offsetIn bytes) 20) _ f3 .0);
         inside = ltb-false _ _ (both-false (ltb (length bytes) (placeOf bytes (countIn bytes))) _ f4 .0);
         right = both-false (ltb (length bytes) (placeOf bytes (countIn bytes))) _ f4 .1;
         levels = ltb-false _ _ (both-false (ltb 6 (settingsIn bytes .levels)) _ right-size .0);

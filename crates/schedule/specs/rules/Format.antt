@@ -1,4 +1,4 @@
--- To be believed: document 01, section "The schedule program": the format of a schedule over its bytes, the calls in it, what is refused, and what is lent to the
+-- To be believed: document 01, section "The schedule program", and the patience of document 02's request 2.2: the format of a schedule over its bytes, the calls in it, what is refused, and what is lent to the
 -- opening. Assumes nothing.
 use mathlib.Core.Bool.{Bool, false, _||_}
 use mathlib.Core.List.{List, [], _∷_}
@@ -19,10 +19,10 @@ unfoldable pub little : ℕ → List ℕ → ℕ → ℕ
 little zero bytes i = 0
 little (suc k) bytes i = getD bytes i 0 + 256 * little k bytes (suc i)
 
--- ---- "Header of 16 bytes: u16 H, u16 m, u32 T, u16 clients, u16 count of calls, u32 offset of the first."
+-- ---- "Header of 16 bytes: u16 H, u16 m, u32 T, u16 clients, u16 count of calls, u32 offset of the first."; 2.2, "A schedule's header gains u32 P at byte 16"
 
 unfoldable pub settingsIn : List ℕ → Settings
-settingsIn bytes = record { levels = little 2 bytes 0; distance = little 2 bytes 2; wait = little 4 bytes 4 }
+settingsIn bytes = record { levels = little 2 bytes 0; distance = little 2 bytes 2; wait = little 4 bytes 4; patience = little 4 bytes 16 }
 
 unfoldable pub clientsIn : List ℕ → ℕ
 clientsIn bytes = little 2 bytes 8
@@ -75,11 +75,12 @@ unfoldable pub anyWrong : List ℕ → ℕ → Bool
 anyWrong bytes zero = false
 anyWrong bytes (suc k) = anyWrong bytes k || callWrong bytes k
 
--- ---- "A file too long or short, an offset below 16, an offset plus 24 × calls over the file's length, an unknown kind or a filled zero field: `refused 10`."
+-- ---- "A file too long or short, an offset below 16, an offset plus 24 × calls over the file's length, an unknown kind or a filled zero field: `refused 10`."; 2.2, "its
+-- least offset is 20"
 
 unfoldable pub malformed : List ℕ → Bool
 malformed bytes =
-    ltb 65536 (length bytes) || (ltb (length bytes) 16 || (ltb (offsetIn bytes) 16 || (ltb (length bytes) (placeOf bytes (countIn bytes)) || anyWrong bytes (countIn bytes))))
+    ltb 65536 (length bytes) || (ltb (length bytes) 20 || (ltb (offsetIn bytes) 20 || (ltb (length bytes) (placeOf bytes (countIn bytes)) || anyWrong bytes (countIn bytes))))
 
 -- "H over 6 or clients over 64: `refused 11`, tested after 10."
 unfoldable pub tooLarge : List ℕ → Bool

@@ -3,11 +3,9 @@ use mathlib.Core.Path.{sym, ap, _∙_, subst}
 use Prim.Native.Nat.{ℕ}
 use native.Mathlib.Omega.{arith}
 use lib.ListN.{length}
-use Rattle.word.specs.rules.Word.{dcnt, dmax}
 use Rattle.tree.specs.rules.Tree.{Node}
 use Rattle.tree.specs.rules.Lists.{checkList}
 use Rattle.lock.specs.rules.Records.{currentPiece}
-use Rattle.lock.specs.rules.Steps.{taken}
 use Rattle.lock.specs.laws.StepLaws.{check-stays, check-more, check-last, check-small}
 use borrow.Author.Needs.{needs}
 use Rattle.lock.proofs.Record.check_passed.Statement.{statement}
@@ -25,7 +23,7 @@ returns c =
     let q = c .before .before .before .pre in
     let h = a .settings .levels in
     let m = a .settings .distance in
-    sym (check-stays (a .settings) (a .self) (a .found) (λ e. c .if1 .taken (c .before .before .dcnt .ensures ∙ e ∙ sym (c .before .dmax .ensures))))
+    sym (check-stays (a .settings) (a .self) (a .found) (a .clock) (λ e. c .if1 .taken (c .before .before .dcnt .ensures ∙ e ∙ sym (c .before .dmax .ensures))))
 
 add-passed : tie.Need-add-passed
 add-passed c =
@@ -52,7 +50,7 @@ returns-2 c =
     let q = c .before .before .before .before .before .before .before .pre in
     let h = a .settings .levels in
     let m = a .settings .distance in
-    sym (check-more (a .settings) (a .self) (a .found) (sym (c .before .before .before .before .before .before .dcnt .ensures) ∙ c .before .before .before .before .if1 .left ∙ c .before .before .before .before .before .dmax .ensures)
+    sym (check-more (a .settings) (a .self) (a .found) (a .clock) (sym (c .before .before .before .before .before .before .dcnt .ensures) ∙ c .before .before .before .before .if1 .left ∙ c .before .before .before .before .before .dmax .ensures)
     (omega (arith, c .before .check-count .ensures ∙ ap (λ (x : ℕ). length (checkList h m x)) (c .before .before .current-piece .ensures), c .if2 .taken)))
 
 taken-requires : tie.Need-taken-requires
@@ -64,7 +62,7 @@ returns-3 c =
     let q = c .before .before .before .before .before .before .before .before .pre in
     let h = a .settings .levels in
     let m = a .settings .distance in
-    c .taken .ensures ∙ sym (check-last (a .settings) (a .self) (a .found) (sym (c .before .before .before .before .before .before .before .dcnt .ensures) ∙ c .before .before .before .before .before .if1 .left ∙ c .before .before .before .before .before .before .dmax .ensures)
+    c .taken .ensures ∙ sym (check-last (a .settings) (a .self) (a .found) (a .clock) (sym (c .before .before .before .before .before .before .before .dcnt .ensures) ∙ c .before .before .before .before .before .if1 .left ∙ c .before .before .before .before .before .before .dmax .ensures)
     (omega (arith, c .before .before .check-count .ensures ∙ ap (λ (x : ℕ). length (checkList h m x)) (c .before .before .before .current-piece .ensures), c .before .if2 .left)))
 
 pub check-passed-spec : {M : Type 1} → statement M

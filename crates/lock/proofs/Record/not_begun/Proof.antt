@@ -14,10 +14,16 @@ not-cover-requires c κs =
 piece-count-requires : tie.Need-piece-count-requires
 piece-count-requires c κs = search needs
 
+taken-first-requires : tie.Need-taken-first-requires
+taken-first-requires c κs = search needs
+
 returns : tie.Need-returns
 unfolding notBegun notCovered noCurrent ticketTooLarge timeAhead
 returns c =
-    λ i. c .before .before .before .before .before .not-cover .ensures i || leb (c .before .before .before .before .piece-count .ensures i) (c .before .before .before .before .before .before .args .self .current) || ltb 32767 (c .before .before .before .before .before .before .args .self .ticket) || (ltb (c .before .before .before .before .before .before .args .last) (c .before .before .before .before .before .before .args .self .t1) || ltb (c .before .before .before .before .before .before .args .last) (c .before .before .before .before .before .before .args .self .t0))
+    let r = c .before .before .before .before .before .before .before .before .args .self in
+    let last = c .before .before .before .before .before .before .before .before .args .last in
+    λ i. c .before .before .before .before .before .before .before .not-cover .ensures i || leb (c .before .before .before .before .before .before .piece-count .ensures i) (r .current) || ltb 32767 (r .ticket) || (ltb last (r .t1) || ltb last (r .t0) || ltb last (r .taken)) || c .taken-first .ensures i
 
 pub not-begun-spec : {M : Type 1} → statement M
-not-begun-spec = tie.close (tie.spec not-cover-requires piece-count-requires returns)
+not-begun-spec =
+    tie.close (tie.spec not-cover-requires piece-count-requires taken-first-requires returns)

@@ -1,4 +1,5 @@
 -- `lock::Record::returning_wrong` meets its contract. Assumes nothing.
+use Prim.Native.Nat.{_-_}
 use Rattle.lock.specs.laws.PhaseTests.{own-returning}
 use borrow.Author.Needs.{needs}
 use Rattle.lock.proofs.Record.returning_wrong.Statement.{statement}
@@ -15,7 +16,7 @@ grip-of-requires c κs = search needs
 
 returns : tie.Need-returns
 returns c =
-    own-returning (c .before .before .before .before .before .before .before .before .before .pre .0) (c .before .before .before .before .before .before .before .before .before .pre .3) (c .before .before .before .before .before .before .before .before .before .pre .2) (c .before .before .before .before .before .before .before .before .before .pre .1) (c .before .before .before .before .before .before .before .past-notices .ensures) (c .before .before .lacks-returning .ensures) (c .grip-of .ensures)
+    own-returning (c .before .before .before .before .before .before .before .before .before .before .before .pre .0) (c .before .before .before .before .before .before .before .before .before .before .before .pre .3) (c .before .before .before .before .before .before .before .before .before .before .before .pre .2) (c .before .before .before .before .before .before .before .before .before .before .before .pre .1) (c .before .before .before .before .before .before .before .before .before .past-notices .ensures) (c .before .before .before .before .lacks-returning .ensures) (c .before .before .grip-of .ensures)
 
 pub returning-wrong-spec : {M : Type 1} → statement M
 returning-wrong-spec =

@@ -14,7 +14,7 @@ idle-filled-requires c κs = search needs
 
 returns : tie.Need-returns
 returns c =
-    ap (λ (b : Bool). ltb 3 (c .before .before .before .before .args .self .outcome) || b) (c .idle-filled .ensures) ∙ sym (unreadable-idle (c .before .before .before .before .args .settings) (c .before .before .before .before .args .self) (c .before .before .before .before .args .last) (c .before .before .if1 .taken))
+    ap (λ (b : Bool). ltb 4 (c .before .before .before .before .args .self .outcome) || b) (c .idle-filled .ensures) ∙ sym (unreadable-idle (c .before .before .before .before .args .settings) (c .before .before .before .before .args .self) (c .before .before .before .before .args .last) (c .before .before .if1 .taken))
 
 not-begun-requires : tie.Need-not-begun-requires
 not-begun-requires c κs = search needs

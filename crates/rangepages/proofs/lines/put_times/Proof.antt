@@ -13,6 +13,9 @@ put-spaced-requires-2 c κs = search needs
 put-spaced-requires-3 : tie.Need-put-spaced-requires-3
 put-spaced-requires-3 c κs = search needs
 
+put-spaced-requires-4 : tie.Need-put-spaced-requires-4
+put-spaced-requires-4 c κs = search needs
+
 slice-aggregate-put-bytes : tie.Need-slice-aggregate-put-bytes
 slice-aggregate-put-bytes c = search needs
 
@@ -24,7 +27,7 @@ same-length c = search needs
 
 returns : tie.Need-returns
 returns c =
-    (joined (c .before .before .before .before .before .before .before .before .before .before .before .before .before .before .before .put-spaced .ensures .0) (joined (c .before .before .before .before .before .before .before .before .before .before .before .put-spaced2 .ensures .0) (joined (c .before .before .before .before .before .before .before .put-spaced3 .ensures .0) (c .before .before .put-bytes .ensures))), search needs)
+    (joined (c .before .before .before .before .before .before .before .before .before .before .before .before .before .before .before .before .before .before .before .put-spaced .ensures .0) (joined (c .before .before .before .before .before .before .before .before .before .before .before .before .before .before .before .put-spaced2 .ensures .0) (joined (c .before .before .before .before .before .before .before .before .before .before .before .put-spaced3 .ensures .0) (joined (c .before .before .before .before .before .before .before .put-spaced4 .ensures .0) (c .before .before .put-bytes .ensures)))), search needs)
 
 pub put-times-spec : {M : Type 1} → statement M
 put-times-spec =
@@ -33,6 +36,7 @@ put-times-spec =
     put-spaced-requires
     put-spaced-requires-2
     put-spaced-requires-3
+    put-spaced-requires-4
     slice-aggregate-put-bytes
     put-bytes-requires
     same-length

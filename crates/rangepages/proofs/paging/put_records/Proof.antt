@@ -14,7 +14,7 @@ use Rattle.rangepages.proofs.paging.put_records.Tie as tie
 
 abbrev Inv-loop : tie.InvT-loop
 Inv-loop out₀ at held shelf clients end₀ client₀ out end client =
-    Lined (recordLine held) (take clients (shelf .records)) out₀ at out end client × ((end ≤ at + 336 * client) × ((client ≤ clients) × (length out ≡ length out₀)))
+    Lined (recordLine held) (take clients (shelf .records)) out₀ at out end client × ((end ≤ at + 357 * client) × ((client ≤ clients) × (length out ≡ length out₀)))
 
 abbrev μ-loop : tie.MeasureT-loop
 μ-loop out₀ at held shelf clients end₀ client₀ out end client = clients - client

@@ -1,0 +1,183 @@
+-- Examples, closed by computing: the deadlock that document 02's request 2.2 removes. "A run held its first piece and waited for its second under an ancestor occupied by a run
+-- waiting for the first." Before patience is spent no step of either changes anything but the clock; then one gives up, and both windows are taken in the end. Assumes nothing.
+use mathlib.Core.Path.{_≡_, refl, ap, _∙_}
+use mathlib.Core.Bool.{false}
+use mathlib.Core.List.{List, [], _∷_}
+use Prim.Native.Nat.{ℕ, zero, suc, _-_, _≤_, _<_}
+use native.Mathlib.Omega.{arith}
+use borrow.Author.Tests.{lt-leb, le-ltb}
+use lib.Dec.{leb, ltb}
+use lib.ListN.{getD, set, take, replicate}
+use Rattle.base.specs.rules.Choice.{choose}
+use Rattle.base.specs.laws.ChoiceLaws.{choose-eq}
+use Rattle.word.specs.rules.Word.{field, putField, addField, matches, replaced, maskedSwap, leafBits, wantedBits, takeBits, giveBits, returnOcc}
+use Rattle.tree.specs.rules.Tree.{climb, leftmost, first, level, levelWithin, size, left, units, holder, wordCount}
+use Rattle.tree.specs.rules.Lists.{upward, ancestors, ancestor, notifies, notifiedFrom, notifyLevels, notifyList, row, descendants, nearest, checkList}
+use Rattle.cover.specs.rules.Cover.{part, over, total, rank}
+use Rattle.cover.specs.rules.Search.{before, lesser, behind, leastOf, rest, search, found, leastCover}
+use Rattle.cover.specs.rules.Answer.{levelsOutside, windowOutside}
+use Rattle.lock.specs.declared.Record.{Record}
+use Rattle.lock.specs.declared.Settings.{Settings}
+use Rattle.lock.specs.rules.Records.{phaseOf, pieces, pieceAt, isLeaf, gripOf, noticesOf, wordAt, written, idleWith}
+use Rattle.lock.specs.rules.Unreadable.{differ, numberTooLarge, idleFilled, notCovered, noCurrent, ticketTooLarge, fieldsWrong, listLength, placePast, noticesWrong, timeAhead, phaseElsewhere, heldEarly, outcomeWrong, lacksGrip, givingWrong, impatientFirst, takenFirst, unreadable}
+use Rattle.lock.specs.rules.Steps.{touchedIn, startPhase, begin, firstNoted, taken, ticketTaken, turnAwaited, goUp, climbed, unblocked, bitsClaimed, occClaimed, allNotified, noticeGiven, waited, checkPassed, pieceReturned, wordReturned, turnReturned, claimPiece, returnBits, returnInner, giveBack, movedIn, leaves, ownTouched, ownMoved, patienceSpent, givenUp, touched, moved}
+use Rattle.lock.specs.rules.Calls.{firstCause, settingsOutside, treeTests, clientsOutside, clientTests, requestTests, stepTests, releaseTests, cancelTests, requested, released, cancelled}
+use Rattle.lock.specs.rules.History.{run}
+use Rattle.lock.specs.laws.CallLaws.{cause-skip, tree-passed}
+use Rattle.lock.specs.laws.PatienceLaws.{unmoved}
+use Rattle.lock.specs.laws.WhenReadable.{readable-later}
+use Rattle.lock.specs.examples.WholeCase.{log}
+use Rattle.lock.specs.rules.Table.{State, Call, request, step, release, clientOf, recordAt, ownTests, numberOf, after, call, openingNumber, opened, opening}
+
+-- H 2, m 1, T 5, P 20, two clients
+abbrev pub settings : Settings
+settings = record { levels = 2; distance = 1; wait = 5; patience = 20 }
+
+abbrev pub fresh : State
+fresh = opening settings (record { words = replicate 5 0; records = replicate 2 (idleWith 0); clock = 0 }) .state
+
+-- client 0 takes the first of its two leaves at clock 1; client 1 takes the root's Occ, under which client 0's second leaf lies, and stands in its check, since client 0 has given notice at the
+-- root
+abbrev pub meeting : List Call
+meeting =
+    request 0 60 70 ∷ step 0 1 ∷ step 0 1 ∷ step 0 1 ∷ request 1 0 256 ∷ step 1 2 ∷ step 1 2 ∷ step 1 2 ∷ step 0 3 ∷ step 1 7 ∷ []
+
+-- ---- a step that leaves word and record as they are changes the clock alone
+
+set-same : {A : Type 0} (xs : List A) (i : ℕ) (d : A) → set xs i (getD xs i d) ≡ xs
+set-same [] i d = refl
+set-same (x ∷ xs) zero d = refl
+set-same (x ∷ xs) (suc i) d = ap (λ ys. x ∷ ys) (set-same xs i d)
+
+written-same : (words : List ℕ) (n : ℕ) → written words n (wordAt words n) ≡ words
+unfolding written wordAt
+written-same words zero = refl
+written-same words (suc i) = set-same words i 0
+
+step-still : (s : Settings) (st : State) (c t : ℕ) → numberOf s st (step c t) ≡ 0
+    → let r = recordAt st c in let w = wordAt (st .words) (touched s r t) in moved s r w t ≡ leaves w r
+    → call s st (step c t) ≡ record { number = 0; state = record { words = st .words; records = st .records; clock = t } }
+unfolding call after recordAt
+step-still s st c t n e =
+    let words = ap (λ m. written (st .words) (touched s (recordAt st c) t) (m .word)) e ∙ written-same (st .words) (touched s (recordAt st c) t) in
+    let records = ap (λ m. set (st .records) c (m .next)) e ∙ set-same (st .records) c (idleWith 0) in
+    let moved-on : after s st (step c t) ≡ record { words = st .words; records = st .records; clock = t } = λ i. record { words = words i; records = records i; clock = t } in
+    let state = choose-eq (numberOf s st (step c t)) 0 (after s st (step c t)) st n ∙ moved-on in
+    λ i. record { number = n i; state = state i }
+
+-- ---- before patience is spent
+
+-- client 0 is blocked at the root with its second piece, the leaf 3; the first, the leaf 2, was taken at clock 1
+abbrev pub blocked-0 : Record
+blocked-0 = record {
+  phase = 4;
+  outcome = 0;
+  left = 60;
+  right = 70;
+  first = 2;
+  second = 3;
+  current = 1;
+  giving = 0;
+  grip = 0;
+  ticket = 0;
+  place = 0;
+  notices = 0;
+  t1 = 0;
+  t0 = 0;
+  taken = 1;
+}
+
+-- client 1 has the root, and checks there
+abbrev pub checking-1 : Record
+checking-1 = record {
+  phase = 8;
+  outcome = 0;
+  left = 0;
+  right = 256;
+  first = 1;
+  second = 0;
+  current = 0;
+  giving = 0;
+  grip = 3;
+  ticket = 0;
+  place = 0;
+  notices = 0;
+  t1 = 0;
+  t0 = 2;
+  taken = 0;
+}
+
+abbrev pub waiting : ℕ → State
+waiting t = record { words = 4611686022722355201 ∷ 17293822569102704640 ∷ 0 ∷ 0 ∷ 0 ∷ []; records = blocked-0 ∷ checking-1 ∷ []; clock = t }
+
+-- ---- patience is spent
+
+-- client 0 touches no word and goes to returning with outcome 4
+abbrev pub given-up : State
+given-up = record { words = waiting 0 .words; records = givenUp blocked-0 ∷ checking-1 ∷ []; clock = 21 }
+
+-- client 0 gives back its leaf and its notice, client 1's check passes and it holds; it releases and returns, and client 0 asks again and takes both leaves
+abbrev pub end : List Call
+end =
+    step 0 21 ∷ step 0 21 ∷ step 1 22 ∷ release 1 ∷ step 1 23 ∷ request 0 60 70 ∷ step 0 24 ∷ step 0 24 ∷ step 0 24 ∷ step 0 24 ∷ step 0 24 ∷ step 0 24 ∷ []
+
+-- number, phase and edges after each call
+abbrev pub end-lines : List (List ℕ)
+end-lines =
+    (0 ∷ 10 ∷ 60 ∷ 70 ∷ []) ∷ (0 ∷ 0 ∷ 0 ∷ 0 ∷ []) ∷ (0 ∷ 9 ∷ 0 ∷ 256 ∷ []) ∷ (0 ∷ 10 ∷ 0 ∷ 256 ∷ []) ∷ (0 ∷ 0 ∷ 0 ∷ 0 ∷ [])
+    ∷ (0 ∷ 3 ∷ 60 ∷ 70 ∷ []) ∷ (0 ∷ 5 ∷ 60 ∷ 70 ∷ []) ∷ (0 ∷ 6 ∷ 60 ∷ 70 ∷ []) ∷ (0 ∷ 3 ∷ 60 ∷ 70 ∷ []) ∷ (0 ∷ 5 ∷ 60 ∷ 70 ∷ []) ∷ (0 ∷ 6 ∷ 60 ∷ 70 ∷ [])
+    ∷ (0 ∷ 9 ∷ 60 ∷ 70 ∷ []) ∷ []
+
+-- ---- by computing
+
+-- what the work of its phase would leave of word and record
+abbrev Stays : Record → ℕ → Type 0
+Stays r t = let w = wordAt (waiting 0 .words) (ownTouched settings r) in ownMoved settings r w t ≡ leaves w r
+
+computed : (t : ℕ) → (run settings fresh meeting ≡ waiting 7) × (unreadable settings blocked-0 7 ≡ false) × (unreadable settings checking-1 7 ≡ false) × Stays blocked-0 t × Stays checking-1 t
+    × (run settings (waiting 7) (step 0 20 ∷ step 1 20 ∷ step 0 21 ∷ []) ≡ given-up) × (log settings given-up end ≡ end-lines) × (recordAt (run settings given-up (take 2 end)) 0 ≡ idleWith 4)
+unfolding log run call numberOf after ownTests recordAt clientOf opening openingNumber opened firstCause settingsOutside treeTests clientsOutside clientTests requestTests stepTests releaseTests cancelTests requested released cancelled touchedIn startPhase begin firstNoted taken ticketTaken turnAwaited goUp climbed unblocked bitsClaimed occClaimed allNotified noticeGiven waited checkPassed pieceReturned wordReturned turnReturned claimPiece returnBits returnInner giveBack movedIn numberTooLarge idleFilled notCovered noCurrent ticketTooLarge fieldsWrong listLength placePast noticesWrong timeAhead phaseElsewhere heldEarly outcomeWrong lacksGrip givingWrong impatientFirst takenFirst unreadable phaseOf pieces pieceAt isLeaf gripOf noticesOf wordAt written levelsOutside windowOutside lesser behind leastOf rest search found leastCover before part over total rank upward ancestors ancestor notifies notifiedFrom notifyLevels notifyList row descendants nearest checkList climb leftmost first level levelWithin size left units holder wordCount field putField addField matches replaced maskedSwap leafBits wantedBits takeBits giveBits returnOcc choose patienceSpent
+computed t = (refl, refl, refl, refl, refl, refl, refl, refl)
+
+pub they-meet : run settings fresh meeting ≡ waiting 7
+they-meet = computed 0 .0
+
+-- ---- no step of either changes anything but the clock
+
+none-left : firstCause [] ≡ 0
+unfolding firstCause
+none-left = refl
+
+module _ (last t : ℕ) (since : 7 ≤ last) (later : last ≤ t) where
+  -- a client of the two whose record is readable, and stays as it is
+  waits : (c : ℕ) → c < 2 → unreadable settings (recordAt (waiting last) c) 7 ≡ false → patienceSpent settings (recordAt (waiting last) c) t ≡ false
+      → let r = recordAt (waiting last) c in let w = wordAt (waiting last .words) (ownTouched settings r) in ownMoved settings r w t ≡ leaves w r
+      → call settings (waiting last) (step c t) ≡ record { number = 0; state = waiting t }
+  unfolding numberOf clientTests ownTests stepTests clientsOutside clientOf settingsOutside levelsOutside wordCount size first
+  waits c few readable patient still =
+      let r = recordAt (waiting last) c in
+      let m = unmoved settings r (waiting last .words) t patient still in
+      step-still settings (waiting last) c t
+      (tree-passed settings 5 _ refl refl ∙ cause-skip (clientsOutside 2) 3 _ refl ∙ cause-skip (leb 2 c) 4 _ (lt-leb 2 c few) ∙ cause-skip (ltb t last) 5 _ (le-ltb t last later)
+      ∙ cause-skip (unreadable settings r last) 6 _ (readable-later settings r 7 last since readable) ∙ cause-skip (differ (moved settings r (wordAt (waiting last .words) (touched settings r t)) t .number) 0) 9 [] (ap (λ x. differ (x .number) 0) m)
+      ∙ none-left)
+      m
+
+  -- "clock less that time at least P" begins at 21
+  pub waits-0 : t < 21 → call settings (waiting last) (step 0 t) ≡ record { number = 0; state = waiting t }
+  unfolding recordAt patienceSpent
+  waits-0 b = waits 0 (omega arith) (computed t .1) (lt-leb 20 (t - 1) (omega arith)) (computed t .3)
+
+  -- a first piece has no patience to spend
+  pub waits-1 : call settings (waiting last) (step 1 t) ≡ record { number = 0; state = waiting t }
+  unfolding recordAt patienceSpent
+  waits-1 = waits 1 (omega arith) (computed t .2) refl (computed t .4)
+
+-- ---- one gives up, and both windows are taken in the end
+
+-- at 20 both still wait
+pub gives-up : run settings (waiting 7) (step 0 20 ∷ step 1 20 ∷ step 0 21 ∷ []) ≡ given-up
+gives-up = computed 0 .5
+
+pub both-taken : (log settings given-up end ≡ end-lines) × (recordAt (run settings given-up (take 2 end)) 0 ≡ idleWith 4)
+both-taken = (computed 0 .6, computed 0 .7)
