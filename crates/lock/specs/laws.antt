@@ -14,6 +14,7 @@ pub mod Placed
 pub mod ReadableLaws
 pub mod Ready
 pub mod ReturnLaws
+pub mod SettledLaws
 pub mod StepLaws
 pub mod Touched
 pub mod WhenReadable

@@ -8,7 +8,7 @@ ghost use Rattle.tree.specs.rules.Tree.{wordCount};
 ghost use Rattle.cover.specs.rules.Answer.{windowOutside};
 ghost use Rattle.cover.specs.laws.Lowest.{Window};
 ghost use Rattle.lock.specs.declared.Stepped.{Stepped};
-ghost use Rattle.lock.specs.rules.Records.{coverOf, wordAt, written, toPhase, withOutcome};
+ghost use Rattle.lock.specs.rules.Records.{coverOf, wordAt, written, sentBack};
 ghost use Rattle.lock.specs.rules.Steps.{touched, moved};
 ghost use Rattle.lock.specs.rules.Unreadable.{differ, unreadable};
 ghost use Rattle.lock.specs.rules.Calls.{firstCause, treeTests, requested, cancelled, answered};
@@ -68,21 +68,21 @@ impl Record {
         }
     }
 
-    // What is left of a step after 1, 2, 5 and 6: 9, and the work on the one word. "An accepted step sets the last clock."
+    // What is left of a step after 1, 2, 5 and 6: patience, else 9 and the work on the one word. "An accepted step sets the last clock."
     fn step(self, words: &mut [u64], settings: Settings, call: Call) -> Stepped
         requires { ⌜ Settled settings × (length (now words) ≡ wordCount (settings .levels)) × (unreadable settings self (call .last) ≡ false) × (call .last ≤ call .a) ⌝ }
         ensures answer { λ s. ⌜ s ≡ answered (clearBit settings self (now (words .entry)) (call .a)) self (call .last) (moved settings self (wordAt (now (words .entry)) (touched settings self (call .a))) (call .a) .next) (call .a) ⌝ }
         ensures words { λ s. ⌜ now (words .exit) ≡ leftBy settings self (now (words .entry)) (call .a) ⌝ }
     {
-        if self.patience_spent(settings, call.a) {
+        if self.out_of_patience(settings, call.a) {
             return Stepped {
                 number: 0,
                 clock: call.a,
                 next: self.sent_back(4),
             };
         }
-        let n = self.touched(settings);
-        let m = self.moved(settings, n, word_at(words, n), call.a);
+        let n = self.own_touched(settings);
+        let m = self.own_moved(settings, n, word_at(words, n), call.a);
         if m.number != 0 {
             return self.refused(9, call.last);
         }
@@ -149,7 +149,7 @@ impl Record {
 
     // "set outcome 1 or 3 and phase 10"; 2.2, "sets outcome 4 and goes to returning"
     fn sent_back(mut self, outcome: u64) -> Record
-        ensures { λ r. ⌜ r ≡ toPhase 10 (withOutcome outcome self) ⌝ }
+        ensures { λ r. ⌜ r ≡ sentBack outcome self ⌝ }
     {
         self.phase = 10;
         self.outcome = outcome;

@@ -37,7 +37,7 @@ impl Record {
     }
 
     // The node that the phase touches, 0 for none.
-    pub fn touched(self, settings: Settings) -> u64
+    pub fn own_touched(self, settings: Settings) -> u64
         requires { ⌜ Settled settings × Sound settings self ⌝ }
         ensures { λ n. ⌜ n ≡ ownTouched settings self ⌝ }
     {
@@ -62,7 +62,7 @@ impl Record {
     }
 
     // What the phase leaves at that node n, where it found a word, and the next record.
-    pub fn moved(self, settings: Settings, n: u64, found: u64, clock: u64) -> Moved
+    pub fn own_moved(self, settings: Settings, n: u64, found: u64, clock: u64) -> Moved
         requires { ⌜ Settled settings × Sound settings self × (self .t1 ≤ clock) × (self .t0 ≤ clock) × (n ≡ ownTouched settings self) ⌝ }
         ensures { λ m. ⌜ m ≡ ownMoved settings self found clock ⌝ }
     {

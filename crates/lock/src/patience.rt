@@ -1,7 +1,7 @@
-// Document 02, request 2.2: patience runs from the first piece for every later one.
+// Document 02, request 2.2: the third noted time, and patience, which runs from it.
 ghost use mathlib.Core.Path.{_≡_};
 ghost use Prim.Native.Nat.{_≤_};
-ghost use Rattle.lock.specs.rules.Steps.{firstNoted, patienceSpent};
+ghost use Rattle.lock.specs.rules.Steps.{firstNoted, outOfPatience};
 ghost use Rattle.lock.specs.rules.Unreadable.{takenFirst};
 use crate::Record;
 use crate::Settings;
@@ -19,9 +19,9 @@ impl Record {
     }
 
     // "A step in phases 1 to 8 of a second piece, with clock less that time at least P"
-    pub fn patience_spent(self, settings: Settings, clock: u64) -> bool
+    pub fn out_of_patience(self, settings: Settings, clock: u64) -> bool
         requires { ⌜ self .taken ≤ clock ⌝ }
-        ensures { λ b. ⌜ b ≡ patienceSpent settings self clock ⌝ }
+        ensures { λ b. ⌜ b ≡ outOfPatience settings self clock ⌝ }
     {
         if self.current == 0 {
             return false;

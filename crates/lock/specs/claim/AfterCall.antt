@@ -10,7 +10,7 @@ use Rattle.lock.specs.declared.Moved.{Moved}
 use Rattle.lock.specs.declared.Record.{Record}
 use Rattle.lock.specs.declared.Settings.{Settings}
 use Rattle.lock.specs.rules.Records.{Phase, idle, ticket, turn, climb, blocked, claim, notify, wait, check, held, returning, unknown, phaseOf, wordAt, idleWith}
-use Rattle.lock.specs.rules.Steps.{begin, firstNoted, taken, ticketTaken, turnAwaited, goUp, climbed, unblocked, bitsClaimed, occClaimed, allNotified, noticeGiven, waited, checkPassed, pieceReturned, wordReturned, turnReturned, claimPiece, returnBits, returnInner, giveBack, movedIn, patienceSpent, touched, moved}
+use Rattle.lock.specs.rules.Steps.{begin, firstNoted, taken, ticketTaken, turnAwaited, goUp, climbed, unblocked, bitsClaimed, occClaimed, allNotified, noticeGiven, waited, checkPassed, pieceReturned, wordReturned, turnReturned, claimPiece, returnBits, returnInner, giveBack, movedIn, outOfPatience, touched, moved}
 use Rattle.lock.specs.rules.Calls.{requested, released, cancelled}
 use Rattle.lock.specs.rules.Table.{State, Call, request, step, release, cancel, clientOf, recordAt, numberOf, after, call}
 use Rattle.lock.specs.laws.Accepted.{accepted}
@@ -119,6 +119,6 @@ module _ (l q : ℕ) where
     edges-moved r w t returning e = edges-given r w e
     edges-moved r w t unknown e = inr e
 
-    -- or patience is spent
+    -- or patience has run out
     pub edges-stepped : (r : Record) (w t : ℕ) → HasEdges r → EdgesOrIdle (moved s r w t .next)
-    edges-stepped r w t e = on-choose (λ (x : Moved). EdgesOrIdle (x .next)) (patienceSpent s r t) _ _ (λ _. inr e) (λ _. edges-moved r w t (phaseOf (r .phase)) e)
+    edges-stepped r w t e = on-choose (λ (x : Moved). EdgesOrIdle (x .next)) (outOfPatience s r t) _ _ (λ _. inr e) (λ _. edges-moved r w t (phaseOf (r .phase)) e)

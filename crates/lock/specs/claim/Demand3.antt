@@ -186,7 +186,7 @@ idle-opened : (st : State) (c : ℕ) → recordAt (opened st) c .phase ≡ 0
 unfolding recordAt opened
 idle-opened st c = ap (λ x. x .phase) (getD-fresh (length (st .records)) c nobody)
 
--- for every H, m and T, every number of clients, every content of what was lent to the opening, and every list of calls
+-- for every H, m, T and P, every number of clients, every content of what was lent to the opening, and every list of calls
 pub demand-3 : (s : Settings) (lent : State) → opening s lent .number ≡ 0 → (ks : List Call) → Demand3 s (opening s lent .state) ks
 unfolding opening
 demand-3 s lent e ks =

@@ -14,7 +14,7 @@ use Rattle.lock.specs.rules.Steps.{touched, movedIn}
 use Rattle.lock.specs.rules.Calls.{requested, released, cancelled}
 use Rattle.lock.specs.rules.Table.{State, Call, request, step, release, cancel, clientOf, recordAt, numberOf, call}
 use Rattle.lock.specs.laws.Phases.{at-idle, at-held}
-use Rattle.lock.specs.laws.PatienceLaws.{unspent-idle, unspent-taken, own-moved}
+use Rattle.lock.specs.laws.PatienceLaws.{patient-idle, patient-taken, own-moved}
 use Rattle.lock.specs.laws.Accepted.{accepted, request-tested, release-tested, cancel-tested}
 use Rattle.lock.specs.claim.AfterCall.{recordAfter, own-record, on-call, count-after, HasEdges, EdgesOrIdle, edges-stepped}
 use Rattle.lock.specs.rules.History.{run, Event, event, events, Some, CallOf, RequestOf, StepOf, ReleaseOf, Accepted, GaveBackIn, Holds, Idle}
@@ -27,12 +27,12 @@ module _ (s : Settings) (st : State) (c t : ℕ) where
   step-idle : recordAt st c .phase ≡ 0 → recordAfter s st (step c t) ≡ recordAt st c
   unfolding recordAfter movedIn
   step-idle e =
-      ap (λ m. m .next) (own-moved s (recordAt st c) t (unspent-idle s (recordAt st c) t e) word) ∙ ap (λ p. movedIn s (recordAt st c) word t p .next) (at-idle (recordAt st c .phase) e)
+      ap (λ m. m .next) (own-moved s (recordAt st c) t (patient-idle s (recordAt st c) t e) word) ∙ ap (λ p. movedIn s (recordAt st c) word t p .next) (at-idle (recordAt st c .phase) e)
 
   step-held : recordAt st c .phase ≡ 9 → recordAfter s st (step c t) ≡ recordAt st c
   unfolding recordAfter movedIn
   step-held e =
-      ap (λ m. m .next) (own-moved s (recordAt st c) t (unspent-taken s (recordAt st c) t (omega arith)) word) ∙ ap (λ p. movedIn s (recordAt st c) word t p .next) (at-held (recordAt st c .phase) e)
+      ap (λ m. m .next) (own-moved s (recordAt st c) t (patient-taken s (recordAt st c) t (omega arith)) word) ∙ ap (λ p. movedIn s (recordAt st c) word t p .next) (at-held (recordAt st c .phase) e)
 
 -- [l, q) is held
 abbrev Held : ℕ → ℕ → Record → Type 0

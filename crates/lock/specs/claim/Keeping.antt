@@ -16,17 +16,17 @@ use Rattle.cover.specs.laws.Code.{window-inside}
 use Rattle.cover.specs.laws.Least.{least-cover}
 use Rattle.lock.specs.declared.Record.{Record}
 use Rattle.lock.specs.declared.Settings.{Settings}
-use Rattle.lock.specs.rules.Records.{coverOf, Phase, phaseOf, pieces, pieceAt, gripOf, wordAt, written, toPhase, withOutcome, idleWith}
+use Rattle.lock.specs.rules.Records.{coverOf, Phase, phaseOf, pieces, pieceAt, gripOf, wordAt, written, idleWith, sentBack}
 use Rattle.lock.specs.laws.Phases.{on-phase}
 use Rattle.lock.specs.laws.Pieces.{piece-first, grip-before, grip-current, first-gripped}
-use Rattle.lock.specs.rules.Steps.{startPhase, touchedIn, movedIn, leaves, ownTouched, ownMoved, patienceSpent, givenUp, touched, moved}
+use Rattle.lock.specs.rules.Steps.{startPhase, touchedIn, movedIn, leaves, ownTouched, ownMoved, outOfPatience, touched, moved}
 use Rattle.lock.specs.rules.Calls.{requested, released, cancelled}
 use Rattle.lock.specs.rules.Table.{State, Call, request, step, release, cancel, clientOf, recordAt, numberOf, after, call}
 use Rattle.lock.specs.rules.History.{run}
 use Rattle.lock.specs.laws.Active.{Settled}
 use Rattle.lock.specs.laws.ActiveLaws.{pieces-are}
 use Rattle.lock.specs.laws.Accepted.{accepted, request-tested, step-tested, release-tested, cancel-tested}
-use Rattle.lock.specs.laws.PatienceLaws.{spent}
+use Rattle.lock.specs.laws.PatienceLaws.{out-of-patience}
 use Rattle.lock.specs.laws.Ready.{Ready, any-grip-leaf, any-grip-most}
 use Rattle.lock.specs.laws.WhenReadable.{asked, readable-begin, readable-returning}
 use Rattle.lock.specs.claim.Fit.{Fit, fit-readable, fit-idle, fit-later, fit-ready, idle-fit}
@@ -80,13 +80,13 @@ module _ (s : Settings) (g : Settled s) (l r : ℕ) (inside : windowOutside (s .
         time = timely-first s rs nobody r′ now q refl (low .1) (λ _. refl);
       }
 
--- ---- release, cancel, and patience that is spent: a record begins to return
+-- ---- release, cancel, and patience that has run out: a record begins to return
 
 module _ (s : Settings) (rs : List Record) (r : Record) (now : ℕ) (g : Settled s) (rd : Ready s r now) (ahead : r .phase ≢ 10) (w : ℕ) where
-  returns : (o : ℕ) → o ≢ 0 → o ≤ 4 → (o ≡ 4 → r .current ≢ 0) → (r .current ≡ 0 → o ≢ 1 → r .taken ≡ 0) → gripOf r 0 ≢ 0 → Keeps s rs r 0 w w (toPhase 10 (withOutcome o r)) now
+  returns : (o : ℕ) → o ≢ 0 → o ≤ 4 → (o ≡ 4 → r .current ≢ 0) → (r .current ≡ 0 → o ≢ 1 → r .taken ≡ 0) → gripOf r 0 ≢ 0 → Keeps s rs r 0 w w (sentBack o r) now
   unfolding pieces pieceAt gripOf
   returns o a b j f d =
-      let q = toPhase 10 (withOutcome o r) in
+      let q = sentBack o r in
       let k = kin r q refl refl refl refl in
       keeps-quiet s rs r q 0 w now (λ z. absurd (z refl)) k refl ahead (entering-unreturned s q refl (rd .no-giving ahead) refl) refl refl refl
       (fit-readable s q now
@@ -101,7 +101,7 @@ module _ (s : Settings) (rs : List Record) (r : Record) (now : ℕ) (g : Settled
   pub cancel-keeps : r .phase ≢ 9 → Keeps s rs r 0 w w (cancelled r) now
   unfolding cancelled
   cancel-keeps early =
-      on-choose (λ q. Keeps s rs r 0 w w q now) (eqb (gripOf r 0) 0) (idleWith 3) (toPhase 10 (withOutcome 3 r))
+      on-choose (λ q. Keeps s rs r 0 w w q now) (eqb (gripOf r 0) 0) (idleWith 3) (sentBack 3 r)
       (λ t. let z = eqb→eq (gripOf r 0) 0 t in
       let first : r .current ≡ 0 = by-lt 0 (r .current) (λ b. absurd (omega (arith, grip-before r 0 b))) (λ b. omega arith) in
       let none : r .grip ≡ 0 = sym (grip-current r 0 (sym first)) ∙ z in
@@ -113,8 +113,8 @@ module _ (s : Settings) (rs : List Record) (r : Record) (now : ℕ) (g : Settled
       })
       (λ t. returns 3 (λ z. omega arith) (omega arith) (λ z. absurd (omega arith)) (λ e _. rd .no-early-time e early (λ z. absurd (ahead z))) (neqb→ne (gripOf r 0) 0 t))
 
-  pub given-up-keeps : 0 < r .current → Keeps s rs r 0 w w (givenUp r) now
-  given-up-keeps b = returns 4 (λ z. omega arith) (omega arith) (λ _ z. omega arith) (λ z. absurd (omega arith)) (λ z. omega (arith, grip-before r 0 b))
+  pub out-of-patience-keeps : 0 < r .current → Keeps s rs r 0 w w (sentBack 4 r) now
+  out-of-patience-keeps b = returns 4 (λ z. omega arith) (omega arith) (λ _ z. omega arith) (λ z. absurd (omega arith)) (λ z. omega (arith, grip-before r 0 b))
 
 -- ---- the calls
 
@@ -174,10 +174,10 @@ module _ (s : Settings) (st : State) (inv : Invariant s st) (c : ℕ) where
         (λ e. let d : r .phase ≢ 0 = λ z. omega arith in returning-keeps s rs r (st .clock) t later g (prepared d) fit e (wordAt (st .words)))
         (λ b _. stays _)
 
-    -- the work of the phase, or none where patience is spent: by the test, whatever it gives
-    step-by : (given-up : Bool) → (given-up ≡ true → Keeps s rs r 0 (wordAt (st .words) 0) (wordAt (st .words) 0) (givenUp r) t)
-        → let x = choose given-up 0 (ownTouched s r) in
-        let m = choose given-up (leaves (wordAt (st .words) x) (givenUp r)) (ownMoved s r (wordAt (st .words) x) t) in
+    -- the work of the phase, or none where patience has run out: by the test, whatever it gives
+    step-by : (out : Bool) → (out ≡ true → Keeps s rs r 0 (wordAt (st .words) 0) (wordAt (st .words) 0) (sentBack 4 r) t)
+        → let x = choose out 0 (ownTouched s r) in
+        let m = choose out (leaves (wordAt (st .words) x) (sentBack 4 r)) (ownMoved s r (wordAt (st .words) x) t) in
         m .number ≡ 0 → Keeps s rs r x (wordAt (st .words) x) (m .word) (m .next) t
     unfolding choose
     step-by true f e = f refl
@@ -185,10 +185,10 @@ module _ (s : Settings) (st : State) (inv : Invariant s st) (c : ℕ) where
 
     step-keeps : let w = wordAt (st .words) (touched s r t) in moved s r w t .number ≡ 0 → Keeps s rs r (touched s r t) w (moved s r w t .word) (moved s r w t .next) t
     step-keeps =
-        step-by (patienceSpent s r t)
-        (λ e. let v = spent s r t e in
+        step-by (outOfPatience s r t)
+        (λ e. let v = out-of-patience s r t e in
         let rd = fit-ready s r t (fit-later s r (st .clock) (inv .fit c) t later) (inv .settled) (λ z. omega (arith, v .begun)) in
-        given-up-keeps s rs r t (inv .settled) rd (λ z. omega (arith, v .untaken)) (wordAt (st .words) 0) (v .later))
+        out-of-patience-keeps s rs r t (inv .settled) rd (λ z. omega (arith, v .untaken)) (wordAt (st .words) 0) (v .later))
 
 -- what an accepted call leaves has the invariant
 pub accepted-keeps : (s : Settings) (st : State) → Invariant s st → (k : Call) → numberOf s st k ≡ 0 → Invariant s (after s st k)

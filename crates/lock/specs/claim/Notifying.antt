@@ -13,7 +13,7 @@ use Rattle.tree.specs.rules.Lists.{notifyList}
 use Rattle.tree.specs.laws.Level.{level-pos}
 use Rattle.lock.specs.declared.Record.{Record}
 use Rattle.lock.specs.declared.Settings.{Settings}
-use Rattle.lock.specs.rules.Records.{pieces, pieceAt, currentPiece, isLeaf, gripOf, toPhase, withOutcome, withPlace, withNotices, withTaken}
+use Rattle.lock.specs.rules.Records.{pieces, pieceAt, currentPiece, isLeaf, gripOf, toPhase, withPlace, withNotices, withTaken, sentBack}
 use Rattle.lock.specs.rules.Steps.{taken, allNotified, noticeGiven}
 use Rattle.lock.specs.laws.Active.{Settled}
 use Rattle.lock.specs.laws.Pieces.{first-gripped}
@@ -91,10 +91,10 @@ module _ (s : Settings) (rs : List Record) (r : Record) (last now : ℕ) (later 
     whole = omega (arith, listed)
 
     -- "clock - t1 ≥ T gives outcome 2 and 10"
-    late-keeps : Keeps s rs r x w (addDmax 1 w) (toPhase 10 (withOutcome 2 p)) now
+    late-keeps : Keeps s rs r x w (addDmax 1 w) (sentBack 2 p) now
     unfolding pieces pieceAt
     late-keeps =
-        let q = toPhase 10 (withOutcome 2 p) in
+        let q = sentBack 2 p in
         let k = kin r q refl refl refl refl in
         record {
           node = λ _. notified-node .0;
@@ -142,7 +142,7 @@ module _ (s : Settings) (rs : List Record) (r : Record) (last now : ℕ) (later 
     last-keeps : Keeps s rs r x w (addDmax 1 w) (allNotified s p now) now
     unfolding allNotified isLeaf pieces pieceAt
     last-keeps =
-        on-choose (λ q. Keeps s rs r x w (addDmax 1 w) q now) (leb (s .wait) (now - r .t1)) (toPhase 10 (withOutcome 2 p)) _
+        on-choose (λ q. Keeps s rs r x w (addDmax 1 w) q now) (leb (s .wait) (now - r .t1)) (sentBack 2 p) _
         (λ _. late-keeps)
         (λ t. let in-time = nleb→lt (s .wait) (now - r .t1) t in
         on-choose (λ q. Keeps s rs r x w (addDmax 1 w) q now) (isLeaf s n) (taken s p now) (toPhase 7 p)

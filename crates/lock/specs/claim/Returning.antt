@@ -54,7 +54,7 @@ module _ (s : Settings) (rs : List Record) (r : Record) (last now : ℕ) (later 
   still giving grip place a b c d f h =
       let z = withGiving giving (withGrip grip (withPlace place r)) in (
         fit-readable s z now
-            (readable-returning s z now g (asked-same s r z last now rd (kin r z refl refl refl refl) later refl refl refl refl refl (rd .no-early-time)) a b e (rd .outcome-some e) (rd .outcome-most) (rd .patient-first e) h (rd .active .noticed) c d f)
+            (readable-returning s z now g (asked-same s r z last now rd (kin r z refl refl refl refl) later refl refl refl refl refl (rd .no-early-time)) a b e (rd .outcome-some e) (rd .outcome-most) (rd .later-piece e) h (rd .active .noticed) c d f)
             (λ x. omega arith),
         timely-returning s rs nobody r now z e,
       )

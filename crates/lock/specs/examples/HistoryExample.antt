@@ -18,8 +18,8 @@ use Rattle.cover.specs.rules.Cover.{part, over, total, rank}
 use Rattle.cover.specs.rules.Search.{before, lesser, behind, leastOf, rest, search, found, leastCover}
 use Rattle.cover.specs.rules.Answer.{levelsOutside, windowOutside}
 use Rattle.lock.specs.rules.Records.{phaseOf, pieces, pieceAt, isLeaf, gripOf, noticesOf, wordAt, written, idleWith}
-use Rattle.lock.specs.rules.Unreadable.{numberTooLarge, idleFilled, notCovered, noCurrent, ticketTooLarge, fieldsWrong, listLength, placePast, noticesWrong, timeAhead, phaseElsewhere, heldEarly, outcomeWrong, lacksGrip, givingWrong, impatientFirst, takenFirst, unreadable}
-use Rattle.lock.specs.rules.Steps.{touchedIn, startPhase, begin, firstNoted, taken, ticketTaken, turnAwaited, goUp, climbed, unblocked, bitsClaimed, occClaimed, allNotified, noticeGiven, waited, checkPassed, pieceReturned, wordReturned, turnReturned, claimPiece, returnBits, returnInner, giveBack, movedIn, patienceSpent}
+use Rattle.lock.specs.rules.Unreadable.{numberTooLarge, idleFilled, notCovered, noCurrent, ticketTooLarge, fieldsWrong, listLength, placePast, noticesWrong, timeAhead, phaseElsewhere, heldEarly, outcomeWrong, lacksGrip, givingWrong, outOfPatienceFirst, takenFirst, unreadable}
+use Rattle.lock.specs.rules.Steps.{touchedIn, startPhase, begin, firstNoted, taken, ticketTaken, turnAwaited, goUp, climbed, unblocked, bitsClaimed, occClaimed, allNotified, noticeGiven, waited, checkPassed, pieceReturned, wordReturned, turnReturned, claimPiece, returnBits, returnInner, giveBack, movedIn, outOfPatience}
 use Rattle.lock.specs.rules.Calls.{firstCause, settingsOutside, treeTests, clientsOutside, clientTests, requestTests, stepTests, releaseTests, cancelTests, requested, released, cancelled}
 use Rattle.lock.specs.rules.Table.{State, Call, request, step, release, cancel, clientOf, recordAt, ownTests, numberOf, after, call, openingNumber, opened, opening}
 use Rattle.lock.specs.declared.Settings.{Settings}
@@ -27,7 +27,7 @@ use Rattle.lock.specs.rules.History.{run, Event, events, Some, CallOf, R
 
 -- ---- the calls
 
--- H 3, m 1, T 5, two clients; what is lent to the opening is of the right size, and of any content
+-- H 3, m 1, T 5, P 20, two clients; what is lent to the opening is of the right size, and of any content
 abbrev pub settings : Settings
 settings = record { levels = 3; distance = 1; wait = 5; patience = 20 }
 
@@ -69,7 +69,7 @@ words-returned = (2 * 65536 + 2) ∷ (140737488355328 + 4294967296) ∷ (65536 +
 
 computed : (opening settings lent .number ≡ 0) × (events settings fresh holding ≡ events-holding)
     × (events settings fresh returned ≡ events-returned) × (run settings fresh returned .words ≡ words-returned)
-unfolding run events call numberOf after ownTests recordAt clientOf opening openingNumber opened firstCause settingsOutside treeTests clientsOutside clientTests requestTests stepTests releaseTests cancelTests requested released cancelled touchedIn startPhase begin firstNoted taken ticketTaken turnAwaited goUp climbed unblocked bitsClaimed occClaimed allNotified noticeGiven waited checkPassed pieceReturned wordReturned turnReturned claimPiece returnBits returnInner giveBack movedIn numberTooLarge idleFilled notCovered noCurrent ticketTooLarge fieldsWrong listLength placePast noticesWrong timeAhead phaseElsewhere heldEarly outcomeWrong lacksGrip givingWrong impatientFirst takenFirst unreadable phaseOf pieces pieceAt isLeaf gripOf noticesOf wordAt written levelsOutside windowOutside lesser behind leastOf rest search found leastCover before part over total rank upward ancestors ancestor notifies notifiedFrom notifyLevels notifyList row descendants nearest checkList climb leftmost first level levelWithin size left units holder wordCount field putField addField matches replaced maskedSwap leafBits wantedBits takeBits giveBits returnOcc choose patienceSpent
+unfolding run events call numberOf after ownTests recordAt clientOf opening openingNumber opened firstCause settingsOutside treeTests clientsOutside clientTests requestTests stepTests releaseTests cancelTests requested released cancelled touchedIn startPhase begin firstNoted taken ticketTaken turnAwaited goUp climbed unblocked bitsClaimed occClaimed allNotified noticeGiven waited checkPassed pieceReturned wordReturned turnReturned claimPiece returnBits returnInner giveBack movedIn numberTooLarge idleFilled notCovered noCurrent ticketTooLarge fieldsWrong listLength placePast noticesWrong timeAhead phaseElsewhere heldEarly outcomeWrong lacksGrip givingWrong outOfPatienceFirst takenFirst unreadable phaseOf pieces pieceAt isLeaf gripOf noticesOf wordAt written levelsOutside windowOutside lesser behind leastOf rest search found leastCover before part over total rank upward ancestors ancestor notifies notifiedFrom notifyLevels notifyList row descendants nearest checkList climb leftmost first level levelWithin size left units holder wordCount field putField addField matches replaced maskedSwap leafBits wantedBits takeBits giveBits returnOcc choose outOfPatience
 computed = (refl, refl, refl, refl)
 
 -- ---- no accepted call of the list passes a test

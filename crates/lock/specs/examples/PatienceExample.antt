@@ -1,11 +1,11 @@
 -- Examples, closed by computing: the deadlock that document 02's request 2.2 removes. "A run held its first piece and waited for its second under an ancestor occupied by a run
--- waiting for the first." Before patience is spent no step of either changes anything but the clock; then one gives up, and both windows are taken in the end. Assumes nothing.
+-- waiting for the first." Before patience runs out no step of either changes anything but the clock; then one gives up, and both windows are taken in the end. Assumes nothing.
 use mathlib.Core.Path.{_≡_, refl, ap, _∙_}
 use mathlib.Core.Bool.{false}
 use mathlib.Core.List.{List, [], _∷_}
 use Prim.Native.Nat.{ℕ, zero, suc, _-_, _≤_, _<_}
 use native.Mathlib.Omega.{arith}
-use borrow.Author.Tests.{lt-leb, le-ltb}
+use borrow.Author.Tests.{lt-leb, le-leb, le-ltb}
 use lib.Dec.{leb, ltb}
 use lib.ListN.{getD, set, take, replicate}
 use Rattle.base.specs.rules.Choice.{choose}
@@ -18,31 +18,28 @@ use Rattle.cover.specs.rules.Search.{before, lesser, behind, leastOf, rest, sea
 use Rattle.cover.specs.rules.Answer.{levelsOutside, windowOutside}
 use Rattle.lock.specs.declared.Record.{Record}
 use Rattle.lock.specs.declared.Settings.{Settings}
-use Rattle.lock.specs.rules.Records.{phaseOf, pieces, pieceAt, isLeaf, gripOf, noticesOf, wordAt, written, idleWith}
-use Rattle.lock.specs.rules.Unreadable.{differ, numberTooLarge, idleFilled, notCovered, noCurrent, ticketTooLarge, fieldsWrong, listLength, placePast, noticesWrong, timeAhead, phaseElsewhere, heldEarly, outcomeWrong, lacksGrip, givingWrong, impatientFirst, takenFirst, unreadable}
-use Rattle.lock.specs.rules.Steps.{touchedIn, startPhase, begin, firstNoted, taken, ticketTaken, turnAwaited, goUp, climbed, unblocked, bitsClaimed, occClaimed, allNotified, noticeGiven, waited, checkPassed, pieceReturned, wordReturned, turnReturned, claimPiece, returnBits, returnInner, giveBack, movedIn, leaves, ownTouched, ownMoved, patienceSpent, givenUp, touched, moved}
+use Rattle.lock.specs.rules.Records.{phaseOf, pieces, pieceAt, isLeaf, gripOf, noticesOf, wordAt, written, sentBack, idleWith}
+use Rattle.lock.specs.rules.Unreadable.{differ, numberTooLarge, idleFilled, notCovered, noCurrent, ticketTooLarge, fieldsWrong, listLength, placePast, noticesWrong, timeAhead, phaseElsewhere, heldEarly, outcomeWrong, lacksGrip, givingWrong, outOfPatienceFirst, takenFirst, unreadable}
+use Rattle.lock.specs.rules.Steps.{touchedIn, startPhase, begin, firstNoted, taken, ticketTaken, turnAwaited, goUp, climbed, unblocked, bitsClaimed, occClaimed, allNotified, noticeGiven, waited, checkPassed, pieceReturned, wordReturned, turnReturned, claimPiece, returnBits, returnInner, giveBack, movedIn, leaves, ownTouched, ownMoved, outOfPatience, touched, moved}
 use Rattle.lock.specs.rules.Calls.{firstCause, settingsOutside, treeTests, clientsOutside, clientTests, requestTests, stepTests, releaseTests, cancelTests, requested, released, cancelled}
 use Rattle.lock.specs.rules.History.{run}
 use Rattle.lock.specs.laws.CallLaws.{cause-skip, tree-passed}
-use Rattle.lock.specs.laws.PatienceLaws.{unmoved}
+use Rattle.lock.specs.laws.PatienceLaws.{unmoved, sent-back-moved}
 use Rattle.lock.specs.laws.WhenReadable.{readable-later}
-use Rattle.lock.specs.examples.WholeCase.{log}
+use Rattle.lock.specs.examples.WholeCase.{settings, log}
 use Rattle.lock.specs.rules.Table.{State, Call, request, step, release, clientOf, recordAt, ownTests, numberOf, after, call, openingNumber, opened, opening}
 
--- H 2, m 1, T 5, P 20, two clients
-abbrev pub settings : Settings
-settings = record { levels = 2; distance = 1; wait = 5; patience = 20 }
-
+-- H 2, m 1, T 5, P 20, as in the whole case; two clients
 abbrev pub fresh : State
 fresh = opening settings (record { words = replicate 5 0; records = replicate 2 (idleWith 0); clock = 0 }) .state
 
 -- client 0 takes the first of its two leaves at clock 1; client 1 takes the root's Occ, under which client 0's second leaf lies, and stands in its check, since client 0 has given notice at the
 -- root
-abbrev pub meeting : List Call
-meeting =
+abbrev pub deadlock : List Call
+deadlock =
     request 0 60 70 ∷ step 0 1 ∷ step 0 1 ∷ step 0 1 ∷ request 1 0 256 ∷ step 1 2 ∷ step 1 2 ∷ step 1 2 ∷ step 0 3 ∷ step 1 7 ∷ []
 
--- ---- a step that leaves word and record as they are changes the clock alone
+-- ---- a step that leaves the word as it is changes the record and the clock alone
 
 set-same : {A : Type 0} (xs : List A) (i : ℕ) (d : A) → set xs i (getD xs i d) ≡ xs
 set-same [] i d = refl
@@ -54,18 +51,18 @@ unfolding written wordAt
 written-same words zero = refl
 written-same words (suc i) = set-same words i 0
 
-step-still : (s : Settings) (st : State) (c t : ℕ) → numberOf s st (step c t) ≡ 0
-    → let r = recordAt st c in let w = wordAt (st .words) (touched s r t) in moved s r w t ≡ leaves w r
-    → call s st (step c t) ≡ record { number = 0; state = record { words = st .words; records = st .records; clock = t } }
-unfolding call after recordAt
-step-still s st c t n e =
+step-leaves : (s : Settings) (st : State) (c t : ℕ) (q : Record) → numberOf s st (step c t) ≡ 0
+    → let w = wordAt (st .words) (touched s (recordAt st c) t) in moved s (recordAt st c) w t ≡ leaves w q
+    → call s st (step c t) ≡ record { number = 0; state = record { words = st .words; records = set (st .records) c q; clock = t } }
+unfolding call after
+step-leaves s st c t q n e =
     let words = ap (λ m. written (st .words) (touched s (recordAt st c) t) (m .word)) e ∙ written-same (st .words) (touched s (recordAt st c) t) in
-    let records = ap (λ m. set (st .records) c (m .next)) e ∙ set-same (st .records) c (idleWith 0) in
-    let moved-on : after s st (step c t) ≡ record { words = st .words; records = st .records; clock = t } = λ i. record { words = words i; records = records i; clock = t } in
+    let records = ap (λ m. set (st .records) c (m .next)) e in
+    let moved-on : after s st (step c t) ≡ record { words = st .words; records = set (st .records) c q; clock = t } = λ i. record { words = words i; records = records i; clock = t } in
     let state = choose-eq (numberOf s st (step c t)) 0 (after s st (step c t)) st n ∙ moved-on in
     λ i. record { number = n i; state = state i }
 
--- ---- before patience is spent
+-- ---- before patience runs out
 
 -- client 0 is blocked at the root with its second piece, the leaf 3; the first, the leaf 2, was taken at clock 1
 abbrev pub blocked-0 : Record
@@ -110,11 +107,11 @@ checking-1 = record {
 abbrev pub waiting : ℕ → State
 waiting t = record { words = 4611686022722355201 ∷ 17293822569102704640 ∷ 0 ∷ 0 ∷ 0 ∷ []; records = blocked-0 ∷ checking-1 ∷ []; clock = t }
 
--- ---- patience is spent
+-- ---- patience has run out
 
 -- client 0 touches no word and goes to returning with outcome 4
-abbrev pub given-up : State
-given-up = record { words = waiting 0 .words; records = givenUp blocked-0 ∷ checking-1 ∷ []; clock = 21 }
+abbrev pub returning-0 : ℕ → State
+returning-0 t = record { words = waiting 0 .words; records = sentBack 4 blocked-0 ∷ checking-1 ∷ []; clock = t }
 
 -- client 0 gives back its leaf and its notice, client 1's check passes and it holds; it releases and returns, and client 0 asks again and takes both leaves
 abbrev pub end : List Call
@@ -134,13 +131,13 @@ end-lines =
 abbrev Stays : Record → ℕ → Type 0
 Stays r t = let w = wordAt (waiting 0 .words) (ownTouched settings r) in ownMoved settings r w t ≡ leaves w r
 
-computed : (t : ℕ) → (run settings fresh meeting ≡ waiting 7) × (unreadable settings blocked-0 7 ≡ false) × (unreadable settings checking-1 7 ≡ false) × Stays blocked-0 t × Stays checking-1 t
-    × (run settings (waiting 7) (step 0 20 ∷ step 1 20 ∷ step 0 21 ∷ []) ≡ given-up) × (log settings given-up end ≡ end-lines) × (recordAt (run settings given-up (take 2 end)) 0 ≡ idleWith 4)
-unfolding log run call numberOf after ownTests recordAt clientOf opening openingNumber opened firstCause settingsOutside treeTests clientsOutside clientTests requestTests stepTests releaseTests cancelTests requested released cancelled touchedIn startPhase begin firstNoted taken ticketTaken turnAwaited goUp climbed unblocked bitsClaimed occClaimed allNotified noticeGiven waited checkPassed pieceReturned wordReturned turnReturned claimPiece returnBits returnInner giveBack movedIn numberTooLarge idleFilled notCovered noCurrent ticketTooLarge fieldsWrong listLength placePast noticesWrong timeAhead phaseElsewhere heldEarly outcomeWrong lacksGrip givingWrong impatientFirst takenFirst unreadable phaseOf pieces pieceAt isLeaf gripOf noticesOf wordAt written levelsOutside windowOutside lesser behind leastOf rest search found leastCover before part over total rank upward ancestors ancestor notifies notifiedFrom notifyLevels notifyList row descendants nearest checkList climb leftmost first level levelWithin size left units holder wordCount field putField addField matches replaced maskedSwap leafBits wantedBits takeBits giveBits returnOcc choose patienceSpent
-computed t = (refl, refl, refl, refl, refl, refl, refl, refl)
+computed : (t : ℕ) → (run settings fresh deadlock ≡ waiting 7) × (unreadable settings blocked-0 7 ≡ false) × (unreadable settings checking-1 7 ≡ false) × Stays blocked-0 t × Stays checking-1 t
+    × (log settings (returning-0 21) end ≡ end-lines) × (recordAt (run settings (returning-0 21) (take 2 end)) 0 ≡ idleWith 4)
+unfolding log run call numberOf after ownTests recordAt clientOf opening openingNumber opened firstCause settingsOutside treeTests clientsOutside clientTests requestTests stepTests releaseTests cancelTests requested released cancelled touchedIn startPhase begin firstNoted taken ticketTaken turnAwaited goUp climbed unblocked bitsClaimed occClaimed allNotified noticeGiven waited checkPassed pieceReturned wordReturned turnReturned claimPiece returnBits returnInner giveBack movedIn numberTooLarge idleFilled notCovered noCurrent ticketTooLarge fieldsWrong listLength placePast noticesWrong timeAhead phaseElsewhere heldEarly outcomeWrong lacksGrip givingWrong outOfPatienceFirst takenFirst unreadable phaseOf pieces pieceAt isLeaf gripOf noticesOf wordAt written levelsOutside windowOutside lesser behind leastOf rest search found leastCover before part over total rank upward ancestors ancestor notifies notifiedFrom notifyLevels notifyList row descendants nearest checkList climb leftmost first level levelWithin size left units holder wordCount field putField addField matches replaced maskedSwap leafBits wantedBits takeBits giveBits returnOcc choose outOfPatience
+computed t = (refl, refl, refl, refl, refl, refl, refl)
 
-pub they-meet : run settings fresh meeting ≡ waiting 7
-they-meet = computed 0 .0
+pub deadlock-reached : run settings fresh deadlock ≡ waiting 7
+deadlock-reached = computed 0 .0
 
 -- ---- no step of either changes anything but the clock
 
@@ -149,35 +146,34 @@ unfolding firstCause
 none-left = refl
 
 module _ (last t : ℕ) (since : 7 ≤ last) (later : last ≤ t) where
-  -- a client of the two whose record is readable, and stays as it is
-  waits : (c : ℕ) → c < 2 → unreadable settings (recordAt (waiting last) c) 7 ≡ false → patienceSpent settings (recordAt (waiting last) c) t ≡ false
-      → let r = recordAt (waiting last) c in let w = wordAt (waiting last .words) (ownTouched settings r) in ownMoved settings r w t ≡ leaves w r
-      → call settings (waiting last) (step c t) ≡ record { number = 0; state = waiting t }
+  -- a client of the two whose record is readable, and the record that its step gives back
+  steps : (c : ℕ) (q : Record) → c < 2 → unreadable settings (recordAt (waiting last) c) 7 ≡ false
+      → let w = wordAt (waiting last .words) (touched settings (recordAt (waiting last) c) t) in moved settings (recordAt (waiting last) c) w t ≡ leaves w q
+      → call settings (waiting last) (step c t) ≡ record { number = 0; state = record { words = waiting last .words; records = set (waiting last .records) c q; clock = t } }
   unfolding numberOf clientTests ownTests stepTests clientsOutside clientOf settingsOutside levelsOutside wordCount size first
-  waits c few readable patient still =
+  steps c q few readable m =
       let r = recordAt (waiting last) c in
-      let m = unmoved settings r (waiting last .words) t patient still in
-      step-still settings (waiting last) c t
+      step-leaves settings (waiting last) c t q
       (tree-passed settings 5 _ refl refl ∙ cause-skip (clientsOutside 2) 3 _ refl ∙ cause-skip (leb 2 c) 4 _ (lt-leb 2 c few) ∙ cause-skip (ltb t last) 5 _ (le-ltb t last later)
-      ∙ cause-skip (unreadable settings r last) 6 _ (readable-later settings r 7 last since readable) ∙ cause-skip (differ (moved settings r (wordAt (waiting last .words) (touched settings r t)) t .number) 0) 9 [] (ap (λ x. differ (x .number) 0) m)
-      ∙ none-left)
+      ∙ cause-skip (unreadable settings r last) 6 _ (readable-later settings r 7 last since readable)
+      ∙ cause-skip (differ (moved settings r (wordAt (waiting last .words) (touched settings r t)) t .number) 0) 9 [] (ap (λ x. differ (x .number) 0) m) ∙ none-left)
       m
 
   -- "clock less that time at least P" begins at 21
   pub waits-0 : t < 21 → call settings (waiting last) (step 0 t) ≡ record { number = 0; state = waiting t }
-  unfolding recordAt patienceSpent
-  waits-0 b = waits 0 (omega arith) (computed t .1) (lt-leb 20 (t - 1) (omega arith)) (computed t .3)
+  unfolding recordAt outOfPatience
+  waits-0 b = steps 0 blocked-0 (omega arith) (computed t .1) (unmoved settings blocked-0 (waiting last .words) t (lt-leb 20 (t - 1) (omega arith)) (computed t .3))
 
-  -- a first piece has no patience to spend
+  -- a first piece has no patience that could run out
   pub waits-1 : call settings (waiting last) (step 1 t) ≡ record { number = 0; state = waiting t }
-  unfolding recordAt patienceSpent
-  waits-1 = waits 1 (omega arith) (computed t .2) refl (computed t .4)
+  unfolding recordAt outOfPatience
+  waits-1 = steps 1 checking-1 (omega arith) (computed t .2) (unmoved settings checking-1 (waiting last .words) t refl (computed t .4))
 
--- ---- one gives up, and both windows are taken in the end
+  -- ---- one goes to returning, and both windows are taken in the end
 
--- at 20 both still wait
-pub gives-up : run settings (waiting 7) (step 0 20 ∷ step 1 20 ∷ step 0 21 ∷ []) ≡ given-up
-gives-up = computed 0 .5
+  pub runs-out : 21 ≤ t → call settings (waiting last) (step 0 t) ≡ record { number = 0; state = returning-0 t }
+  unfolding recordAt outOfPatience
+  runs-out b = steps 0 (sentBack 4 blocked-0) (omega arith) (computed t .1) (sent-back-moved settings blocked-0 t (le-leb 20 (t - 1) (omega arith)) _)
 
-pub both-taken : (log settings given-up end ≡ end-lines) × (recordAt (run settings given-up (take 2 end)) 0 ≡ idleWith 4)
-both-taken = (computed 0 .6, computed 0 .7)
+pub both-taken : (log settings (returning-0 21) end ≡ end-lines) × (recordAt (run settings (returning-0 21) (take 2 end)) 0 ≡ idleWith 4)
+both-taken = (computed 0 .5, computed 0 .6)

@@ -20,7 +20,7 @@ use Rattle.lock.specs.rules.Table.{State, Call, request, step, release, 
 use Rattle.lock.specs.laws.Active.{Settled}
 use Rattle.lock.specs.laws.ReadableLaws.{same-number}
 use Rattle.base.specs.laws.TestLaws.{both-false}
-use Rattle.lock.specs.laws.ActiveLaws.{settled}
+use Rattle.lock.specs.laws.SettledLaws.{settled}
 
 -- a chain that names no cause: its first test is false, and the rest names none
 pub test-passed : (b : Bool) (k : ℕ) (ts : Tests) → 0 < k → firstCause ((b, k) ∷ ts) ≡ 0 → (b ≡ false) × (firstCause ts ≡ 0)

@@ -19,7 +19,7 @@ use Rattle.tree.specs.laws.Notify.{notify-count}
 use Rattle.tree.specs.laws.Check.{checkCount, check-count}
 use Rattle.tree.specs.laws.Code.{bounded, count-one, count-more}
 use Rattle.cover.specs.rules.Cover.{In, Meets}
-use Rattle.cover.specs.rules.Answer.{levelsOutside, windowOutside}
+use Rattle.cover.specs.rules.Answer.{windowOutside}
 use Rattle.cover.specs.laws.Lowest.{Window}
 use Rattle.cover.specs.laws.Code.{window-inside}
 use Rattle.cover.specs.laws.Least.{least-cover}
@@ -27,33 +27,9 @@ use Rattle.lock.specs.declared.Record.{Record}
 use Rattle.lock.specs.declared.Settings.{Settings}
 use Rattle.lock.specs.rules.Records.{coverOf, phaseOf, pieces, pieceAt, currentPiece, isLeaf, isRoot, idleWith}
 use Rattle.lock.specs.laws.Pieces.{few-pieces}
-use Rattle.lock.specs.rules.Unreadable.{numberTooLarge, idleFilled, notCovered, noCurrent, ticketTooLarge, listLength, placePast, noticesWrong, timeAhead, phaseElsewhere, heldEarly, outcomeWrong, gripLacking, givingWrong, impatientFirst, takenFirst, unreadable, fieldsWrong, differ}
+use Rattle.lock.specs.rules.Unreadable.{numberTooLarge, idleFilled, notCovered, noCurrent, ticketTooLarge, listLength, placePast, noticesWrong, timeAhead, phaseElsewhere, heldEarly, outcomeWrong, gripLacking, givingWrong, outOfPatienceFirst, takenFirst, unreadable, fieldsWrong, differ}
 use Rattle.lock.specs.laws.Active.{Settled, Active}
 use Rattle.lock.specs.laws.ReadableLaws.{Begun, pastList, place-is, list-climbing, list-notifying, list-checking, list-returning, elsewhere-leaf, elsewhere-root}
-use Rattle.lock.specs.rules.Calls.{settingsOutside}
-
--- ---- settings
-
-pub settled : (s : Settings) → settingsOutside s ≡ false → Settled s
-unfolding settingsOutside levelsOutside
-settled s e =
-    let f = both-false _ (ltb 4294967295 (s .patience)) e in
-    let p = both-false _ (ltb (s .patience) 1) (f .0) in
-    let d = both-false _ (ltb 4294967295 (s .wait)) (p .0) in
-    let c = both-false _ (ltb (s .wait) 1) (d .0) in
-    let b = both-false _ (ltb 4 (s .distance)) (c .0) in
-    let a = both-false (levelsOutside (s .levels)) (ltb (s .distance) 1) (b .0) in
-    let l = both-false (ltb (s .levels) 2) (ltb 12 (s .levels)) (a .0) in
-    record {
-      levels-some = ltb-false (s .levels) 2 (l .0);
-      levels-most = ltb-false 12 (s .levels) (l .1);
-      distance-some = ltb-false (s .distance) 1 (a .1);
-      distance-most = ltb-false 4 (s .distance) (b .1);
-      wait-some = ltb-false (s .wait) 1 (c .1);
-      wait-most = ltb-false 4294967295 (s .wait) (d .1);
-      patience-some = ltb-false (s .patience) 1 (p .1);
-      patience-most = ltb-false 4294967295 (s .patience) (f .1);
-    }
 
 -- ---- the cover
 
@@ -117,7 +93,7 @@ pub record Passed (s : Settings) (r : Record) (last : ℕ) : Type 0 where
   pub outcome : outcomeWrong r ≡ false
   pub grip : gripLacking s r (phaseOf (r .phase)) ≡ false
   pub giving : givingWrong r ≡ false
-  pub impatient : impatientFirst r ≡ false
+  pub impatient : outOfPatienceFirst r ≡ false
   pub first-time : takenFirst r ≡ false
 
 pub passed : (s : Settings) (r : Record) (last : ℕ) → unreadable s r last ≡ false → (r .phase ≡ 0 → ⊥) → Passed s r last
@@ -127,7 +103,7 @@ passed s r last e d =
     let b = both-false _ (fieldsWrong s r last) (sym (choose-ne (r .phase) 0 (idleFilled r) _ d) ∙ a .1) in
     let c = both-false (notCovered s r) (noCurrent r) (b .0) in
     let x = both-false _ (takenFirst r) (b .1) in
-    let i = both-false _ (impatientFirst r) (x .0) in
+    let i = both-false _ (outOfPatienceFirst r) (x .0) in
     let v = both-false _ (givingWrong r) (i .0) in
     let g = both-false _ (gripLacking s r (phaseOf (r .phase))) (v .0) in
     let o = both-false _ (outcomeWrong r) (g .0) in

@@ -16,15 +16,15 @@ use Rattle.lock.specs.declared.Record.{Record}
 use Rattle.lock.specs.declared.Settings.{Settings}
 use Rattle.lock.specs.declared.Moved.{Moved}
 use Rattle.lock.specs.declared.Stepped.{Stepped}
-use Rattle.lock.specs.rules.Records.{wordAt, written}
+use Rattle.lock.specs.rules.Records.{wordAt, written, sentBack}
 use Rattle.lock.specs.rules.Unreadable.{differ, unreadable}
-use Rattle.lock.specs.rules.Steps.{leaves, ownTouched, ownMoved, patienceSpent, givenUp, touched, moved}
+use Rattle.lock.specs.rules.Steps.{leaves, ownTouched, ownMoved, outOfPatience, touched, moved}
 use Rattle.lock.specs.rules.Calls.{Tests, firstCause, treeTests, requestTests, stepTests, releaseTests, cancelTests, requested, released, cancelled, answered, requestNumber, requestAnswer, releaseAnswer, cancelAnswer, stepNumber, stepAnswer, stepWords}
 use Rattle.lock.specs.rules.Table.{Call, request, step, release, cancel, clientOf}
 use Rattle.lock.specs.rules.ByValue.{callOf, answerTo, wordsAfter}
 use Rattle.lock.specs.laws.Active.{Settled}
-use Rattle.lock.specs.laws.ActiveLaws.{settled}
-use Rattle.lock.specs.laws.PatienceLaws.{own-touched, own-moved, spent-touched, spent-moved}
+use Rattle.lock.specs.laws.SettledLaws.{settled}
+use Rattle.lock.specs.laws.PatienceLaws.{own-touched, own-moved, sent-back-touched, sent-back-moved}
 use Rattle.lock.specs.laws.CallLaws.{TreeTested, cause-tested, cause-hit, cause-skip, tree-passed, answer-accepted, refused-by}
 
 module _ (kind client a b : ℕ) where
@@ -191,17 +191,17 @@ module _ (s : Settings) (r : Record) (words : List ℕ) (last clock : ℕ) (m : 
         q ∙ ap (λ (y : ℕ). written words (touched s r clock) y) (ap (λ y. y .word) e) ∙ sym (choose-eq (clearBit s r words clock) 0 _ words none),
       )
 
--- the work of the phase, where patience is not spent: on the node n, where `found` is
-pub step-work : (s : Settings) (r : Record) (words : List ℕ) (clock : ℕ) → patienceSpent s r clock ≡ false → (n found : ℕ) (m : Moved) → n ≡ ownTouched s r → found ≡ wordAt words n
+-- the work of the phase, where patience has not run out: on the node n, where `found` is
+pub step-work : (s : Settings) (r : Record) (words : List ℕ) (clock : ℕ) → outOfPatience s r clock ≡ false → (n found : ℕ) (m : Moved) → n ≡ ownTouched s r → found ≡ wordAt words n
     → m ≡ ownMoved s r found clock → m ≡ moved s r (wordAt words (touched s r clock)) clock
 step-work s r words clock e n found m i j k =
     k ∙ ap (λ (x : ℕ). ownMoved s r x clock) (j ∙ ap (wordAt words) (i ∙ sym (own-touched s r clock e))) ∙ sym (own-moved s r clock e _)
 
--- patience is spent
-pub step-given-up : (s : Settings) (r : Record) (words : List ℕ) (last clock : ℕ) → patienceSpent s r clock ≡ true → (q : Record) → q ≡ givenUp r
+-- patience has run out
+pub step-sent-back : (s : Settings) (r : Record) (words : List ℕ) (last clock : ℕ) → outOfPatience s r clock ≡ true → (q : Record) → q ≡ sentBack 4 r
     → (record { number = 0; clock = clock; next = q } ≡ answered (clearBit s r words clock) r last (moved s r (wordAt words (touched s r clock)) clock .next) clock)
     × (words ≡ leftBy s r words clock)
 unfolding written
-step-given-up s r words last clock e q f =
+step-sent-back s r words last clock e q f =
     let w = wordAt words (touched s r clock) in
-    step-taken s r words last clock (leaves w q) (ap (leaves w) f ∙ sym (spent-moved s r clock e w)) words refl (sym (ap (λ (n : ℕ). written words n w) (spent-touched s r clock e)))
+    step-taken s r words last clock (leaves w q) (ap (leaves w) f ∙ sym (sent-back-moved s r clock e w)) words refl (sym (ap (λ (n : ℕ). written words n w) (sent-back-touched s r clock e)))

@@ -14,7 +14,7 @@ use Rattle.tree.specs.rules.Lists.{notifyList}
 use Rattle.lock.specs.declared.Record.{Record}
 use Rattle.lock.specs.declared.Settings.{Settings}
 use Rattle.lock.specs.rules.Records.{phaseOf, pieces, currentPiece}
-use Rattle.lock.specs.rules.Unreadable.{nonzero, differ, numberTooLarge, idleFilled, notCovered, noCurrent, ticketTooLarge, placePast, noticesWrong, timeAhead, phaseElsewhere, heldEarly, outcomeWrong, gripLacking, givingWrong, impatientFirst, takenFirst, fieldsWrong, unreadable}
+use Rattle.lock.specs.rules.Unreadable.{nonzero, differ, numberTooLarge, idleFilled, notCovered, noCurrent, ticketTooLarge, placePast, noticesWrong, timeAhead, phaseElsewhere, heldEarly, outcomeWrong, gripLacking, givingWrong, outOfPatienceFirst, takenFirst, fieldsWrong, unreadable}
 use Rattle.lock.specs.laws.ReadableLaws.{pastList, past-none, past-some, place-is, list-none, elsewhere-none}
 
 -- what every phase but idle asks
@@ -25,7 +25,7 @@ notBegun s r last = notCovered s r || noCurrent r || ticketTooLarge r || timeAhe
 unfoldable pub ownWrong : Settings → Record → Bool
 ownWrong s r =
     numberTooLarge r || (placePast s r || (noticesWrong s r || (phaseElsewhere s r (phaseOf (r .phase))
-    || (heldEarly r || (outcomeWrong r || (gripLacking s r (phaseOf (r .phase)) || (givingWrong r || impatientFirst r)))))))
+    || (heldEarly r || (outcomeWrong r || (gripLacking s r (phaseOf (r .phase)) || (givingWrong r || outOfPatienceFirst r)))))))
 
 pub or-false : (b : Bool) → (b || false) ≡ b
 or-false true = refl
@@ -127,8 +127,8 @@ module _ (s : Settings) (r : Record) where
 
   -- ---- 1 to 9: tests of the grip, of where the phase may be and its place, of the notices
 
-  not-impatient : (r .phase ≡ 10 → ⊥) → impatientFirst r ≡ false
-  unfolding impatientFirst
+  not-impatient : (r .phase ≡ 10 → ⊥) → outOfPatienceFirst r ≡ false
+  unfolding outOfPatienceFirst
   not-impatient d = ap (λ b. b && eqb (r .outcome) 4 && eqb (r .current) 0) (ne-eqb (r .phase) 10 d)
 
   pub own-taking : r .phase ≤ 9 → (l a k : Bool) → l ≡ lacking → (l ≡ false → a ≡ (elsewhere || placePast s r)) → (l ≡ false → a ≡ false → k ≡ (heldEarly r || noticesWrong s r))

@@ -1,4 +1,4 @@
--- Laws of patience: where it is not spent a step does the work of its phase, and where it is the record begins to return. Assumes nothing.
+-- Laws of patience: where it has not run out a step does the work of its phase, and where it has the record begins to return. Assumes nothing.
 use mathlib.Core.Path.{_≡_, refl, sym, ap, subst, _∙_}
 use mathlib.Core.Logic.{_≢_}
 use mathlib.Core.Bool.{Bool, true, false, not, _&&_, _||_, and-true}
@@ -13,23 +13,22 @@ use Rattle.base.specs.laws.ChoiceLaws.{on-choose}
 use Rattle.base.specs.laws.TestLaws.{both-true, second-false}
 use Rattle.lock.specs.declared.Record.{Record}
 use Rattle.lock.specs.declared.Settings.{Settings}
-use Rattle.lock.specs.rules.Records.{pieces, wordAt, withTaken}
-use Rattle.lock.specs.rules.Steps.{firstNoted, leaves, ownTouched, ownMoved, patienceSpent, givenUp, touched, moved}
+use Rattle.lock.specs.rules.Records.{pieces, wordAt, withTaken, sentBack}
+use Rattle.lock.specs.rules.Steps.{firstNoted, leaves, ownTouched, ownMoved, outOfPatience, touched, moved}
 use Rattle.lock.specs.rules.Unreadable.{nonzero, takenFirst}
 use Rattle.lock.specs.laws.Placed.{Pieced}
 use Rattle.lock.specs.laws.StepLaws.{pieced-kept}
 
--- what spent patience shows
-pub record Spent (s : Settings) (r : Record) (t : ℕ) : Type 0 where
+-- what it shows that patience has run out
+pub record OutOfPatience (r : Record) : Type 0 where
   pub begun : 1 ≤ r .phase
   pub untaken : r .phase ≤ 8
   pub later : 0 < r .current
-  pub long : s .patience ≤ t - r .taken
 
 module _ (s : Settings) (r : Record) (t : ℕ) where
-  pub spent : patienceSpent s r t ≡ true → Spent s r t
-  unfolding patienceSpent
-  spent e =
+  pub out-of-patience : outOfPatience s r t ≡ true → OutOfPatience r
+  unfolding outOfPatience
+  out-of-patience e =
       let p = both-true _ (leb (s .patience) (t - r .taken)) e in
       let c = both-true _ (ltb 0 (r .current)) (p .0) in
       let b = both-true (leb 1 (r .phase)) (leb (r .phase) 8) (c .0) in
@@ -37,49 +36,48 @@ module _ (s : Settings) (r : Record) (t : ℕ) where
         begun = leb-true 1 (r .phase) (b .0);
         untaken = leb-true (r .phase) 8 (b .1);
         later = ltb-true 0 (r .current) (c .1);
-        long = leb-true (s .patience) (t - r .taken) (p .1);
       }
 
-  -- a first piece has no patience to spend
-  pub unspent-first : r .current ≡ 0 → patienceSpent s r t ≡ false
-  unfolding patienceSpent
-  unspent-first e = ap (λ b. b && leb (s .patience) (t - r .taken)) (second-false (leb 1 (r .phase) && leb (r .phase) 8) _ (le-ltb 0 (r .current) (omega arith)))
+  -- a first piece has no patience that could run out
+  pub patient-first : r .current ≡ 0 → outOfPatience s r t ≡ false
+  unfolding outOfPatience
+  patient-first e = ap (λ b. b && leb (s .patience) (t - r .taken)) (second-false (leb 1 (r .phase) && leb (r .phase) 8) _ (le-ltb 0 (r .current) (omega arith)))
 
-  pub spent-later : r .current ≢ 0 → (leb 1 (r .phase) && leb (r .phase) 8 && leb (s .patience) (t - r .taken)) ≡ patienceSpent s r t
-  unfolding patienceSpent
-  spent-later d =
+  pub out-later : r .current ≢ 0 → (leb 1 (r .phase) && leb (r .phase) 8 && leb (s .patience) (t - r .taken)) ≡ outOfPatience s r t
+  unfolding outOfPatience
+  out-later d =
       let phases = leb 1 (r .phase) && leb (r .phase) 8 in
       ap (λ b. b && leb (s .patience) (t - r .taken)) (sym (and-true phases) ∙ ap (λ b. phases && b) (sym (lt-ltb 0 (r .current) (omega arith))))
 
   -- idle, held and returning records have none either
-  pub unspent-idle : r .phase ≡ 0 → patienceSpent s r t ≡ false
-  unfolding patienceSpent
-  unspent-idle e = ap (λ b. b && leb (r .phase) 8 && ltb 0 (r .current) && leb (s .patience) (t - r .taken)) (lt-leb 1 (r .phase) (omega arith))
+  pub patient-idle : r .phase ≡ 0 → outOfPatience s r t ≡ false
+  unfolding outOfPatience
+  patient-idle e = ap (λ b. b && leb (r .phase) 8 && ltb 0 (r .current) && leb (s .patience) (t - r .taken)) (lt-leb 1 (r .phase) (omega arith))
 
-  pub unspent-taken : 8 < r .phase → patienceSpent s r t ≡ false
-  unfolding patienceSpent
-  unspent-taken l = ap (λ b. b && ltb 0 (r .current) && leb (s .patience) (t - r .taken)) (second-false (leb 1 (r .phase)) _ (lt-leb (r .phase) 8 l))
+  pub patient-taken : 8 < r .phase → outOfPatience s r t ≡ false
+  unfolding outOfPatience
+  patient-taken l = ap (λ b. b && ltb 0 (r .current) && leb (s .patience) (t - r .taken)) (second-false (leb 1 (r .phase)) _ (lt-leb (r .phase) 8 l))
 
-  module _ (e : patienceSpent s r t ≡ false) where
+  module _ (e : outOfPatience s r t ≡ false) where
     pub own-touched : touched s r t ≡ ownTouched s r
     unfolding choose
     own-touched = ap (λ (b : Bool). choose b 0 (ownTouched s r)) e
 
     pub own-moved : (w : ℕ) → moved s r w t ≡ ownMoved s r w t
     unfolding choose
-    own-moved w = ap (λ (b : Bool). choose b (leaves w (givenUp r)) (ownMoved s r w t)) e
+    own-moved w = ap (λ (b : Bool). choose b (leaves w (sentBack 4 r)) (ownMoved s r w t)) e
 
-  module _ (e : patienceSpent s r t ≡ true) where
-    pub spent-touched : touched s r t ≡ 0
+  module _ (e : outOfPatience s r t ≡ true) where
+    pub sent-back-touched : touched s r t ≡ 0
     unfolding choose
-    spent-touched = ap (λ (b : Bool). choose b 0 (ownTouched s r)) e
+    sent-back-touched = ap (λ (b : Bool). choose b 0 (ownTouched s r)) e
 
-    pub spent-moved : (w : ℕ) → moved s r w t ≡ leaves w (givenUp r)
+    pub sent-back-moved : (w : ℕ) → moved s r w t ≡ leaves w (sentBack 4 r)
     unfolding choose
-    spent-moved w = ap (λ (b : Bool). choose b (leaves w (givenUp r)) (ownMoved s r w t)) e
+    sent-back-moved w = ap (λ (b : Bool). choose b (leaves w (sentBack 4 r)) (ownMoved s r w t)) e
 
--- where it is not spent, and the work of the phase leaves word and record as they are, so does the step
-pub unmoved : (s : Settings) (r : Record) (words : List ℕ) (t : ℕ) → patienceSpent s r t ≡ false
+-- where it has not run out, and the work of the phase leaves word and record as they are, so does the step
+pub unmoved : (s : Settings) (r : Record) (words : List ℕ) (t : ℕ) → outOfPatience s r t ≡ false
     → let w = wordAt words (ownTouched s r) in ownMoved s r w t ≡ leaves w r
     → let w = wordAt words (touched s r t) in moved s r w t ≡ leaves w r
 unmoved s r words t e f =
@@ -88,20 +86,21 @@ unmoved s r words t e f =
 -- ---- the third time at a first piece
 
 module _ (r : Record) where
-  abbrev released : Bool
-  released = eqb (r .phase) 9 || eqb (r .phase) 10 && eqb (r .outcome) 1
+  -- held, or returning after a release
+  abbrev pub heldOrReleased : Bool
+  heldOrReleased = eqb (r .phase) 9 || eqb (r .phase) 10 && eqb (r .outcome) 1
 
   pub no-time : r .taken ≡ 0 → takenFirst r ≡ false
   unfolding takenFirst
-  no-time z = ap (λ b. b && eqb (r .current) 0 && not released) (le-ltb 0 (r .taken) (omega arith))
+  no-time z = ap (λ b. b && eqb (r .current) 0 && not heldOrReleased) (le-ltb 0 (r .taken) (omega arith))
 
   pub later-time : r .current ≢ 0 → takenFirst r ≡ false
   unfolding takenFirst
-  later-time d = ap (λ b. b && not released) (second-false (nonzero (r .taken)) _ (ne-eqb (r .current) 0 d))
+  later-time d = ap (λ b. b && not heldOrReleased) (second-false (nonzero (r .taken)) _ (ne-eqb (r .current) 0 d))
 
-  pub first-time : r .taken ≢ 0 → r .current ≡ 0 → not (eqb (r .phase) 9 || eqb (r .phase) 10 && eqb (r .outcome) 1) ≡ takenFirst r
+  pub first-time : r .taken ≢ 0 → r .current ≡ 0 → not heldOrReleased ≡ takenFirst r
   unfolding takenFirst
-  first-time d e = λ i. sym (lt-ltb 0 (r .taken) (omega arith)) i && sym (eq-eqb (r .current) 0 e) i && not released
+  first-time d e = λ i. sym (lt-ltb 0 (r .taken) (omega arith)) i && sym (eq-eqb (r .current) 0 e) i && not heldOrReleased
 
 -- ---- noting the third time changes no piece
 

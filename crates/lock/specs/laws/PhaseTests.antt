@@ -18,7 +18,7 @@ use Rattle.tree.specs.laws.Code.{bounded, count-none}
 use Rattle.lock.specs.declared.Record.{Record}
 use Rattle.lock.specs.declared.Settings.{Settings}
 use Rattle.lock.specs.rules.Records.{pieces, currentPiece, isLeaf, isRoot, gripOf, noticesOf}
-use Rattle.lock.specs.rules.Unreadable.{nonzero, differ, numberTooLarge, placePast, noticesWrong, outcomeWrong, heldEarly, givingWrong, impatientFirst}
+use Rattle.lock.specs.rules.Unreadable.{nonzero, differ, numberTooLarge, placePast, noticesWrong, outcomeWrong, heldEarly, givingWrong, outOfPatienceFirst}
 use Rattle.lock.specs.laws.ReadableLaws.{same-number, Begun, past-some, place-is, list-climbing, list-notifying, list-checking, list-returning, elsewhere-leaf, elsewhere-root, elsewhere-none, grip-climbing, grip-taken, grip-returning}
 use Rattle.lock.specs.laws.ActiveLaws.{below-root, notified, checked}
 use Rattle.lock.specs.laws.OwnTests.{ownWrong, or-false, untaken-is, past-or, past-or-root, elsewhere, lacking, count, own-taking, notices-at, notices-few, notices-many, notices-waiting, notices-place, none-walked, bare}
@@ -145,7 +145,7 @@ module _ {s : Settings} {r : Record} (v : Begun s r) where
           → {g : ℕ} → g ≡ gripOf r (r .giving)
           → ((((((ltb 4 (r .outcome) || past) || (ltb n (r .notices) || nonzero (r .notices) && ltb (r .grip) 3)) || eqb (r .outcome) 0) || lack) || (ltb (r .current) (r .giving) || eqb g 0))
           || eqb (r .outcome) 4 && eqb (r .current) 0) ≡ ownWrong s r
-      unfolding ownWrong numberTooLarge outcomeWrong heldEarly givingWrong impatientFirst
+      unfolding ownWrong numberTooLarge outcomeWrong heldEarly givingWrong outOfPatienceFirst
       own-returning e {past} {lack} p l {g} h =
           let listed = suc (noticesOf s r (r .giving)) in
           let number : ltb 4 (r .outcome) ≡ (ltb 10 (r .phase) || ltb 4 (r .outcome)) = sym (ap (λ (b : Bool). b || ltb 4 (r .outcome)) (le-ltb 10 (r .phase) (omega arith))) in

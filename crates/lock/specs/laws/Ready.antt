@@ -16,7 +16,7 @@ use Rattle.lock.specs.declared.Record.{Record}
 use Rattle.lock.specs.declared.Settings.{Settings}
 use Rattle.lock.specs.rules.Records.{Phase, phaseOf, pieces, currentPiece, isLeaf, gripOf}
 use Rattle.lock.specs.laws.Phases.{at-ticket, at-turn, at-climb, at-blocked, at-claim, at-notify, at-wait, at-check, at-returning}
-use Rattle.lock.specs.rules.Unreadable.{nonzero, differ, numberTooLarge, noticesWrong, phaseElsewhere, heldEarly, outcomeWrong, lacksGrip, gripLacking, givingWrong, impatientFirst, takenFirst, unreadable}
+use Rattle.lock.specs.rules.Unreadable.{nonzero, differ, numberTooLarge, noticesWrong, phaseElsewhere, heldEarly, outcomeWrong, lacksGrip, gripLacking, givingWrong, outOfPatienceFirst, takenFirst, unreadable}
 use Rattle.lock.specs.laws.Active.{Settled, NoEarlyTime, Active}
 use Rattle.lock.specs.laws.ReadableLaws.{same-number, grip-taken}
 use Rattle.lock.specs.laws.ActiveLaws.{Passed, passed, active}
@@ -41,7 +41,7 @@ pub record Ready (s : Settings) (r : Record) (last : ℕ) : Type 0 where
   pub outcome-some : r .phase ≡ 10 → r .outcome ≢ 0
   pub no-giving : r .phase ≢ 10 → r .giving ≡ 0
   pub giving-gripped : r .phase ≡ 10 → gripOf r (r .giving) ≢ 0
-  pub patient-first : r .phase ≡ 10 → r .outcome ≡ 4 → r .current ≢ 0
+  pub later-piece : r .phase ≡ 10 → r .outcome ≡ 4 → r .current ≢ 0
   pub no-early-time : NoEarlyTime r
 
 module _ (s : Settings) (r : Record) (last : ℕ) (k : Passed s r last) where
@@ -91,7 +91,7 @@ module _ (s : Settings) (r : Record) (last : ℕ) (k : Passed s r last) where
   giving-test = both-false (ltb (r .current) (r .giving)) _ (k .giving) .1
 
   patient : r .phase ≡ 10 → r .outcome ≡ 4 → r .current ≢ 0
-  unfolding impatientFirst
+  unfolding outOfPatienceFirst
   patient e o = eqb-false (r .current) 0 (second-of (eqb (r .phase) 10 && eqb (r .outcome) 4) _ (λ i. eq-eqb (r .phase) 10 e i && eq-eqb (r .outcome) 4 o i) (k .impatient))
 
   early : NoEarlyTime r
@@ -130,7 +130,7 @@ module _ (s : Settings) (r : Record) (last : ℕ) (k : Passed s r last) where
     outcome-some = λ e. eqb-false (r .outcome) 0 (sym (choose-eq (r .phase) 10 _ (nonzero (r .outcome)) e) ∙ k .outcome);
     no-giving = λ d. omega (arith, ltb-false 0 (r .giving) (sym (choose-ne (r .phase) 10 (eqb (gripOf r (r .giving)) 0) _ d) ∙ giving-test));
     giving-gripped = λ e. eqb-false (gripOf r (r .giving)) 0 (sym (choose-eq (r .phase) 10 _ (nonzero (r .giving)) e) ∙ giving-test);
-    patient-first = patient;
+    later-piece = patient;
     no-early-time = early;
   }
 

@@ -17,7 +17,7 @@ use Rattle.tree.specs.laws.Check.{checkCount, check-count}
 use Rattle.tree.specs.laws.Closed.{first-small}
 use Rattle.lock.specs.declared.Record.{Record}
 use Rattle.lock.specs.declared.Settings.{Settings}
-use Rattle.lock.specs.rules.Records.{pieces, pieceAt, currentPiece, isLeaf, change, toPhase, toBlocked, withOutcome, withGrip, withPlace, withNotices, withT1, withT0}
+use Rattle.lock.specs.rules.Records.{pieces, pieceAt, currentPiece, isLeaf, change, toPhase, toBlocked, withGrip, withPlace, withNotices, withT1, withT0, sentBack}
 use Rattle.lock.specs.rules.Steps.{startPhase, begin, firstNoted, taken, turnAwaited, goUp, climbed, unblocked, bitsClaimed, occClaimed, allNotified, noticeGiven, waited, checkPassed}
 use Rattle.lock.specs.laws.Placed.{Pieced}
 
@@ -150,7 +150,7 @@ module _ (s : Settings) where
 
     -- ---- 6 notify
 
-    pub notified-late : (t : ℕ) → s .wait ≤ t - r .t1 → allNotified s r t ≡ toPhase 10 (withOutcome 2 r)
+    pub notified-late : (t : ℕ) → s .wait ≤ t - r .t1 → allNotified s r t ≡ sentBack 2 r
     unfolding allNotified
     notified-late t b = choose-le (s .wait) (t - r .t1) _ _ b
 

@@ -21,7 +21,7 @@ use Rattle.lock.specs.rules.Records.{coverOf, pieces, pieceAt, currentPi
 use Rattle.lock.specs.rules.Unreadable.{nonzero, differ, idleFilled, notCovered, noCurrent, ticketTooLarge, timeAhead, takenFirst, unreadable}
 use Rattle.lock.specs.rules.Steps.{startPhase}
 use Rattle.lock.specs.laws.Active.{Settled, NoEarlyTime}
-use Rattle.lock.specs.laws.PatienceLaws.{no-time, later-time, first-time}
+use Rattle.lock.specs.laws.PatienceLaws.{heldOrReleased, no-time, later-time, first-time}
 use Rattle.lock.specs.laws.Pieces.{piece-first, second-is}
 use Rattle.lock.specs.laws.StepLaws.{start-leaf, start-inner}
 use Rattle.lock.specs.laws.ReadableLaws.{Begun, grip-ticket, grip-turn}
@@ -74,7 +74,7 @@ module _ (s : Settings) (r : Record) where
   not-early f =
       by-eq (r .taken) 0 (no-time r) (λ some.
       by-eq (r .current) 0
-      (λ e. let kept : (eqb (r .phase) 9 || eqb (r .phase) 10 && eqb (r .outcome) 1) ≡ true = by-eq (r .phase) 9
+      (λ e. let kept : heldOrReleased r ≡ true = by-eq (r .phase) 9
       (λ n. ap (λ b. b || eqb (r .phase) 10 && eqb (r .outcome) 1) (eq-eqb (r .phase) 9 n))
       (λ d. by-eq (r .phase) 10
       (λ t. by-eq (r .outcome) 1

@@ -1,5 +1,5 @@
--- To be believed: document 01, section "Refused calls" and the last paragraph of "Phases", with document 02's patience: the tests of each call in their order, and what an accepted call
--- makes of the record, the words and the clock. The calls are by value, on one record; Table.antt has the same over the table. Assumes nothing.
+-- To be believed: document 01, section "Refused calls" and the last paragraph of "Phases", and document 02, request 2.2: the tests of each call in their order, and
+-- what an accepted call makes of the record, the words and the clock. The calls are by value, on one record; Table.antt has the same over the table. Assumes nothing.
 use mathlib.Core.Bool.{Bool, not, _||_}
 use mathlib.Core.List.{List, [], _∷_, _++_}
 use Prim.Native.Nat.{ℕ}
@@ -11,7 +11,7 @@ use Rattle.cover.specs.rules.Answer.{levelsOutside, windowOutside}
 use Rattle.lock.specs.declared.Record.{Record}
 use Rattle.lock.specs.declared.Settings.{Settings}
 use Rattle.lock.specs.declared.Stepped.{Stepped}
-use Rattle.lock.specs.rules.Records.{coverOf, windowed, gripOf, wordAt, written, toPhase, withOutcome, idleWith}
+use Rattle.lock.specs.rules.Records.{coverOf, windowed, gripOf, wordAt, written, sentBack, idleWith}
 use Rattle.lock.specs.rules.Unreadable.{differ, unreadable}
 use Rattle.lock.specs.rules.Steps.{touched, moved, startPhase}
 
@@ -68,10 +68,10 @@ requested s a b =
 -- "Release (from 9) and cancel (from 1..8) touch no word and set outcome 1 or 3 and phase 10; a cancel with nothing to give back makes the record
 -- idle with outcome 3."
 unfoldable pub released : Record → Record
-released r = toPhase 10 (withOutcome 1 r)
+released r = sentBack 1 r
 
 unfoldable pub cancelled : Record → Record
-cancelled r = choose (eqb (gripOf r 0) 0) (idleWith 3) (toPhase 10 (withOutcome 3 r))
+cancelled r = choose (eqb (gripOf r 0) 0) (idleWith 3) (sentBack 3 r)
 
 -- ---- a call by value: number, clock and record after it, and the words
 

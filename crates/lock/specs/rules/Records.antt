@@ -123,6 +123,10 @@ withT0 t r = change r (r .phase) (r .outcome) (r .current) (r .giving) (r .grip)
 abbrev pub withTaken : ℕ → Record → Record
 withTaken t r = change r (r .phase) (r .outcome) (r .current) (r .giving) (r .grip) (r .ticket) (r .place) (r .notices) (r .t1) (r .t0) t
 
+-- to returning, with an outcome: a release and a cancel "set outcome 1 or 3 and phase 10", late "gives outcome 2 and 10", and 2.2 "sets outcome 4 and goes to returning"
+abbrev pub sentBack : ℕ → Record → Record
+sentBack o r = toPhase 10 (withOutcome o r)
+
 -- "idle: all zero but the outcome"
 abbrev pub idleWith : ℕ → Record
 idleWith o = record {

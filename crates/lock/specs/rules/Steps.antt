@@ -1,5 +1,5 @@
 -- To be believed: document 01, section "Phases", the table: for each phase which node a step touches, what it leaves there, and the next record; and document 02,
--- request 2.2: when patience is spent, and what the step does then.
+-- request 2.2: when patience has run out, and what the step does then.
 -- s are the settings, r the record, w the word found at the touched node, t the step's clock. Assumes nothing.
 use mathlib.Core.Bool.{Bool, _&&_}
 use Prim.Native.Nat.{ℕ, suc, _+_, _-_}
@@ -12,7 +12,7 @@ use Rattle.tree.specs.rules.Lists.{ancestors, notifyList, checkList}
 use Rattle.lock.specs.declared.Moved.{Moved}
 use Rattle.lock.specs.declared.Record.{Record}
 use Rattle.lock.specs.declared.Settings.{Settings}
-use Rattle.lock.specs.rules.Records.{pieceAt, Phase, idle, ticket, turn, climb, blocked, claim, notify, wait, check, held, returning, unknown, phaseOf, pieces, currentPiece, givenPiece, isLeaf, isRoot, gripOf, noticesOf, change, toPhase, toBlocked, withOutcome, withGiving, withGrip, withTicket, withPlace, withNotices, withT1, withT0, withTaken, idleWith}
+use Rattle.lock.specs.rules.Records.{pieceAt, Phase, idle, ticket, turn, climb, blocked, claim, notify, wait, check, held, returning, unknown, phaseOf, pieces, currentPiece, givenPiece, isLeaf, isRoot, gripOf, noticesOf, change, toPhase, toBlocked, withGiving, withGrip, withTicket, withPlace, withNotices, withT1, withT0, withTaken, sentBack, idleWith}
 
 -- ---- "touches at most one word": the node that a step touches, 0 for none
 
@@ -82,7 +82,7 @@ occClaimed r t = toPhase (choose (isRoot (currentPiece r)) 7 6) (withT0 t (withG
 -- 6 notify, "After the last: clock - t1 ≥ T gives outcome 2 and 10; else inner to 7, a leaf is taken"
 unfoldable pub allNotified : Settings → Record → ℕ → Record
 allNotified s r t =
-    choose (leb (s .wait) (t - r .t1)) (toPhase 10 (withOutcome 2 r)) (choose (isLeaf s (currentPiece r)) (taken s r t) (toPhase 7 r))
+    choose (leb (s .wait) (t - r .t1)) (sentBack 2 r) (choose (isLeaf s (currentPiece r)) (taken s r t) (toPhase 7 r))
 
 -- 6 notify: the next place, and as many notices
 unfoldable pub noticeGiven : Settings → Record → ℕ → Record
@@ -178,16 +178,12 @@ ownMoved s r w t = movedIn s r w t (phaseOf (r .phase))
 -- ---- 2.2, "Patience between two pieces"
 
 -- "A step in phases 1 to 8 of a second piece, with clock less that time at least P"; 2.9: "Patience runs from the first piece for every later one."
-unfoldable pub patienceSpent : Settings → Record → ℕ → Bool
-patienceSpent s r t = leb 1 (r .phase) && leb (r .phase) 8 && ltb 0 (r .current) && leb (s .patience) (t - r .taken)
+unfoldable pub outOfPatience : Settings → Record → ℕ → Bool
+outOfPatience s r t = leb 1 (r .phase) && leb (r .phase) 8 && ltb 0 (r .current) && leb (s .patience) (t - r .taken)
 
--- "sets outcome 4 and goes to returning"
-abbrev pub givenUp : Record → Record
-givenUp r = toPhase 10 (withOutcome 4 r)
-
--- "touches no word, .. instead of the phase's own work"
+-- "touches no word, sets outcome 4 and goes to returning instead of the phase's own work"
 abbrev pub touched : Settings → Record → ℕ → ℕ
-touched s r t = choose (patienceSpent s r t) 0 (ownTouched s r)
+touched s r t = choose (outOfPatience s r t) 0 (ownTouched s r)
 
 abbrev pub moved : Settings → Record → ℕ → ℕ → Moved
-moved s r w t = choose (patienceSpent s r t) (leaves w (givenUp r)) (ownMoved s r w t)
+moved s r w t = choose (outOfPatience s r t) (leaves w (sentBack 4 r)) (ownMoved s r w t)

@@ -120,8 +120,8 @@ unfoldable pub givingWrong : Record → Bool
 givingWrong r = ltb (r .current) (r .giving) || choose (eqb (r .phase) 10) (eqb (gripOf r (r .giving)) 0) (nonzero (r .giving))
 
 -- 2.2, "unreadable are also 4 in phase 10 at a first piece"
-unfoldable pub impatientFirst : Record → Bool
-impatientFirst r = eqb (r .phase) 10 && eqb (r .outcome) 4 && eqb (r .current) 0
+unfoldable pub outOfPatienceFirst : Record → Bool
+outOfPatienceFirst r = eqb (r .phase) 10 && eqb (r .outcome) 4 && eqb (r .current) 0
 
 -- 2.2, "and a nonzero time at a first piece, save in 9 or in 10 with outcome 1"
 unfoldable pub takenFirst : Record → Bool
@@ -131,7 +131,7 @@ takenFirst r = nonzero (r .taken) && eqb (r .current) 0 && not (eqb (r .phase) 9
 unfoldable pub fieldsWrong : Settings → Record → ℕ → Bool
 fieldsWrong s r last =
     ticketTooLarge r || placePast s r || noticesWrong s r || timeAhead r last || phaseElsewhere s r (phaseOf (r .phase)) || heldEarly r || outcomeWrong r
-    || gripLacking s r (phaseOf (r .phase)) || givingWrong r || impatientFirst r || takenFirst r
+    || gripLacking s r (phaseOf (r .phase)) || givingWrong r || outOfPatienceFirst r || takenFirst r
 
 unfoldable pub unreadable : Settings → Record → ℕ → Bool
 unreadable s r last =

@@ -10,7 +10,7 @@ use Rattle.lock.specs.declared.Settings.{Settings}
 use Rattle.lock.specs.rules.Unreadable.{differ}
 use Rattle.lock.specs.rules.Calls.{firstCause, settingsOutside, clientsOutside, clientTests}
 use Rattle.lock.specs.laws.Active.{Settled}
-use Rattle.lock.specs.laws.ActiveLaws.{settled}
+use Rattle.lock.specs.laws.SettledLaws.{settled}
 use Rattle.lock.specs.laws.ReadableLaws.{same-number}
 use Rattle.lock.specs.laws.CallLaws.{cause-hit, cause-skip}
 use Rattle.lock.specs.laws.Accepted.{test-passed}

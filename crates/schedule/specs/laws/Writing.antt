@@ -87,7 +87,7 @@ written-first s bytes st clients old out end a b = record {
 }
 
 -- the room that all lines have
-pub few-calls : (bytes : List ℕ) → WellFormed bytes → countIn bytes ≤ 2730
+pub few-calls : (bytes : List ℕ) → WellFormed bytes → countIn bytes ≤ 2729
 unfolding placeOf
 few-calls bytes w = omega (arith, w .inside, w .offset, w .short)
 

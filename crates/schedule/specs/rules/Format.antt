@@ -1,5 +1,5 @@
--- To be believed: document 01, section "The schedule program", and the patience of document 02's request 2.2: the format of a schedule over its bytes, the calls in it, what is refused, and what is lent to the
--- opening. Assumes nothing.
+-- To be believed: document 01, section "The schedule program", and document 02, request 2.2: the format of a schedule over its bytes, the calls in it, what is refused,
+-- and what is lent to the opening. Assumes nothing.
 use mathlib.Core.Bool.{Bool, false, _||_}
 use mathlib.Core.List.{List, [], _∷_}
 use Prim.Native.Nat.{ℕ, zero, suc, _+_, _*_}

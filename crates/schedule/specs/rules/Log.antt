@@ -38,7 +38,7 @@ lines s st k (c ∷ cs) = line k c (call s st c .number) (recordAt (call s st c 
 unfoldable pub logOf : List ℕ → List ℕ
 logOf bytes = unlessRefused bytes (headerLine (settingsIn bytes) (clientsIn bytes) ++ lines (settingsIn bytes) (openingIn bytes .state) 0 (callsIn bytes))
 
--- every log fits here: at most 2,730 calls fit a file, and a line has at most 144 bytes
+-- every log fits here: at most 2,729 calls fit a file, and a line has at most 144 bytes
 abbrev pub room : ℕ
 room = 400000
 

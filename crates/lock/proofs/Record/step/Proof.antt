@@ -5,13 +5,13 @@ use native.Mathlib.Omega.{arith}
 use Rattle.lock.specs.rules.Records.{written}
 use Rattle.lock.specs.laws.PatienceLaws.{own-touched}
 use Rattle.lock.specs.laws.Touched.{touched-counted, readable}
-use Rattle.lock.specs.laws.ByKind.{step-work, step-refused, step-taken, step-given-up}
+use Rattle.lock.specs.laws.ByKind.{step-work, step-refused, step-taken, step-sent-back}
 use borrow.Author.Needs.{needs}
 use Rattle.lock.proofs.Record.step.Statement.{statement}
 use Rattle.lock.proofs.Record.step.Tie as tie
 
-patience-spent-requires : tie.Need-patience-spent-requires
-patience-spent-requires c κs =
+out-of-patience-requires : tie.Need-out-of-patience-requires
+out-of-patience-requires c κs =
     let a = c .before .args in
     let q = c .before .pre in
     let f = readable (a .settings) (a .self) (a .call .last) (q .0) (q .2) in
@@ -23,10 +23,10 @@ sent-back-requires c κs = search needs
 returns : tie.Need-returns
 returns c =
     let a = c .before .before .before .before .args in
-    step-given-up (a .settings) (a .self) (a .words .now) (a .call .last) (a .call .a) (sym (c .before .before .patience-spent .ensures) ∙ c .before .if1 .taken) _ (c .sent-back .ensures)
+    step-sent-back (a .settings) (a .self) (a .words .now) (a .call .last) (a .call .a) (sym (c .before .before .out-of-patience .ensures) ∙ c .before .if1 .taken) _ (c .sent-back .ensures)
 
-touched-requires : tie.Need-touched-requires
-touched-requires c κs =
+own-touched-requires : tie.Need-own-touched-requires
+own-touched-requires c κs =
     let a = c .before .before .before .args in
     let q = c .before .before .before .pre in
     let f = readable (a .settings) (a .self) (a .call .last) (q .0) (q .2) in
@@ -37,14 +37,14 @@ word-at-requires c κs =
     let a = c .before .before .before .before .before .args in
     let q = c .before .before .before .before .before .pre in
     let f = readable (a .settings) (a .self) (a .call .last) (q .0) (q .2) in
-    omega (arith, touched-counted (a .settings) (a .self) (q .0) (f .sound), c .before .touched .ensures, q .1)
+    omega (arith, touched-counted (a .settings) (a .self) (q .0) (f .sound), c .before .own-touched .ensures, q .1)
 
-moved-requires : tie.Need-moved-requires
-moved-requires c κs =
+own-moved-requires : tie.Need-own-moved-requires
+own-moved-requires c κs =
     let a = c .before .before .before .before .before .before .args in
     let q = c .before .before .before .before .before .before .pre in
     let f = readable (a .settings) (a .self) (a .call .last) (q .0) (q .2) in
-    (q .0, f .sound, omega (arith, f .t1-past, q .3), omega (arith, f .t0-past, q .3), c .before .before .touched .ensures)
+    (q .0, f .sound, omega (arith, f .t1-past, q .3), omega (arith, f .t0-past, q .3), c .before .before .own-touched .ensures)
 
 refused-requires : tie.Need-refused-requires
 refused-requires c κs = search needs
@@ -58,15 +58,15 @@ returns-2 c =
     let r = c .before .before .before .before .before .before .before .before .before .before .args .self in
     let ws = c .before .before .before .before .before .before .before .before .before .before .args .words .now in
     let t = c .before .before .before .before .before .before .before .before .before .before .args .call .a in
-    let p = sym (c .before .before .before .before .before .before .before .before .patience-spent .ensures) ∙ c .before .before .before .before .before .before .before .if1 .left in
-    step-refused s r ws (c .before .before .before .before .before .before .before .before .before .before .args .call .last) t _ (step-work s r ws t p _ _ _ (c .before .before .before .before .before .before .touched .ensures) (c .before .before .before .before .word-at .ensures) (c .before .before .before .moved .ensures)) (c .refused .result) (c .before .if2 .taken) (c .refused .ensures)
+    let p = sym (c .before .before .before .before .before .before .before .before .out-of-patience .ensures) ∙ c .before .before .before .before .before .before .before .if1 .left in
+    step-refused s r ws (c .before .before .before .before .before .before .before .before .before .before .args .call .last) t _ (step-work s r ws t p _ _ _ (c .before .before .before .before .before .before .own-touched .ensures) (c .before .before .before .before .word-at .ensures) (c .before .before .before .own-moved .ensures)) (c .refused .result) (c .before .if2 .taken) (c .refused .ensures)
 
 put-word-requires : tie.Need-put-word-requires
 put-word-requires c κs =
     let a = c .before .before .before .before .before .before .before .before .before .before .args in
     let q = c .before .before .before .before .before .before .before .before .before .before .pre in
     let f = readable (a .settings) (a .self) (a .call .last) (q .0) (q .2) in
-    omega (arith, touched-counted (a .settings) (a .self) (q .0) (f .sound), c .before .before .before .before .before .before .touched .ensures, q .1)
+    omega (arith, touched-counted (a .settings) (a .self) (q .0) (f .sound), c .before .before .before .before .before .before .own-touched .ensures, q .1)
 
 same-length-2 : tie.Need-same-length-2
 same-length-2 c = search needs
@@ -77,19 +77,19 @@ returns-3 c =
     let r = c .before .before .before .before .before .before .before .before .before .before .before .before .before .before .args .self in
     let ws = c .before .before .before .before .before .before .before .before .before .before .before .before .before .before .args .words .now in
     let t = c .before .before .before .before .before .before .before .before .before .before .before .before .before .before .args .call .a in
-    let p = sym (c .before .before .before .before .before .before .before .before .before .before .before .before .patience-spent .ensures) ∙ c .before .before .before .before .before .before .before .before .before .before .before .if1 .left in
-    step-taken s r ws (c .before .before .before .before .before .before .before .before .before .before .before .before .before .before .args .call .last) t _ (step-work s r ws t p _ _ _ (c .before .before .before .before .before .before .before .before .before .before .touched .ensures) (c .before .before .before .before .before .before .before .before .word-at .ensures) (c .before .before .before .before .before .before .before .moved .ensures)) _ (c .before .before .before .before .before .if2 .left) (c .before .before .before .put-word .ensures ∙ ap (λ (x : ℕ). written ws x (c .before .before .before .before .before .before .before .moved .result .word)) (c .before .before .before .before .before .before .before .before .before .before .touched .ensures ∙ sym (own-touched s r t p)))
+    let p = sym (c .before .before .before .before .before .before .before .before .before .before .before .before .out-of-patience .ensures) ∙ c .before .before .before .before .before .before .before .before .before .before .before .if1 .left in
+    step-taken s r ws (c .before .before .before .before .before .before .before .before .before .before .before .before .before .before .args .call .last) t _ (step-work s r ws t p _ _ _ (c .before .before .before .before .before .before .before .before .before .before .own-touched .ensures) (c .before .before .before .before .before .before .before .before .word-at .ensures) (c .before .before .before .before .before .before .before .own-moved .ensures)) _ (c .before .before .before .before .before .if2 .left) (c .before .before .before .put-word .ensures ∙ ap (λ (x : ℕ). written ws x (c .before .before .before .before .before .before .before .own-moved .result .word)) (c .before .before .before .before .before .before .before .before .before .before .own-touched .ensures ∙ sym (own-touched s r t p)))
 
 pub step-spec : {M : Type 1} → statement M
 step-spec =
     tie.close
     (tie.spec
-    patience-spent-requires
+    out-of-patience-requires
     sent-back-requires
     returns
-    touched-requires
+    own-touched-requires
     word-at-requires
-    moved-requires
+    own-moved-requires
     refused-requires
     same-length
     returns-2

@@ -5,7 +5,7 @@ use borrow.Author.Needs.{needs}
 use mathlib.Core.List.{[]}
 use Rattle.lock.specs.rules.Calls.{firstCause, treeTests}
 use Rattle.lock.specs.laws.CallLaws.{tree-settings, tree-count, tree-passed}
-use Rattle.lock.specs.laws.ActiveLaws.{settled}
+use Rattle.lock.specs.laws.SettledLaws.{settled}
 use Rattle.lock.specs.laws.WordLaws.{last-is-count}
 use Rattle.lock.proofs.Settings.tree_cause.Statement.{statement}
 use Rattle.lock.proofs.Settings.tree_cause.Tie as tie

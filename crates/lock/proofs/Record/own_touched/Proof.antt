@@ -1,4 +1,4 @@
--- `lock::Record::touched` meets its contract. Assumes nothing.
+-- `lock::Record::own_touched` meets its contract. Assumes nothing.
 use mathlib.Core.Path.{sym, ap, _∙_, subst}
 use Prim.Native.Nat.{ℕ, _<_}
 use native.Mathlib.Omega.{arith}
@@ -10,8 +10,8 @@ use Rattle.lock.specs.rules.Steps.{touchedIn}
 use Rattle.lock.specs.laws.Placed.{pieced, sound-placed}
 use Rattle.lock.specs.laws.Phases.{at-ticket, at-turn, at-climb, at-blocked, at-claim, at-notify, at-check, at-returning}
 use Rattle.lock.specs.laws.MoveLaws.{touched-none}
-use Rattle.lock.proofs.Record.touched.Statement.{statement}
-use Rattle.lock.proofs.Record.touched.Tie as tie
+use Rattle.lock.proofs.Record.own_touched.Statement.{statement}
+use Rattle.lock.proofs.Record.own_touched.Tie as tie
 
 current-piece-requires : tie.Need-current-piece-requires
 current-piece-requires c κs =
@@ -214,8 +214,8 @@ returns-9 c =
     let d = c .match .rest in
     sym (touched-none (a .settings) (a .self) (d .0 .0 .0 .0 .0 .0 .0 .1) (d .0 .0 .0 .0 .0 .0 .1) (d .0 .0 .0 .0 .0 .1) (d .0 .0 .0 .0 .1) (d .0 .0 .0 .1) (d .0 .0 .1) (d .0 .1) (d .1))
 
-pub touched-spec : {M : Type 1} → statement M
-touched-spec =
+pub own-touched-spec : {M : Type 1} → statement M
+own-touched-spec =
     tie.close
     (tie.spec
     current-piece-requires

@@ -1,4 +1,4 @@
--- `lock::Record::moved` meets its contract. Assumes nothing.
+-- `lock::Record::own_moved` meets its contract. Assumes nothing.
 use mathlib.Core.Path.{sym, ap, ap₂, _∙_}
 use native.Mathlib.Omega.{arith}
 use mathlib.Core.Logic.{inl}
@@ -7,8 +7,8 @@ use Rattle.lock.specs.laws.Placed.{pieced, sound-placed}
 use Rattle.lock.specs.laws.Phases.{at-ticket, at-turn, at-climb, at-blocked, at-claim, at-notify, at-wait, at-check, at-returning}
 use Rattle.lock.specs.laws.MoveLaws.{moved-none}
 use borrow.Author.Needs.{needs}
-use Rattle.lock.proofs.Record.moved.Statement.{statement}
-use Rattle.lock.proofs.Record.moved.Tie as tie
+use Rattle.lock.proofs.Record.own_moved.Statement.{statement}
+use Rattle.lock.proofs.Record.own_moved.Tie as tie
 
 add-tmax-requires : tie.Need-add-tmax-requires
 add-tmax-requires c κs = search needs
@@ -201,8 +201,8 @@ returns-10 c =
     let d = c .before .match .rest in
     c .leaves8 .ensures ∙ sym (moved-none (a .settings) (a .self) (a .found) (a .clock) (d .0 .0 .0 .0 .0 .0 .0 .0 .1) (d .0 .0 .0 .0 .0 .0 .0 .1) (d .0 .0 .0 .0 .0 .0 .1) (d .0 .0 .0 .0 .0 .1) (d .0 .0 .0 .0 .1) (d .0 .0 .0 .1) (d .0 .0 .1) (d .0 .1) (d .1))
 
-pub moved-spec : {M : Type 1} → statement M
-moved-spec =
+pub own-moved-spec : {M : Type 1} → statement M
+own-moved-spec =
     tie.close
     (tie.spec
     add-tmax-requires
