@@ -30,7 +30,7 @@ GAVE_UP = Outcome.CANCELLED, Outcome.OUT_OF_PATIENCE
 
 # How a client that has given up pauses, below a limit in ticks that doubles each time; None if it never cancels, and does not pause.
 WAYS = {
-    "nobody gives up": None,
+    "nobody cancels": None,
     "cancel, pause for the whole limit": lambda rng, limit: limit,
     "cancel, pause for a random part of it": lambda rng, limit: rng.randrange(limit),
 }
@@ -123,9 +123,15 @@ def run(seed, pause, patience, table_of):
     return sum(not client.done() for client in clients), last
 
 
+def ticks_of_patience(text):
+    if not text.isdecimal() or not 1 <= int(text) <= LONGEST:
+        raise argparse.ArgumentTypeError(f"a patience is from 1 to {LONGEST}, not {text}")
+    return int(text)
+
+
 def arguments():
     parser = argparse.ArgumentParser(description="How many clients wait for each other for ever, and what back-off makes of it.")
-    parser.add_argument("patience", nargs="?", type=int, default=LONGEST, help="in ticks, 1 to 4294967295; the longest if it is not said")
+    parser.add_argument("patience", nargs="?", type=ticks_of_patience, default=LONGEST, help="in ticks, 1 to 4294967295; the longest if it is not said")
     parser.add_argument("--model", action="store_true", help="make the calls by the model instead of the library")
     return parser.parse_args()
 
@@ -133,7 +139,8 @@ def arguments():
 def main():
     asked = arguments()
     table_of = ModelTable if asked.model else nolthewyr.Table
-    print(f"| {CLIENTS} clients, {RUNS} runs, patience {asked.patience:,} | runs in which all had their windows | clients without, least to most | ticks until all were idle, least to most |")
+    print(f"| {CLIENTS} clients, {RUNS} runs, patience {asked.patience:,} | runs in which all had their windows"
+          " | clients without, least to most | ticks until all were idle, least to most |")
     print("|---|---|---|---|")
     for name, pause in WAYS.items():
         ran = [run(seed, pause, asked.patience, table_of) for seed in range(RUNS)]

@@ -23,7 +23,7 @@ CALL = Struct("<BBHIQQ")
 
 
 class Header(NamedTuple):
-    """Header of 16 bytes, which gains u32 P at byte 16."""
+    """20 bytes: document 01's 16, and u32 P at byte 16."""
 
     levels: int
     distance: int

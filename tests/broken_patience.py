@@ -78,6 +78,14 @@ def cancel_when_run_out(settings, words, record, last):
     return answer._replace(record=returning(record, 4)) if answer.number == 0 and run_out(settings, record, last) else answer
 
 
+def without_its_time(call):
+    """A call after which the record has no third time."""
+    def changed(*arguments):
+        answer = call(*arguments)
+        return answer._replace(record=answer.record._replace(taken=0)) if answer.number == 0 else answer
+    return changed
+
+
 def in_step(value):
     return lambda: patch.object(calls, "row_of_the_phase", value)
 
@@ -118,6 +126,8 @@ STEPS = {
     "the third time zeroed when patience has run out": in_step(given_up_with(taken=0)),
     "the last clock not set when patience has run out": of_calls("step", last_clock_kept),
     "a cancel with outcome 4": of_calls("cancel", cancel_when_run_out),
+    "the third time zeroed by a cancel": of_calls("cancel", without_its_time(cancel)),
+    "the third time zeroed by a release": of_calls("release", without_its_time(calls.release)),
     "no third time": of_step("noted_if_first", lambda record, clock: record),
     "a third time that a window of one piece lacks": of_step(
         "noted_if_first", lambda record, clock: record if records.is_last(record) else record._replace(taken=clock)),
