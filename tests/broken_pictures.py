@@ -3,6 +3,7 @@
 from xml.etree.ElementTree import SubElement
 
 import picture_checks as checks
+import picture_looks as looks
 from picture_pages import HELD
 
 
@@ -66,6 +67,18 @@ def waiting_left_out(page):
     left_out(page, next(each for each in page.root.iter("li") if checks.WAITS.fullmatch(each.text or "")))
 
 
+def shape_of(page, kind, other):
+    """One kind of mark gets the shape of another."""
+    page.named(kind).set("d", page.named(other).get("d"))
+
+
+def text_changed(page, tag, old, new):
+    """The first element of this kind says something else; it must have said the old."""
+    element = next(page.root.iter(tag))
+    before, after = element.text.split(old, 1)
+    element.text = before + new + after
+
+
 OF_CLIENTS, OF_UNITS = checks.held_in("clients"), checks.held_in("units")
 
 # What is wrong, the check that must find it out, and the edit that makes it so.
@@ -115,6 +128,12 @@ EDITS = {
     "a script": (checks.by_itself, says("script", "1")),
     "a shape that is nowhere": (checks.by_itself, fetches("use", href="#nowhere")),
     "another count of calls": (checks.summed_up, lambda page: setattr(next(page.root.iter("li")), "text", "1 calls, 0 refused")),
+    "the mark of patience in the shape of the late one": (looks.marks_unlike, lambda page: shape_of(page, "out-of-patience", "late")),
+    "the mark of patience without its colour": (looks.marks_unlike, lambda page: text_changed(page, "style", ", .mark.out-of-patience", "")),
+    "a mark of the chart in another colour": (looks.marks_unlike, lambda page: next(page.named("clients").iter("use")).set("class", "p9")),
+    "another mark in the legend": (looks.marks_unlike, lambda page: next(page.root.iter("use")).set("href", "#late")),
+    "another patience": (looks.settings, lambda page: text_changed(page, "p", "patience ", "patience 1")),
+    "another wait": (looks.settings, lambda page: text_changed(page, "p", "wait ", "wait 1")),
     "somebody who waits left out": (checks.summed_up, waiting_left_out),
 }
 BY_CALL_ONLY = {"the calls' numbers moved": (checks.times, lambda page: [changed("x")(each) for each in page.named("times").iter("text")])}

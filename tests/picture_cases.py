@@ -16,6 +16,7 @@ from library import ROOT
 from model.record import Settings
 from model.schedule import decode, encode
 from picture_checks import Expected, looked_at
+from picture_looks import KINDS_OF_MARKS
 from picture_pages import HELD, Page
 from picture_schedules import FAR, STILL, Busy, at_the_edges, busy_schedule, great
 from programs import RANGELOG
@@ -123,7 +124,7 @@ def no_schedules():
 def kinds_of_marks():
     """Every kind of mark stands in some page: a refused call, a late claim, patience that is over, and each way to become idle."""
     kinds = {mark.kind for model in expected() for mark in model.marks}
-    yield case("marks drawn", [], (7, 0)), (len(kinds), len(kinds ^ set(MARKED)))
+    yield case("marks drawn", [], (KINDS_OF_MARKS, 0)), (len(kinds), len(kinds ^ set(MARKED)))
 
 
 def sizes():

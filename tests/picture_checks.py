@@ -9,6 +9,7 @@ from histories import Shape, opened
 from model import schedule as schedules
 from model import tree
 from model.history import holds
+from picture_looks import KINDS_OF_MARKS, marks_unlike, settings
 from picture_pages import HELD, Mark, Told
 
 OUTCOMES = {1: "released", 2: "late", 3: "cancelled", 4: "out-of-patience"}
@@ -241,5 +242,5 @@ def looked_at(expected, by):
     return {
         parsed: 1, held_in("clients"): held, held_in("units"): held, phases: bars, rows: expected.schedule.clients + nobody, apart: held,
         times: 1, edges: len(all_edges) if held else 0, marks: len(expected.marks), marks_in_place: len(expected.marks), in_table: held,
-        described: 1, by_itself: 1, summed_up: waiting,
+        described: 1, by_itself: 1, summed_up: waiting, marks_unlike: KINDS_OF_MARKS, settings: 1,
     }

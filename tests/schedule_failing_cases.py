@@ -47,7 +47,7 @@ COMMANDS = {
     "a wrong text": ("echo stop | schedule run", 1,
                      "line 1: the first line wants the settings, as in `tree 2 m 1 wait 5 patience 20 clients 2`; got `stop`\n"),
     "a refused schedule": (f"echo {TOO_MANY_LEVELS} | schedule run", 1,
-                           "refused 11: a tree of over 6 levels, or over 64 clients: these are limits of rangelog and rangepages\n"),
+                           "line 1: rangelog and rangepages run trees of at most 6 levels, not 7; refused by 11\n"),
     "no command": ("schedule", 2, "usage: schedule [-h] COMMAND ...\nschedule: error: the following arguments are required: COMMAND\n"),
     "two files": ("schedule pack whole-case.txt blocked.txt", 2,
                   "usage: schedule [-h] COMMAND ...\nschedule: error: unrecognized arguments: blocked.txt\n"),
@@ -71,7 +71,7 @@ COMMANDS = {
     "no command for rangelog": ("RANGELOG=\"'\" schedule run whole-case.txt", 3,
                                 "schedule: RANGELOG in the environment is no command: No closing quotation\n"),
     "a refused schedule, pages": ("echo tree 2 m 1 wait 5 patience 20 clients 0 | schedule pages", 1,
-                                  "refused 3: no clients: correct the settings\n"),
+                                  "line 1: there is at least 1 client, not 0; refused by 3\n"),
     "rangepages missing": ("RANGEPAGES=/no/rangepages schedule pages whole-case.txt", 3,
                            "schedule: /no/rangepages could not be run: No such file or directory; RANGEPAGES in the environment is "
                            "`/no/rangepages`\n"),

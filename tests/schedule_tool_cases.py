@@ -23,11 +23,12 @@ NAMES["foreseen refusals"] = ("seed",), ("those of the log", "of the whole, if i
 NAMES["unpacking"] = ("place in the list of files", "bytes"), ("refused",)
 
 HEAD = "tree 2 m 1 wait 5 patience 20 clients 2\n"
-WANTS = "wants the settings, as in `tree 2 m 1 wait 5 patience 20 clients 2`; got "
-SETTINGS = "line 1: the first line " + WANTS
+SETTINGS = "line 1: the first line wants the settings, as in `tree 2 m 1 wait 5 patience 20 clients 2`; got "
 CALL = "a call is one of request, step, release, cancel; got "
 STEP = "step wants a client and a clock, as in `step 0 12`; got "
 U64 = " must be a number from 0 to 18446744073709551615; got "
+BEFORE_PATIENCE = ("; a file from before patience has a header of 16 bytes: unpack it with the program that made it, add `patience` to its first "
+                   "line, and pack it again")
 REQUEST = "request wants a client, a left edge and a right edge, as in `request 0 10 20`; got "
 
 # A text, and what is said of it.
@@ -35,23 +36,6 @@ TEXT_ERRORS = {
     "no text": ("", SETTINGS + "nothing"),
     "comments alone": ("# nothing\n\n", SETTINGS + "nothing"),
     "no settings": ("step 0 1\n", SETTINGS + "`step 0 1`"),
-    "patience left out": ("tree 2 m 1 wait 5 clients 2\n", "line 1: the first line lacks patience: it " + WANTS + "`tree 2 m 1 wait 5 clients 2`"),
-    "patience left out on line 3": ("# why\n\ntree 3 m 2 wait 9 clients 4\nstep 0 1",
-                                    "line 3: the first line lacks patience: it " + WANTS + "`tree 3 m 2 wait 9 clients 4`"),
-    "three settings left out": ("tree 2 wait 5\n", "line 1: the first line lacks m, patience and clients: it " + WANTS + "`tree 2 wait 5`"),
-    "patience twice": ("tree 2 m 1 wait 5 patience 20 patience 20 clients 2",
-                       "line 1: the first line has patience twice: it " + WANTS + "`tree 2 m 1 wait 5 patience 20 patience 20 clients 2`"),
-    "patience in place of the wait": ("tree 2 m 1 patience 5 patience 20 clients 2",
-                                      "line 1: the first line lacks wait: it " + WANTS + "`tree 2 m 1 patience 5 patience 20 clients 2`"),
-    "a patience without a number": ("tree 2 m 1 wait 5 clients 2 patience", SETTINGS + "`tree 2 m 1 wait 5 clients 2 patience`"),
-    "settings in another order": ("m 1 tree 2 wait 5 patience 20 clients 2", SETTINGS + "`m 1 tree 2 wait 5 patience 20 clients 2`"),
-    "a tree of 65536": ("tree 65536 m 1 wait 5 patience 20 clients 2", "line 1: tree must be a number from 0 to 65535; got `65536`"),
-    "an m of x": ("tree 2 m x wait 5 patience 20 clients 2", "line 1: m must be a number from 0 to 65535; got `x`"),
-    "a wait of 2^32": ("\ntree 2 m 1 wait 4294967296 patience 20 clients 2",
-                       "line 2: wait must be a number from 0 to 4294967295; got `4294967296`"),
-    "a patience of 2^32": ("tree 2 m 1 wait 5 patience 4294967296 clients 2",
-                           "line 1: patience must be a number from 0 to 4294967295; got `4294967296`"),
-    "clients of -1": ("tree 2 m 1 wait 5 patience 20 clients -1", "line 1: clients must be a number from 0 to 65535; got `-1`"),
     "a step without a clock": (HEAD + "\n" * 5 + "step 0\n", "line 7: " + STEP + "`step 0`"),
     "a step with two clocks": (HEAD + "step 0 1 2", "line 2: " + STEP + "`step 0 1 2`"),
     "a request with one edge": (HEAD + "request 0 10 # 20", "line 2: " + REQUEST + "`request 0 10`"),
@@ -105,8 +89,9 @@ FILE_ERRORS = {
     "a header without patience": (WHOLE_CASE[:16], "byte 16: the file ends within its header of 20 bytes"),
     "19 bytes": (WHOLE_CASE[:19], "byte 19: the file ends within its header of 20 bytes"),
     "65537 bytes": (bytes(65537), "byte 65536: a file has at most 65536 bytes; this one goes on"),
-    "offset 16": (with_header(offset=16), "byte 12: the offset of the first call must be at least 20; got 16"),
-    "offset 19": (with_header(offset=19), "byte 12: the offset of the first call must be at least 20; got 19"),
+    "offset 16": (with_header(offset=16), "byte 12: the offset of the first call must be at least 20; got 16" + BEFORE_PATIENCE),
+    "offset 19": (with_header(offset=19), "byte 12: the offset of the first call must be at least 20; got 19" + BEFORE_PATIENCE),
+    "offset 15": (with_header(offset=15), "byte 12: the offset of the first call must be at least 20; got 15"),
     "a byte cut off": (WHOLE_CASE[:-1],
                        "byte 10: 14 calls from byte 20 would end at 20 + 24 * 14 = 356; the file has 355 bytes"),
     "kind 4": (changed(WHOLE_CASE, at_call(3), 4),

@@ -69,7 +69,7 @@ def happened(schedule, log):
         made = opened.make(call)
         after = record_after(made, opened.records)
         events.append(Event(place, call, made.number, before, after, last, opened.clock, logged))
-        if became(events[-1], RETURNING) and after.outcome == OUT_OF_PATIENCE:
+        if out_of_patience(events[-1]):
             given.append(given_up(opened, events[-1]))
     return Happened(schedule, tuple(events), tuple(given), opened.words, opened.records, opened.clock)
 
@@ -81,6 +81,11 @@ def at(event):
 def became(event, phase):
     """Whether this call brought its client into a phase."""
     return event.before.phase != phase and event.after.phase == phase
+
+
+def out_of_patience(event):
+    """Whether this step found its client's patience over, so that it begins to give back."""
+    return became(event, RETURNING) and event.after.outcome == OUT_OF_PATIENCE
 
 
 def given_up(opened, event):

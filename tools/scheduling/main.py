@@ -11,8 +11,8 @@ from scheduling.events import happened
 from scheduling.page_report import page_report
 from scheduling.planning import left_out, plan, plan_lines
 from scheduling.problems import Failed, Wrong
-from scheduling.refusals import foreseen
-from scheduling.running import RANGELOG, RANGEPAGES, refusal, whole_output
+from scheduling.refusals import foreseen, of_whole
+from scheduling.running import RANGELOG, RANGEPAGES, whole_output
 from scheduling.streams import Streams, write_file
 from scheduling.text import LONGEST_TEXT, read_text
 from scheduling.wishes import read_wishes
@@ -75,7 +75,7 @@ def run(program, streams, options):
     """The schedule of what is read, and the lines that a program prints of it, if it was not refused as a whole."""
     source, data = read_source(streams.read(options.file, LONGEST_TEXT))
     printed = whole_output(program, data)
-    if refused := refusal(printed):
+    if refused := of_whole(source):
         raise Wrong(*refused)
     return source, printed
 
@@ -89,13 +89,12 @@ def run_and_happened(streams, options):
 def log_alone(data):
     """The log, also that of a file that is no schedule, with what is wrong with it beside it."""
     try:
-        _, file = read_source(data)
+        source, file = read_source(data)
     except Wrong as wrong:
         if not is_packed(data):
             raise
         return Made(lines(whole_output(RANGELOG, data)), wrong.messages, INPUT_WRONG)
-    log = whole_output(RANGELOG, file)
-    refused = refusal(log)
+    log, refused = whole_output(RANGELOG, file), of_whole(source)
     return Made(lines(log), refused, INPUT_WRONG if refused else DONE)
 
 

@@ -9,6 +9,11 @@ from scheduling.text import KINDS, Source, line_of, settings_line
 
 pack = encode
 
+# The header of a file from before patience.
+WITHOUT_PATIENCE = 16
+AGAIN_WITH_PATIENCE = (f"; a file from before patience has a header of {WITHOUT_PATIENCE} bytes: unpack it with the program that made it, "
+                       "add `patience` to its first line, and pack it again")
+
 
 def header_of(data):
     """The header of a file in which the count of calls and the offset are right."""
@@ -21,7 +26,8 @@ def header_of(data):
     header = Header(*HEADER.unpack_from(data))
     count, offset = header.count, header.offset
     if offset < HEADER.size:
-        raise Wrong(f"byte 12: the offset of the first call must be at least {HEADER.size}; got {offset}")
+        again = AGAIN_WITH_PATIENCE if offset >= WITHOUT_PATIENCE else ""
+        raise Wrong(f"byte 12: the offset of the first call must be at least {HEADER.size}; got {offset}{again}")
     if offset + CALL.size * count > len(data):
         end = f"{offset} + {CALL.size} * {count} = {offset + CALL.size * count}"
         raise Wrong(f"byte 10: {count} calls from byte {offset} would end at {end}; the file has {len(data)} bytes")

@@ -57,6 +57,12 @@ def of_settings(schedule):
         yield 3, "there is at least 1 client, not 0"
 
 
+def of_whole(source, kind=""):
+    """What is said of a schedule that is refused as a whole, with the line of a text; nothing if it is run."""
+    line = f"line {source.settings_line}: " if source.settings_line else ""
+    return tuple(f"{line}{kind}{words}; refused by {number}" for number, words in of_settings(source.schedule))
+
+
 def of_call(schedule, call, last):
     """What will refuse a call whatever phase its client is in: the number and the words, or 0."""
     if call.client >= schedule.clients:
@@ -81,8 +87,7 @@ def of_calls(source):
 
 def foreseen(source):
     """A warning for each line of a text that will be refused; of calls only if the whole schedule is not."""
-    whole = list(of_settings(source.schedule))
-    for number, words in whole:
-        yield f"line {source.settings_line}: warning: {words}; refused by {number}"
+    whole = of_whole(source, "warning: ")
+    yield from whole
     for line, number, words in () if whole else of_calls(source):
         yield f"line {line}: warning: {words}; the lock will refuse this call by {number}"

@@ -3,7 +3,7 @@
 from collections import Counter
 
 from scheduling.columns import in_columns
-from scheduling.events import at, became, holdings
+from scheduling.events import at, became, holdings, out_of_patience
 from scheduling.given_up import given_up_lines
 from scheduling.names import HELD, OUT_OF_PATIENCE, OUTCOMES, PHASES, RETURNING, window
 from scheduling.refusals import words_for
@@ -19,7 +19,7 @@ def phase_in_words(event):
     after = event.after
     if became(event, HELD):
         return f"held: client {event.call.client} holds {window(after.left, after.right)}"
-    if became(event, RETURNING) and after.outcome == OUT_OF_PATIENCE:
+    if out_of_patience(event):
         return f"{PHASES[RETURNING]}, {OUTCOMES[OUT_OF_PATIENCE]}: client {event.call.client} gives {window(after.left, after.right)} up"
     if after.phase == RETURNING:
         return f"{PHASES[RETURNING]}, {OUTCOMES[after.outcome]}"

@@ -8,7 +8,6 @@ from pathlib import Path
 from typing import Callable, NamedTuple
 
 from model import pages, schedule
-from scheduling.names import FILE_REFUSED
 from scheduling.problems import Failed, reason, shown
 from scheduling.streams import program_folder
 
@@ -81,11 +80,3 @@ def whole_output(program, data):
     except Failed as failed:
         beside = f"; {program.name.upper()} in the environment is {shown(asked)}" if asked else ""
         raise Failed(f"{failed}{beside}") from None
-
-
-def refusal(lines):
-    """What is said of a schedule that was refused as a whole; nothing if it was run."""
-    if not lines[0].startswith("refused "):
-        return ()
-    number = int(lines[0].split()[1])
-    return (f"refused {number}: {FILE_REFUSED.get(number, 'the schedule was not run')}",)

@@ -15,6 +15,8 @@ MOST_CALLS = (LONGEST - HEADER.size) // CALL.size
 
 U16, U32, U64 = 2 ** 16 - 1, 2 ** 32 - 1, 2 ** 64 - 1
 SETTINGS = {"tree": U16, "m": U16, "wait": U32, "patience": U32, "clients": U16}
+# Of these every number but 0 is right. A 0 is packed all the same, since the file can hold it.
+AT_LEAST_1 = "wait", "patience"
 SETTINGS_WANTED = "wants the settings, as in `tree 2 m 1 wait 5 patience 20 clients 2`"
 
 
@@ -64,7 +66,8 @@ def number_of(place, name, word, greatest):
     """The number that a word says, if it is one from 0 to the greatest that its field takes. Leading zeros change nothing."""
     digits = word.lstrip("0") or word[-1:]
     if not re.fullmatch("[0-9]{1,20}", digits) or int(digits) > greatest:
-        raise Wrong(f"line {place}: {name} must be a number from 0 to {greatest}; got {shown(word)}")
+        but = ", and 0 is refused by 1" if name in AT_LEAST_1 else ""
+        raise Wrong(f"line {place}: {name} must be a number from 0 to {greatest}{but}; got {shown(word)}")
     return int(digits)
 
 
@@ -81,20 +84,25 @@ def numbers_of(place, named, words):
     return numbers
 
 
-def settings_amiss(names):
-    """What is said of a first line that has not each setting once and in order. What is left out or stands twice is named, if the line
-    has settings at all."""
-    missing, twice = [name for name in SETTINGS if name not in names], [name for name in SETTINGS if names.count(name) > 1]
-    if 0 < len(missing) < len(SETTINGS):
-        return f"lacks {listed(missing)}: it {SETTINGS_WANTED}"
-    return f"has {listed(twice)} twice: it {SETTINGS_WANTED}" if twice else SETTINGS_WANTED
+def settings_amiss(words):
+    """What is said of a first line that has not each setting once and in order. What is left out, has no number or stands twice is named,
+    if the line has settings at all."""
+    names = [word for word in words if word in SETTINGS]
+    bare = {word for word, behind in zip(words, [*words[1:], ""]) if not re.fullmatch("[0-9]+", behind)}
+    amiss = {
+        "lacks {}": [name for name in SETTINGS if name not in names],
+        "has no number behind {}": [name for name in SETTINGS if name in bare],
+        "has {} twice": [name for name in SETTINGS if names.count(name) > 1],
+    }
+    said = [says.format(listed(found)) for says, found in amiss.items() if found and names]
+    return f"{', and '.join(said)}: it {SETTINGS_WANTED}" if said else SETTINGS_WANTED
 
 
 def settings_of(place, words):
     """The numbers of the first line."""
     names, numbers = words[::2], words[1::2]
     if names != list(SETTINGS) or len(numbers) != len(SETTINGS):
-        raise Wrong(f"line {place}: the first line {settings_amiss(names)}; got {shown(' '.join(words))}")
+        raise Wrong(f"line {place}: the first line {settings_amiss(words)}; got {shown(' '.join(words))}")
     return numbers_of(place, SETTINGS, numbers)
 
 
