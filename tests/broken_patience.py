@@ -197,6 +197,7 @@ ONLY_LENT = {
 NOT_IN_LOGS = {
     "outcome 2 in place of 4", "outcome 3 in place of 4", "the third time zeroed when patience has run out", "a cancel with outcome 4",
     "a third time that a window of one piece lacks", "the third time noted again when the second piece is taken",
+    "the third time zeroed by a cancel", "the third time zeroed by a release",
 }
 # What the pages do not show, which have records and no last clock.
 NOT_IN_PAGES = {"the last clock not set when patience has run out"}
