@@ -23,22 +23,18 @@ impl Record {
         requires { ⌜ self .taken ≤ clock ⌝ }
         ensures { λ b. ⌜ b ≡ outOfPatience settings self clock ⌝ }
     {
-        if self.current == 0 {
-            return false;
-        }
-        (1 <= self.phase) & (self.phase <= 8) & (settings.patience <= clock - self.taken)
+        (1 <= self.phase)
+            & (self.phase <= 8)
+            & (0 < self.current)
+            & (settings.patience <= clock - self.taken)
     }
 
     // "a nonzero time at a first piece, save in 9 or in 10 with outcome 1"
     pub fn taken_first(self) -> bool
         ensures { λ b. ⌜ b ≡ takenFirst self ⌝ }
     {
-        if self.taken == 0 {
-            return false;
-        }
-        if self.current != 0 {
-            return false;
-        }
-        !((self.phase == 9) | ((self.phase == 10) & (self.outcome == 1)))
+        (0 < self.taken)
+            & (self.current == 0)
+            & !((self.phase == 9) | ((self.phase == 10) & (self.outcome == 1)))
     }
 }

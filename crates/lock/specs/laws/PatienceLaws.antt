@@ -1,7 +1,7 @@
 -- Laws of patience: where it has not run out a step does the work of its phase, and where it has the record begins to return. Assumes nothing.
 use mathlib.Core.Path.{_≡_, refl, sym, ap, subst, _∙_}
 use mathlib.Core.Logic.{_≢_}
-use mathlib.Core.Bool.{Bool, true, false, not, _&&_, _||_, and-true}
+use mathlib.Core.Bool.{Bool, true, false, not, _&&_, _||_}
 use mathlib.Core.List.{List}
 use Prim.Native.Nat.{ℕ, _-_, _≤_, _<_}
 use native.Mathlib.Omega.{arith}
@@ -38,18 +38,7 @@ module _ (s : Settings) (r : Record) (t : ℕ) where
         later = ltb-true 0 (r .current) (c .1);
       }
 
-  -- a first piece has no patience that could run out
-  pub patient-first : r .current ≡ 0 → outOfPatience s r t ≡ false
-  unfolding outOfPatience
-  patient-first e = ap (λ b. b && leb (s .patience) (t - r .taken)) (second-false (leb 1 (r .phase) && leb (r .phase) 8) _ (le-ltb 0 (r .current) (omega arith)))
-
-  pub out-later : r .current ≢ 0 → (leb 1 (r .phase) && leb (r .phase) 8 && leb (s .patience) (t - r .taken)) ≡ outOfPatience s r t
-  unfolding outOfPatience
-  out-later d =
-      let phases = leb 1 (r .phase) && leb (r .phase) 8 in
-      ap (λ b. b && leb (s .patience) (t - r .taken)) (sym (and-true phases) ∙ ap (λ b. phases && b) (sym (lt-ltb 0 (r .current) (omega arith))))
-
-  -- idle, held and returning records have none either
+  -- idle, held and returning records have no patience that could run out
   pub patient-idle : r .phase ≡ 0 → outOfPatience s r t ≡ false
   unfolding outOfPatience
   patient-idle e = ap (λ b. b && leb (r .phase) 8 && ltb 0 (r .current) && leb (s .patience) (t - r .taken)) (lt-leb 1 (r .phase) (omega arith))
