@@ -18,7 +18,7 @@ ROOT = Path(__file__).resolve().parent.parent
 sys.path[:0] = [str(ROOT), str(ROOT / "python")]
 
 import nolthewyr
-from model import history, record, tree
+from model.binding import ModelTable
 from nolthewyr import Outcome, Phase
 
 CLIENTS, LEVELS, WAIT, HOLD, RUNS = 40, 6, 40, 20, 20
@@ -36,34 +36,6 @@ WAYS = {
 }
 # Nobody has come to a window or to its end for so long that it is given up: all waits by the clock and all pauses are far shorter.
 LONG = 10000
-
-
-class ModelTable:
-    """The model's table, with the calls of the library's. None of the clients' calls is refused."""
-
-    def __init__(self, settings, clients):
-        of_lock = record.Settings(*settings)
-        self.lock = history.Opened(of_lock, [0] * tree.node_count(of_lock.levels), [record.IDLE] * clients)
-
-    def make(self, kind, client, *numbers):
-        number, self.lock.clock = self.lock.answer(history.Call(kind, client, *numbers))
-        assert number == 0, f"{kind} of client {client} is refused by {number}"
-        return self.lock.records[client].phase
-
-    def request(self, client, left, right):
-        return self.make("request", client, left, right)
-
-    def step(self, client, clock):
-        return self.make("step", client, clock)
-
-    def release(self, client):
-        return self.make("release", client)
-
-    def cancel(self, client):
-        return self.make("cancel", client)
-
-    def record(self, client):
-        return self.lock.records[client]
 
 
 class Client:

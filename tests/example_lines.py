@@ -8,48 +8,11 @@ from io import StringIO
 
 from compiled_table import library
 from library import ROOT
-from model import pages, tree
-from model.history import Call, Opened
-from model.record import IDLE, Settings
+from model.binding import ModelTable
+from model.record import Settings
 
 DISTANCE = 2
 CLIENTS = 2
-
-
-class ModelTable:
-    """The model's opened table with the calls of the Python binding. None of the example's calls is refused."""
-
-    def __init__(self, settings, clients):
-        self.lock = Opened(settings, [0] * tree.node_count(settings.levels), [IDLE] * clients)
-
-    def make(self, kind, client, *numbers):
-        made = self.lock.make(Call(kind, client, *numbers))
-        if made.number != 0:
-            raise ValueError(f"{made.call} is refused by {made.number}")
-        return made.phase
-
-    def request(self, client, left, right):
-        return self.make("request", client, left, right)
-
-    def step(self, client, clock):
-        return self.make("step", client, clock)
-
-    def release(self, client):
-        return self.make("release", client)
-
-    def cancel(self, client):
-        return self.make("cancel", client)
-
-    def record(self, client):
-        return self.lock.records[client]
-
-    def planners_page(self):
-        rows = [pages.Row()] * len(self.lock.records)
-        pages.planners_page(self.lock.settings, self.lock.records, rows, self.lock.clock)
-        return rows
-
-    def run_page(self, client):
-        return pages.run_page(self.lock.settings, self.lock.records, client, self.lock.clock)
 
 
 @lru_cache(maxsize=None)
