@@ -31,23 +31,27 @@ pub struct Record {
     pub taken: u64,
 }
 
-// A call as a schedule has it: the kind (0 request, 1 step, 2 release, 3 cancel), the client, the edges a and b of a request or the clock a of a step;
-// and beside it the last clock.
+// A client, as the client table has it: its last clock, "kept beside the record", and its record.
+#[repr(C)]
+pub struct Client {
+    pub clock: u64,
+    pub record: Record,
+}
+
+// A call as a schedule has it: the kind (0 request, 1 step, 2 release, 3 cancel), the client, the edges a and b of a request or the clock a of a step.
 #[repr(C)]
 pub struct Call {
     pub kind: u64,
     pub client: u64,
     pub a: u64,
     pub b: u64,
-    pub last: u64,
 }
 
-// What a call answers: its number (0 accepted), the clock and the record after it.
+// What a call answers: its number (0 accepted), and the client after it.
 #[repr(C)]
 pub struct Stepped {
     pub number: u64,
-    pub clock: u64,
-    pub next: Record,
+    pub next: Client,
 }
 
 // What a phase's own work makes of the word found at the touched node: 0 or 9, the word that it leaves there, and the next record.

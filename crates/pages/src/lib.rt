@@ -1,4 +1,4 @@
-// The pages: what planners see of every client, and what a forecast run sees, of a lent table of records. A page changes no record.
+// The pages: what planners see of every client, and what a forecast run sees, of a lent client table. A page changes no client.
 use lock::Record;
 
 mod causes;

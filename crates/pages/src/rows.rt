@@ -1,12 +1,12 @@
 // The rows of the planners' page.
 ghost use mathlib.Core.Path.{_≡_};
 ghost use mathlib.Core.Bool.{false};
-ghost use mathlib.Core.List.{map};
 ghost use lib.ListN.{length};
 ghost use Rattle.lock.specs.rules.Unreadable.{unreadable};
 ghost use Rattle.lock.specs.laws.Active.{Settled};
-ghost use Rattle.pages.specs.rules.Pages.{rowOf, anyUnreadable};
+ghost use Rattle.pages.specs.rules.Pages.{rowOf, rowsOf, anyUnreadable};
 use crate::Row;
+use lock::Client;
 use lock::Record;
 use lock::Settings;
 
@@ -36,15 +36,15 @@ pub fn row_of(one: Record, settings: Settings, last: u64) -> Row
     }
 }
 
-// A row for each record, in their order.
-pub fn fill_rows(records: &[Record], rows: &mut [Row], settings: Settings, last: u64)
-    requires { ⌜ Settled settings × (length (now rows) ≡ length (now records)) × (anyUnreadable settings (now records) last ≡ false) ⌝ }
-    ensures { λ r. ⌜ now (rows .exit) ≡ map (rowOf settings) (now (records .entry)) ⌝ }
+// A row for each client, in their order.
+pub fn fill_rows(clients: &[Client], rows: &mut [Row], settings: Settings)
+    requires { ⌜ Settled settings × (length (now rows) ≡ length (now clients)) × (anyUnreadable settings (now clients) ≡ false) ⌝ }
+    ensures { λ r. ⌜ now (rows .exit) ≡ rowsOf settings (now (clients .entry)) ⌝ }
 {
     let mut client = 0;
     while client < rows.len() {
-        let one = records[client];
-        rows[client] = row_of(one, settings, last);
+        let one = clients[client];
+        rows[client] = row_of(one.record, settings, one.clock);
         client = client + 1;
     }
 }

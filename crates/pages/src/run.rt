@@ -6,6 +6,7 @@ ghost use Rattle.pages.specs.laws.RunLaws.{refusedPage, ownPage};
 use crate::RunPage;
 use crate::causes;
 use crate::counts;
+use lock::Client;
 use lock::Record;
 use lock::Settings;
 
@@ -21,16 +22,17 @@ fn refused_page(number: u64) -> RunPage
 }
 
 // What is left of a run's page after 1, 3 and 4: 6, for its own record alone.
-fn own_page(own: Record, settings: Settings, last: u64, held: u64) -> RunPage
+fn own_page(own: Client, settings: Settings, held: u64) -> RunPage
     requires { ⌜ Settled settings ⌝ }
-    ensures { λ p. ⌜ p ≡ ownPage settings own last held ⌝ }
+    ensures { λ p. ⌜ p ≡ ownPage settings own held ⌝ }
 {
-    if own.unreadable(settings, last) {
+    let one = own.record;
+    if one.unreadable(settings, own.clock) {
         return refused_page(6);
     }
     RunPage {
         number: 0,
-        own: own,
+        own: one,
         held: held,
     }
 }
@@ -38,19 +40,18 @@ fn own_page(own: Record, settings: Settings, last: u64, held: u64) -> RunPage
 // The run's own record and how many clients are in phase 9, and no more. Tests 1, 3, 4, 6.
 #[no_mangle]
 pub extern "C" fn nolthewyr_run_page(
-    records: &[Record],
+    clients: &[Client],
     settings: Settings,
     client: u64,
-    last: u64,
 ) -> RunPage
-    ensures { λ p. ⌜ p ≡ runPage settings (now (records .entry)) last client ⌝ }
+    ensures { λ p. ⌜ p ≡ runPage settings (now (clients .entry)) client ⌝ }
 {
-    let cause = causes::run_cause(settings, records.len(), client);
+    let cause = causes::run_cause(settings, clients.len(), client);
     if 0 < cause {
         return refused_page(cause);
     }
-    let held = counts::held_count(records);
+    let held = counts::held_count(clients);
     let at = client as usize;
-    let own = records[at];
-    own_page(own, settings, last, held)
+    let own = clients[at];
+    own_page(own, settings, held)
 }

@@ -258,14 +258,14 @@ pub extern "C" fn probe_cover(h: u64, l: u64, r: u64) -> cover::Answer
 
 #[no_mangle]
 pub extern "C" fn probe_act(
-    client: lock::Record,
+    client: lock::Client,
     words: &mut [u64],
     settings: lock::Settings,
     call: lock::Call,
     kind: u64,
 ) -> lock::Stepped
-    ensures answer { λ s. ⌜ s ≡ answerTo settings client (now (words .entry)) (call .last) (callOf kind (call .client) (call .a) (call .b)) ⌝ }
-    ensures words { λ s. ⌜ now (words .exit) ≡ wordsAfter settings client (now (words .entry)) (call .last) (callOf kind (call .client) (call .a) (call .b)) ⌝ }
+    ensures answer { λ s. ⌜ s ≡ answerTo settings client (now (words .entry)) (callOf kind (call .client) (call .a) (call .b)) ⌝ }
+    ensures words { λ s. ⌜ now (words .exit) ≡ wordsAfter settings client (now (words .entry)) (callOf kind (call .client) (call .a) (call .b)) ⌝ }
 {
     client.act(words, settings, call, kind)
 }

@@ -5,7 +5,7 @@ ghost use lib.ListN.{length, take};
 ghost use Rattle.io.specs.Counts.{Counts};
 ghost use Rattle.lock.specs.laws.Active.{Settled};
 ghost use Rattle.pages.specs.rules.Pages.{heldCount};
-ghost use Rattle.schedule.specs.laws.RunLaws.{recordsOf};
+ghost use Rattle.schedule.specs.laws.RunLaws.{clientsOf};
 ghost use Rattle.schedule.specs.rules.Refusal.{refusal};
 ghost use Rattle.schedule.specs.laws.Appended.{Appended};
 ghost use Rattle.rangepages.specs.rules.Printed.{rowLine, recordLine, lineEach, room, pagesOf, Paged};
@@ -17,15 +17,15 @@ use schedule::Run;
 // How many of the schedule's clients are in phase 9.
 fn held_in(run: Run) -> u64
     requires { ⌜ Full run ⌝ }
-    ensures { λ n. ⌜ n ≡ heldCount (recordsOf run) ⌝ }
+    ensures { λ n. ⌜ n ≡ heldCount (clientsOf run) ⌝ }
 {
     let shelf = run.shelf;
     let clients = run.clients;
     let mut held = 0;
     let mut client = 0;
     while client < clients {
-        let own = schedule::record_of(shelf, clients, client as u64);
-        held = held + pages::in_phase_9(own);
+        let own = schedule::client_of(shelf, clients, client as u64);
+        held = held + pages::in_phase_9(own.record);
         client = client + 1;
     }
     held
@@ -34,7 +34,7 @@ fn held_in(run: Run) -> u64
 // "a line for each client, number and row"
 fn put_rows(out: &mut [u8], run: Run, settings: Settings) -> usize
     requires { ⌜ Full run × (Settled settings × (Readable settings run × (room ≤ length (now out)))) ⌝ }
-    ensures piece { λ r. ⌜ Appended (now (out .entry)) 0 (now (out .exit)) r (lineEach (rowLine settings) 0 (recordsOf run)) ⌝ }
+    ensures piece { λ r. ⌜ Appended (now (out .entry)) 0 (now (out .exit)) r (lineEach (rowLine settings) 0 (clientsOf run)) ⌝ }
     ensures short { λ r. ⌜ r ≤ 147 * run .clients ⌝ }
 {
     let shelf = run.shelf;
@@ -42,8 +42,8 @@ fn put_rows(out: &mut [u8], run: Run, settings: Settings) -> usize
     let mut end = 0;
     let mut client = 0;
     while client < clients {
-        let own = schedule::record_of(shelf, clients, client as u64);
-        let row = pages::row_of(own, settings, run.clock);
+        let own = schedule::client_of(shelf, clients, client as u64);
+        let row = pages::row_of(own.record, settings, own.clock);
         end = lines::put_row(out, end, client as u64, row);
         client = client + 1;
     }
@@ -53,15 +53,15 @@ fn put_rows(out: &mut [u8], run: Run, settings: Settings) -> usize
 // "then one for each, number, record and count"
 fn put_records(out: &mut [u8], at: usize, run: Run, held: u64) -> usize
     requires { ⌜ Full run × (at + 357 * run .clients ≤ length (now out)) ⌝ }
-    ensures { λ r. ⌜ Appended (now (out .entry)) at (now (out .exit)) r (lineEach (recordLine held) 0 (recordsOf run)) ⌝ }
+    ensures { λ r. ⌜ Appended (now (out .entry)) at (now (out .exit)) r (lineEach (recordLine held) 0 (clientsOf run)) ⌝ }
 {
     let shelf = run.shelf;
     let clients = run.clients;
     let mut end = at;
     let mut client = 0;
     while client < clients {
-        let own = schedule::record_of(shelf, clients, client as u64);
-        end = lines::put_record(out, end, client as u64, own, held);
+        let own = schedule::client_of(shelf, clients, client as u64);
+        end = lines::put_record(out, end, client as u64, own.record, held);
         client = client + 1;
     }
     end

@@ -96,9 +96,9 @@ fn place_of(bytes: &[u8], k: usize) -> usize
     offset + 24 * k
 }
 
-fn call_at(bytes: &[u8], at: usize, last: u64) -> Call
+fn call_at(bytes: &[u8], at: usize) -> Call
     requires { ⌜ at + 24 ≤ length (now bytes) ⌝ }
-    ensures { λ r. ⌜ CallReadAt (now (bytes .entry)) at last r ⌝ }
+    ensures { λ r. ⌜ CallReadAt (now (bytes .entry)) at r ⌝ }
 {
     let kind = u8_at(bytes, at);
     let client = u16_at(bytes, at + 2);
@@ -109,17 +109,16 @@ fn call_at(bytes: &[u8], at: usize, last: u64) -> Call
         client,
         a,
         b,
-        last,
     }
 }
 
-// Call k, with the last clock beside it.
-pub fn call_in(bytes: &[u8], k: usize, last: u64) -> Call
+// Call k.
+pub fn call_in(bytes: &[u8], k: usize) -> Call
     requires { ⌜ placeOf (now bytes) (suc k) ≤ length (now bytes) ⌝ }
-    ensures { λ r. ⌜ CallRead (now (bytes .entry)) k last r ⌝ }
+    ensures { λ r. ⌜ CallRead (now (bytes .entry)) k r ⌝ }
 {
     let at = place_of(bytes, k);
-    call_at(bytes, at, last)
+    call_at(bytes, at)
 }
 
 // ---- "an unknown kind or a filled zero field"; "Request: a = l, b = r. Step: a = clock, b = 0. Else both 0."

@@ -1,56 +1,67 @@
-// The calls over a shelf. Its first records, one for each client, are lent to the call over a table, and the shelf is handed back with what it left. A caller
+// The calls over a shelf. Its first clients, as many as the schedule has, are lent to the call over a table, and the shelf is handed back with what it left. A caller
 // holds the shelf by value.
 ghost use mathlib.Core.Path.{_≡_};
 ghost use Prim.Native.Nat.{_≤_};
 ghost use lib.ListN.{getD, take, replicate};
 ghost use Rattle.lock.specs.rules.Table as Table;
-ghost use Rattle.lock.specs.rules.Records.{idleWith};
+ghost use Rattle.lock.specs.rules.Records.{idleClient};
 ghost use Rattle.lock.specs.rules.ByValue.{callOf};
 ghost use Rattle.table.specs.rules.Lent.{lent, result};
 use crate::Acted;
 use crate::Shelf;
 use lock::Call;
+use lock::Client;
 use lock::Record;
 use lock::Settings;
 use table::table_act;
 
-// 64 idle records.
-pub fn empty_shelf() -> Shelf
-    ensures { λ r. ⌜ r .records ≡ replicate 64 (idleWith 0) ⌝ }
+// A client as an opening leaves it.
+fn idle_client() -> Client
+    ensures { λ c. ⌜ c ≡ idleClient ⌝ }
 {
-    let idle = Record::idle_with(0);
-    Shelf {
-        records: [idle; 64],
+    Client {
+        clock: 0,
+        record: Record::idle_with(0),
     }
 }
 
-// The call that its kind names, on the records of the first clients.
+// 64 idle clients.
+pub fn empty_shelf() -> Shelf
+    ensures { λ r. ⌜ r .clients ≡ replicate 64 idleClient ⌝ }
+{
+    let idle = idle_client();
+    Shelf {
+        clients: [idle; 64],
+    }
+}
+
+// The call that its kind names, on the first clients.
 pub fn act_front(
     shelf: Shelf,
-    clients: usize,
+    count: usize,
     words: &mut [u64],
     settings: Settings,
     call: Call,
 ) -> Acted
-    requires { ⌜ clients ≤ 64 ⌝ }
-    ensures { λ r. ⌜ result (r .answer .number) (take clients (r .shelf .records)) (now (words .exit)) (r .answer .clock) ≡ Table.call settings (lent (take clients (shelf .records)) (now (words .entry)) (call .last)) (callOf (call .kind) (call .client) (call .a) (call .b)) ⌝ }
+    requires { ⌜ count ≤ 64 ⌝ }
+    ensures { λ r. ⌜ result (r .number) (take count (r .shelf .clients)) (now (words .exit)) ≡ Table.call settings (lent (take count (shelf .clients)) (now (words .entry))) (callOf (call .kind) (call .client) (call .a) (call .b)) ⌝ }
 {
-    let mut records = shelf.records;
-    let answer = table_act(&mut records[..clients], words, settings, call, call.kind);
+    let mut clients = shelf.clients;
+    let number = table_act(&mut clients[..count], words, settings, call, call.kind);
     Acted {
-        answer: answer,
-        shelf: Shelf { records: records },
+        number: number,
+        shelf: Shelf { clients: clients },
     }
 }
 
-// The record of a client after a call; of a client past the table an idle one.
-pub fn record_of(shelf: Shelf, clients: usize, client: u64) -> Record
-    requires { ⌜ clients ≤ 64 ⌝ }
-    ensures { λ r. ⌜ r ≡ getD (take clients (shelf .records)) client (idleWith 0) ⌝ }
+// A client after a call; past the table an idle one.
+pub fn client_of(shelf: Shelf, count: usize, client: u64) -> Client
+    requires { ⌜ count ≤ 64 ⌝ }
+    ensures { λ c. ⌜ c ≡ getD (take count (shelf .clients)) client idleClient ⌝ }
 {
-    if clients as u64 <= client {
-        return Record::idle_with(0);
+    if count as u64 <= client {
+        return idle_client();
     }
     let at = client as usize;
-    shelf.records[at]
+    shelf.clients[at]
 }

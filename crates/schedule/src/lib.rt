@@ -1,7 +1,6 @@
 // A schedule: the file format that the programs read, the calls in it made one after another, and the log of them.
-use lock::Record;
+use lock::Client;
 use lock::Settings;
-use table::Answer;
 
 mod format;
 mod front;
@@ -10,7 +9,7 @@ mod running;
 mod text;
 
 pub use format::settings_in;
-pub use front::record_of;
+pub use front::client_of;
 pub use logging::log;
 pub use running::refusal;
 pub use running::run_schedule;
@@ -19,22 +18,21 @@ pub use text::put_decimal;
 pub use text::put_refused;
 pub use text::put_spaced;
 
-// The records of up to 64 clients, kept by value: a call is made on the first of them, as many as there are clients.
+// Up to 64 clients, kept by value: a call is made on the first of them, as many as the schedule has.
 pub struct Shelf {
-    pub records: [Record; 64],
+    pub clients: [Client; 64],
 }
 
-// What a call over the shelf gives: its answer, and the shelf after it.
+// What a call over the shelf gives: its number (0 accepted), and the shelf after it.
 pub struct Acted {
-    pub answer: Answer,
+    pub number: u64,
     pub shelf: Shelf,
 }
 
-// How far a run of a schedule has come: the shelf, how many clients it has, and the last clock. The words are lent beside it.
+// How far a run of a schedule has come: the shelf, and how many clients the schedule has. The words are lent beside it.
 pub struct Run {
     pub shelf: Shelf,
     pub clients: usize,
-    pub clock: u64,
 }
 
 // A schedule's table before its first call: the settings, the run, and words of which the first `count` are the tree's.

@@ -26,10 +26,10 @@ fn put_made(out: &mut [u8], at: usize, bytes: &[u8], k: usize, made: Made) -> us
     ensures short { λ r. ⌜ r ≤ at + 144 ⌝ }
 {
     let run = made.run;
-    let call = format::call_in(bytes, k, run.clock);
+    let call = format::call_in(bytes, k);
     let shelf = run.shelf;
-    let after = front::record_of(shelf, run.clients, call.client);
-    text::put_line(out, at, k as u64, call, made.number, after)
+    let after = front::client_of(shelf, run.clients, call.client);
+    text::put_line(out, at, k as u64, call, made.number, after.record)
 }
 
 // "After it each call has a line": the header line, and a line for each call.

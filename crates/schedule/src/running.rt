@@ -1,4 +1,4 @@
-// The calls of a schedule, made one after another on a run: records on a shelf, the words lent beside it. Nothing is written here.
+// The calls of a schedule, made one after another on a run: clients on a shelf, the words lent beside it. Nothing is written here.
 ghost use mathlib.Core.Path.{_≡_};
 ghost use Prim.Native.Nat.{suc, _≤_};
 ghost use lib.ListN.{length, take, replicate};
@@ -9,7 +9,7 @@ ghost use Rattle.table.specs.rules.Lent.{result};
 ghost use Rattle.schedule.specs.rules.Format.{settingsIn, clientsIn, placeOf, callIn, callsIn, lentFor};
 ghost use Rattle.schedule.specs.rules.Running.{openingIn, afterCalls};
 ghost use Rattle.schedule.specs.rules.Refusal.{refusal};
-ghost use Rattle.schedule.specs.laws.RunLaws.{recordsOf, stateOf, freshRun};
+ghost use Rattle.schedule.specs.laws.RunLaws.{clientsOf, stateOf, freshRun};
 ghost use Rattle.schedule.specs.laws.WellFormed.{WellFormed};
 use crate::Begun;
 use crate::Made;
@@ -37,7 +37,7 @@ fn zero_words() -> [u64; 1365]
     [0; 1365]
 }
 
-// The number of a schedule's opening (0 accepted). What is lent to it is fresh, words of 0 and idle records, and that is also what it leaves: only the number is to
+// The number of a schedule's opening (0 accepted). What is lent to it is fresh, words of 0 and idle clients, and that is also what it leaves: only the number is to
 // be found.
 fn opening_number(settings: Settings, clients: usize) -> u64
     requires { ⌜ settings .levels ≤ 6 ⌝ }
@@ -60,35 +60,32 @@ pub fn refusal(bytes: &[u8]) -> u64
     opening_number(settings, clients)
 }
 
-// The run before the first call: idle records, and the clock 0.
+// The run before the first call: idle clients.
 fn fresh_run(clients: usize) -> Run
     ensures { λ r. ⌜ r ≡ freshRun clients ⌝ }
 {
     Run {
         shelf: front::empty_shelf(),
         clients: clients,
-        clock: 0,
     }
 }
 
 // Makes call k of the file.
 pub fn make_call(bytes: &[u8], k: usize, run: Run, words: &mut [u64], settings: Settings) -> Made
     requires { ⌜ (placeOf (now bytes) (suc k) ≤ length (now bytes)) × (run .clients ≤ 64) ⌝ }
-    ensures made { λ r. ⌜ result (r .number) (recordsOf (r .run)) (now (words .exit)) (r .run .clock) ≡ Table.call settings (stateOf run (now (words .entry))) (callIn (now (bytes .entry)) k) ⌝ }
+    ensures made { λ r. ⌜ result (r .number) (clientsOf (r .run)) (now (words .exit)) ≡ Table.call settings (stateOf run (now (words .entry))) (callIn (now (bytes .entry)) k) ⌝ }
     ensures clients { λ r. ⌜ r .run .clients ≡ run .clients ⌝ }
 {
-    let call = format::call_in(bytes, k, run.clock);
+    let call = format::call_in(bytes, k);
     let shelf = run.shelf;
     let clients = run.clients;
     let acted = front::act_front(shelf, clients, words, settings, call);
-    let answer = acted.answer;
     let next = acted.shelf;
     Made {
-        number: answer.number,
+        number: acted.number,
         run: Run {
             shelf: next,
             clients: clients,
-            clock: answer.clock,
         },
     }
 }
@@ -132,8 +129,7 @@ pub fn begin(bytes: &[u8]) -> Begun
 // Makes all calls of a schedule that is not refused. The words are let go with it.
 pub fn run_schedule(bytes: &[u8]) -> Run
     requires { ⌜ refusal (now bytes) ≡ 0 ⌝ }
-    ensures records { λ r. ⌜ recordsOf r ≡ afterCalls (now (bytes .entry)) .records ⌝ }
-    ensures clock { λ r. ⌜ r .clock ≡ afterCalls (now (bytes .entry)) .clock ⌝ }
+    ensures table { λ r. ⌜ clientsOf r ≡ afterCalls (now (bytes .entry)) .clients ⌝ }
     ensures clients { λ r. ⌜ r .clients ≡ clientsIn (now (bytes .entry)) ⌝ }
 {
     let begun = begin(bytes);

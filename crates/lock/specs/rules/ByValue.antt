@@ -1,10 +1,9 @@
--- To be believed: the calls on one client's record by value, by the call: number, clock and record after it, and the words after it; and the call that a kind
--- names. Assumes nothing.
+-- To be believed: the calls on one client by value, by the call: the number, the client and the words after it; and the call that a kind names. Assumes nothing.
 use mathlib.Core.List.{List}
 use Prim.Native.Nat.{ℕ}
 use lib.Dec.{eqb}
 use Rattle.base.specs.rules.Choice.{choose}
-use Rattle.lock.specs.declared.Record.{Record}
+use Rattle.lock.specs.declared.Client.{Client}
 use Rattle.lock.specs.declared.Settings.{Settings}
 use Rattle.lock.specs.declared.Stepped.{Stepped}
 use Rattle.lock.specs.rules.Calls.{requestAnswer, releaseAnswer, cancelAnswer, stepAnswer, stepWords}
@@ -15,16 +14,16 @@ unfoldable pub callOf : ℕ → ℕ → ℕ → ℕ → Call
 callOf kind client a b =
     choose (eqb kind 0) (request client a b) (choose (eqb kind 1) (step client a) (choose (eqb kind 2) (release client) (cancel client)))
 
--- "A client record goes into a step and comes back by value": what a call gives on one record, its number, the clock and the record after it
-unfoldable pub answerTo : Settings → Record → List ℕ → ℕ → Call → Stepped
-answerTo s r words last (request c a b) = requestAnswer s r words last a b
-answerTo s r words last (step c t) = stepAnswer s r words last t
-answerTo s r words last (release c) = releaseAnswer s r words last
-answerTo s r words last (cancel c) = cancelAnswer s r words last
+-- "A client record goes into a step and comes back by value", and its last clock with it: what a call gives on one client, its number and the client after it
+unfoldable pub answerTo : Settings → Client → List ℕ → Call → Stepped
+answerTo s c words (request d a b) = requestAnswer s c words a b
+answerTo s c words (step d t) = stepAnswer s c words t
+answerTo s c words (release d) = releaseAnswer s c words
+answerTo s c words (cancel d) = cancelAnswer s c words
 
 -- only a step touches a word
-unfoldable pub wordsAfter : Settings → Record → List ℕ → ℕ → Call → List ℕ
-wordsAfter s r words last (request c a b) = words
-wordsAfter s r words last (step c t) = stepWords s r words last t
-wordsAfter s r words last (release c) = words
-wordsAfter s r words last (cancel c) = words
+unfoldable pub wordsAfter : Settings → Client → List ℕ → Call → List ℕ
+wordsAfter s c words (request d a b) = words
+wordsAfter s c words (step d t) = stepWords s c words t
+wordsAfter s c words (release d) = words
+wordsAfter s c words (cancel d) = words

@@ -1,5 +1,6 @@
--- To be believed: document 01, section "Refused calls" and the last paragraph of "Phases", and document 02, request 2.2: the tests of each call in their order, and
--- what an accepted call makes of the record, the words and the clock. The calls are by value, on one record; Table.antt has the same over the table. Assumes nothing.
+-- To be believed: document 01, section "Refused calls" and the last paragraph of "Phases", and document 02, requests 2.2 and 2.3: the tests of each call in their order, and
+-- what an accepted call makes of the client, its clock and its record, and of the words. The calls are by value, on one client; Table.antt has the same over the table. `last`
+-- is the client's last clock. Assumes nothing.
 use mathlib.Core.Bool.{Bool, not, _||_}
 use mathlib.Core.List.{List, [], _∷_, _++_}
 use Prim.Native.Nat.{ℕ}
@@ -8,10 +9,11 @@ use lib.ListN.{length, getD}
 use Rattle.base.specs.rules.Choice.{choose}
 use Rattle.tree.specs.rules.Tree.{wordCount}
 use Rattle.cover.specs.rules.Answer.{levelsOutside, windowOutside}
+use Rattle.lock.specs.declared.Client.{Client}
 use Rattle.lock.specs.declared.Record.{Record}
 use Rattle.lock.specs.declared.Settings.{Settings}
 use Rattle.lock.specs.declared.Stepped.{Stepped}
-use Rattle.lock.specs.rules.Records.{coverOf, windowed, gripOf, wordAt, written, sentBack, idleWith}
+use Rattle.lock.specs.rules.Records.{coverOf, windowed, gripOf, wordAt, written, sentBack, idleWith, clientWith}
 use Rattle.lock.specs.rules.Unreadable.{differ, unreadable}
 use Rattle.lock.specs.rules.Steps.{touched, moved, startPhase}
 
@@ -45,7 +47,7 @@ clientTests count client = (clientsOutside count, 3) ∷ (leb count client, 4) �
 unfoldable pub requestTests : Settings → Record → ℕ → ℕ → ℕ → Tests
 requestTests s r last a b = (unreadable s r last, 6) ∷ (windowOutside (s .levels) a b, 7) ∷ (differ (r .phase) 0, 8) ∷ []
 
--- step: 5, 6, 9; "Only a step tests 5 and 9"
+-- step: 5, 6, 9; "Only a step tests 5 and 9"; 2.3, "Cause 5 now compares with that client's last clock"
 unfoldable pub stepTests : Settings → Record → List ℕ → ℕ → ℕ → Tests
 stepTests s r words last clock =
     (ltb clock last, 5) ∷ (unreadable s r last, 6) ∷ (differ (moved s r (wordAt words (touched s r clock)) clock .number) 0, 9) ∷ []
@@ -73,33 +75,35 @@ released r = sentBack 1 r
 unfoldable pub cancelled : Record → Record
 cancelled r = choose (eqb (gripOf r 0) 0) (idleWith 3) (sentBack 3 r)
 
--- ---- a call by value: number, clock and record after it, and the words
+-- ---- a call by value: its number, the client after it, and the words
 
--- "As it was": a refused call gives its number, and the record and the clock as they were
-unfoldable pub answered : ℕ → Record → ℕ → Record → ℕ → Stepped
-answered number r last next clock =
-    choose (eqb number 0) (record { number = 0; clock = clock; next = next }) (record { number = number; clock = last; next = r })
+-- "As it was": a refused call gives its number, and the client as it was
+unfoldable pub answered : ℕ → Client → Client → Stepped
+answered number c next = choose (eqb number 0) (record { number = 0; next = next }) (record { number = number; next = c })
 
-unfoldable pub requestNumber : Settings → Record → List ℕ → ℕ → ℕ → ℕ → ℕ
-requestNumber s r words last a b = firstCause (treeTests s (length words) ++ requestTests s r last a b)
+unfoldable pub requestNumber : Settings → Client → List ℕ → ℕ → ℕ → ℕ
+requestNumber s c words a b = firstCause (treeTests s (length words) ++ requestTests s (c .«record») (c .clock) a b)
 
-unfoldable pub requestAnswer : Settings → Record → List ℕ → ℕ → ℕ → ℕ → Stepped
-requestAnswer s r words last a b = answered (requestNumber s r words last a b) r last (requested s a b) last
+unfoldable pub requestAnswer : Settings → Client → List ℕ → ℕ → ℕ → Stepped
+requestAnswer s c words a b = answered (requestNumber s c words a b) c (clientWith (c .clock) (requested s a b))
 
-unfoldable pub releaseAnswer : Settings → Record → List ℕ → ℕ → Stepped
-releaseAnswer s r words last = answered (firstCause (treeTests s (length words) ++ releaseTests s r last)) r last (released r) last
+unfoldable pub releaseAnswer : Settings → Client → List ℕ → Stepped
+releaseAnswer s c words =
+    answered (firstCause (treeTests s (length words) ++ releaseTests s (c .«record») (c .clock))) c (clientWith (c .clock) (released (c .«record»)))
 
-unfoldable pub cancelAnswer : Settings → Record → List ℕ → ℕ → Stepped
-cancelAnswer s r words last = answered (firstCause (treeTests s (length words) ++ cancelTests s r last)) r last (cancelled r) last
+unfoldable pub cancelAnswer : Settings → Client → List ℕ → Stepped
+cancelAnswer s c words =
+    answered (firstCause (treeTests s (length words) ++ cancelTests s (c .«record») (c .clock))) c (clientWith (c .clock) (cancelled (c .«record»)))
 
-unfoldable pub stepNumber : Settings → Record → List ℕ → ℕ → ℕ → ℕ
-stepNumber s r words last clock = firstCause (treeTests s (length words) ++ stepTests s r words last clock)
+unfoldable pub stepNumber : Settings → Client → List ℕ → ℕ → ℕ
+stepNumber s c words clock = firstCause (treeTests s (length words) ++ stepTests s (c .«record») words (c .clock) clock)
 
--- "An accepted step sets the last clock."
-unfoldable pub stepAnswer : Settings → Record → List ℕ → ℕ → ℕ → Stepped
-stepAnswer s r words last clock =
-    answered (stepNumber s r words last clock) r last (moved s r (wordAt words (touched s r clock)) clock .next) clock
+-- "An accepted step sets the last clock.", its client's
+unfoldable pub stepAnswer : Settings → Client → List ℕ → ℕ → Stepped
+stepAnswer s c words clock =
+    answered (stepNumber s c words clock) c (clientWith clock (moved s (c .«record») (wordAt words (touched s (c .«record») clock)) clock .next))
 
-unfoldable pub stepWords : Settings → Record → List ℕ → ℕ → ℕ → List ℕ
-stepWords s r words last clock =
-    choose (eqb (stepNumber s r words last clock) 0) (written words (touched s r clock) (moved s r (wordAt words (touched s r clock)) clock .word)) words
+unfoldable pub stepWords : Settings → Client → List ℕ → ℕ → List ℕ
+stepWords s c words clock =
+    choose (eqb (stepNumber s c words clock) 0)
+    (written words (touched s (c .«record») clock) (moved s (c .«record») (wordAt words (touched s (c .«record») clock)) clock .word)) words

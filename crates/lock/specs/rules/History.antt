@@ -1,22 +1,21 @@
--- To be believed: document 01, section "Histories": what a history is, and from it alone when a client holds, when it is idle, and what demand 3 claims; and what it is that every record is
--- readable, by cause 6.
--- Assumes nothing.
+-- To be believed: document 01, section "Histories", and document 02, request 2.3: what a history is, and from it alone when a client holds, when it is idle, what is
+-- supposed of true moments, and what demand 3 claims; and what it is that every record is readable, by cause 6. Assumes nothing.
 use mathlib.Core.Path.{_≡_}
 use mathlib.Core.Logic.{_⊎_}
 use mathlib.Core.Bool.{false}
 use mathlib.Core.List.{List, [], _∷_, _++_}
-use Prim.Native.Nat.{ℕ, _≤_, _<_}
+use Prim.Native.Nat.{ℕ, zero, suc, _*_, _-_, _≤_, _<_}
 use lib.ListN.{length}
 use Rattle.word.specs.rules.Word.{exp, occ, tcnt, tmax, dcnt, dmax}
 use Rattle.tree.specs.rules.Tree.{level, Node}
 use Rattle.lock.specs.declared.Settings.{Settings}
 use Rattle.lock.specs.rules.Records.{wordAt}
 use Rattle.lock.specs.rules.Unreadable.{unreadable}
-use Rattle.lock.specs.rules.Table.{State, Call, request, step, release, cancel, clientOf, recordAt, call}
+use Rattle.lock.specs.rules.Table.{State, Call, request, step, release, cancel, clientOf, recordAt, clockAt, call}
 
 -- ---- "A history is a list of calls"
 
--- "Every call in it is made with that opening's H, m and T, on the words, records and last clock that the call before left"; and 2.9, "each history keeping one P .. as
+-- "Every call in it is made with that opening's H, m and T, on the words, records and last clock that the call before left", now each client's; and 2.9, "each history keeping one P .. as
 -- it keeps one H, m and T"
 unfoldable pub run : Settings → State → List Call → State
 run s st [] = st
@@ -121,19 +120,40 @@ pub record Clean (s : Settings) (words : List ℕ) : Type 0 where
   pub leaf : (n : ℕ) → Node (s .levels) n → level n ≡ s .levels → wordAt words n ≡ 0
   pub inner : (n : ℕ) → Node (s .levels) n → level n < s .levels → CleanInner (wordAt words n)
 
+-- ---- 2.3, "Suppose accepted steps have true whole-number moments": of requests, releases, cancels and refused calls nothing is supposed
+
+-- at place i of the history stands an accepted step of the client c by the clock t
+unfoldable pub StepAt : List Event → (i c t : ℕ) → Type 0
+StepAt [] i c t = ⊥
+StepAt (e ∷ es) zero c t = (e .number ≡ 0) × (e .made ≡ step c t)
+StepAt (e ∷ es) (suc i) c t = StepAt es i c t
+
+-- from the clock t to the clock u, and from the moment m to the moment n: "10,000 times its own elapsed ticks lies between 9,999 and 10,001 times the true elapse"
+abbrev pub Steady : (t u m n : ℕ) → Type 0
+Steady t u m n = (9999 * (n - m) ≤ 10000 * (u - t)) × (10000 * (u - t) ≤ 10001 * (n - m))
+
+-- `moment i` is the moment of the call at place i
+pub record TrueMoments (h : List Event) (moment : ℕ → ℕ) : Type 0 where
+  -- "that never go back along a history"
+  pub never-back : (i j c d t u : ℕ) → i < j → StepAt h i c t → StepAt h j d u → moment i ≤ moment j
+  -- "and between any two accepted steps of one client .."
+  pub steady : (i j c t u : ℕ) → i < j → StepAt h i c t → StepAt h j c u → Steady t u (moment i) (moment j)
+
 -- ---- "Demand 3 is one claim about the whole history"
 
 -- "no two different clients hold windows that overlap"
 abbrev pub SingleHolding : List Event → Type 0
 SingleHolding h = (c d l r k q : ℕ) → (c ≡ d → ⊥) → Holds h c l r → Holds h d k q → Overlap l r k q → ⊥
 
--- st is what "an accepted opening left". All clients are those below the table's count: of any other every call is refused by 4.
+-- st is what "an accepted opening left". 2.3, "Demand 3's single holding is then shown for every history that meets this supposition; what it says of idle clients stays for any
+-- clocks." All clients are those below the table's count: of any other every call is refused by 4.
 abbrev pub Demand3 : Settings → State → List Call → Type 0
 Demand3 s st ks =
-    SingleHolding (events s st ks) × (((c : ℕ) → c < length (st .records) → Idle (events s st ks) c) → Clean s (run s st ks .words))
+    ((moment : ℕ → ℕ) → TrueMoments (events s st ks) moment → SingleHolding (events s st ks))
+    × (((c : ℕ) → c < length (st .clients) → Idle (events s st ks) c) → Clean s (run s st ks .words))
 
 -- ---- cause 6, "client's record unreadable"
 
 -- every record of the table is readable: none is "unreadable" in the sense of cause 6
 abbrev pub AllReadable : Settings → State → Type 0
-AllReadable s st = (c : ℕ) → unreadable s (recordAt st c) (st .clock) ≡ false
+AllReadable s st = (c : ℕ) → unreadable s (recordAt st c) (clockAt st c) ≡ false

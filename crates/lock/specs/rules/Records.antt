@@ -1,5 +1,5 @@
--- To be believed: document 01, section "Phases", and document 02, request 2.2: the client record's pieces, grips and lists, and the changes of its fields. Settings
--- and Record are the structs of src/lib.rt. Assumes nothing.
+-- To be believed: document 01, section "Phases", and document 02, requests 2.2 and 2.3: the client record's pieces, grips and lists, the changes of its fields, and the
+-- clock beside it. Settings, Record and Client are the structs of src/lib.rt. Assumes nothing.
 use mathlib.Core.Bool.{Bool}
 use mathlib.Core.List.{List, [], _∷_}
 use Prim.Native.Nat.{ℕ, zero, suc, _-_}
@@ -9,6 +9,7 @@ use Rattle.base.specs.rules.Choice.{choose}
 use Rattle.tree.specs.rules.Tree.{level}
 use Rattle.tree.specs.rules.Lists.{notifyList}
 use Rattle.cover.specs.rules.Search.{leastCover}
+use Rattle.lock.specs.declared.Client.{Client}
 use Rattle.lock.specs.declared.Record.{Record}
 use Rattle.lock.specs.declared.Settings.{Settings}
 
@@ -166,3 +167,12 @@ windowed phase left right first second = record {
   t0 = 0;
   taken = 0;
 }
+
+-- ---- 2.3, "It is kept beside the record in the client table": a client is its last clock and its record
+
+abbrev pub clientWith : ℕ → Record → Client
+clientWith clock r = record { clock = clock; «record» = r }
+
+-- as an opening leaves it
+abbrev pub idleClient : Client
+idleClient = clientWith 0 (idleWith 0)

@@ -1,8 +1,8 @@
 -- To be believed: document 01, section "Phases", the table: for each phase which node a step touches, what it leaves there, and the next record; and document 02,
--- request 2.2: when patience has run out, and what the step does then.
+-- requests 2.2 and 2.3: when patience has run out, and what the step does then; when a claim is late.
 -- s are the settings, r the record, w the word found at the touched node, t the step's clock. Assumes nothing.
-use mathlib.Core.Bool.{Bool, _&&_}
-use Prim.Native.Nat.{ℕ, suc, _+_, _-_}
+use mathlib.Core.Bool.{Bool, not, _&&_}
+use Prim.Native.Nat.{ℕ, suc, _*_, _-_}
 use lib.Dec.{eqb, leb, ltb}
 use lib.ListN.{length, getD}
 use Rattle.base.specs.rules.Choice.{choose}
@@ -79,10 +79,14 @@ bitsClaimed r done = choose done (toPhase 6 (withGrip 3 r)) (toPhase 3 r)
 unfoldable pub occClaimed : Record → ℕ → Record
 occClaimed r t = toPhase (choose (isRoot (currentPiece r)) 7 6) (withT0 t (withGrip 3 r))
 
--- 6 notify, "After the last: clock - t1 ≥ T gives outcome 2 and 10; else inner to 7, a leaf is taken"
+-- 2.3, "A claim is late unless 10,001 × (clock - t1) < 9,999 × T."
+unfoldable pub late : Settings → Record → ℕ → Bool
+late s r t = not (ltb (10001 * (t - r .t1)) (9999 * s .wait))
+
+-- 6 notify, "After the last:" late, by 2.3's test, "gives outcome 2 and 10; else inner to 7, a leaf is taken"
 unfoldable pub allNotified : Settings → Record → ℕ → Record
 allNotified s r t =
-    choose (leb (s .wait) (t - r .t1)) (sentBack 2 r) (choose (isLeaf s (currentPiece r)) (taken s r t) (toPhase 7 r))
+    choose (late s r t) (sentBack 2 r) (choose (isLeaf s (currentPiece r)) (taken s r t) (toPhase 7 r))
 
 -- 6 notify: the next place, and as many notices
 unfoldable pub noticeGiven : Settings → Record → ℕ → Record

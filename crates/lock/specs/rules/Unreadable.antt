@@ -1,5 +1,5 @@
 -- To be believed: document 01, section "Refused calls", the paragraph "Unreadable", clause by clause in its order, and what document 02's request 2.2 adds to it. Each
--- test is true where the record is unreadable by that clause; `last` is the last clock. Assumes nothing.
+-- test is true where the record is unreadable by that clause; `last` is its client's last clock (2.3, "noted times belong to it"). Assumes nothing.
 use mathlib.Core.Bool.{Bool, true, false, not, _&&_, _||_}
 use Prim.Native.Nat.{ℕ, suc}
 use lib.Dec.{eqb, leb, ltb}
@@ -69,7 +69,7 @@ noticesWrong s r =
     || nonzero (r .notices) && ltb (r .grip) 3
     || eqb (r .phase) 6 && differ (r .notices) (r .place)
 
--- "a noted time after the last clock"
+-- "a noted time after the last clock", the client's own
 unfoldable pub timeAhead : Record → ℕ → Bool
 timeAhead r last = ltb last (r .t1) || ltb last (r .t0) || ltb last (r .taken)
 

@@ -1,6 +1,7 @@
 -- To be believed: document 02, requests 2.1 and 2.2: what `rangepages` prints of a schedule, byte by byte (ASCII). Assumes nothing.
 use mathlib.Core.List.{List, [], _∷_, _++_}
 use Prim.Native.Nat.{ℕ, suc}
+use Rattle.lock.specs.declared.Client.{Client}
 use Rattle.lock.specs.declared.Record.{Record}
 use Rattle.lock.specs.declared.Settings.{Settings}
 use Rattle.pages.specs.declared.Row.{Row}
@@ -29,17 +30,17 @@ recordLine held client r =
 
 -- ---- the two pages
 
--- a line for each record of the list, the first of which is the client's
-unfoldable pub lineEach : (ℕ → Record → List ℕ) → ℕ → List Record → List ℕ
+-- a line for each client of the list, by its record, the first of which is that of the client with this number
+unfoldable pub lineEach : (ℕ → Record → List ℕ) → ℕ → List Client → List ℕ
 lineEach line client [] = []
-lineEach line client (r ∷ rs) = line client r ++ lineEach line (suc client) rs
+lineEach line client (c ∷ cs) = line client (c .«record») ++ lineEach line (suc client) cs
 
-unfoldable pub pagesText : Settings → List Record → List ℕ
-pagesText s records = lineEach (rowLine s) 0 records ++ lineEach (recordLine (heldCount records)) 0 records
+unfoldable pub pagesText : Settings → List Client → List ℕ
+pagesText s clients = lineEach (rowLine s) 0 clients ++ lineEach (recordLine (heldCount clients)) 0 clients
 
 -- "reads or refuses a schedule as `rangelog` does. It prints only, after the last call, .."
 unfoldable pub pagesOf : List ℕ → List ℕ
-pagesOf bytes = unlessRefused bytes (pagesText (settingsIn bytes) (afterCalls bytes .records))
+pagesOf bytes = unlessRefused bytes (pagesText (settingsIn bytes) (afterCalls bytes .clients))
 
 -- both pages of every table fit here: it has at most 64 clients, and their lines have at most 147 and 357 bytes
 abbrev pub room : ℕ

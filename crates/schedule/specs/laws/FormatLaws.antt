@@ -18,35 +18,32 @@ use Rattle.schedule.specs.rules.Format.{little, offsetIn, placeOf, kindI
 -- ---- a call as the code has it
 
 -- the call whose 24 bytes begin at `at`
-pub record CallReadAt (bytes : List ℕ) (at last : ℕ) (c : CallStruct) : Type 0 where
+pub record CallReadAt (bytes : List ℕ) (at : ℕ) (c : CallStruct) : Type 0 where
   pub kind : c .kind ≡ getD bytes at 0
   pub client : c .client ≡ little 2 bytes (at + 2)
   pub a : c .a ≡ little 8 bytes (at + 8)
   pub b : c .b ≡ little 8 bytes (at + 16)
-  pub clock : c .last ≡ last
 
 -- call k
-pub record CallRead (bytes : List ℕ) (k last : ℕ) (c : CallStruct) : Type 0 where
+pub record CallRead (bytes : List ℕ) (k : ℕ) (c : CallStruct) : Type 0 where
   pub kind : c .kind ≡ kindIn bytes k
   pub client : c .client ≡ clientIn bytes k
   pub a : c .a ≡ aIn bytes k
   pub b : c .b ≡ bIn bytes k
-  pub clock : c .last ≡ last
 
 module _ (bytes : List ℕ) (k : ℕ) where
-  pub call-at-place : (last at : ℕ) (c : CallStruct) → at ≡ placeOf bytes k → CallReadAt bytes at last c → CallRead bytes k last c
+  pub call-at-place : (at : ℕ) (c : CallStruct) → at ≡ placeOf bytes k → CallReadAt bytes at c → CallRead bytes k c
   unfolding kindIn clientIn aIn bIn
-  call-at-place last at c e r = record {
+  call-at-place at c e r = record {
     kind = rw (← e) (r .kind);
     client = rw (← e) (r .client);
     a = rw (← e) (r .a);
     b = rw (← e) (r .b);
-    clock = r .clock;
   }
 
-  pub call-read : (last : ℕ) (c : CallStruct) → CallRead bytes k last c → callOf (c .kind) (c .client) (c .a) (c .b) ≡ callIn bytes k
+  pub call-read : (c : CallStruct) → CallRead bytes k c → callOf (c .kind) (c .client) (c .a) (c .b) ≡ callIn bytes k
   unfolding callIn
-  call-read last c r = rw (r .kind, r .client, r .a, r .b)
+  call-read c r = rw (r .kind, r .client, r .a, r .b)
 
   -- its 24 bytes are inside, and so is the header
   pub place-inside : placeOf bytes (suc k) ≤ length bytes → placeOf bytes k + 24 ≤ length bytes

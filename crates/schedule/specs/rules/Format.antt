@@ -8,7 +8,7 @@ use lib.ListN.{length, getD, replicate}
 use Rattle.base.specs.rules.Choice.{choose}
 use Rattle.tree.specs.rules.Tree.{wordCount}
 use Rattle.lock.specs.declared.Settings.{Settings}
-use Rattle.lock.specs.rules.Records.{idleWith}
+use Rattle.lock.specs.rules.Records.{idleClient}
 use Rattle.lock.specs.rules.Unreadable.{differ}
 use Rattle.lock.specs.rules.Calls.{firstCause}
 use Rattle.lock.specs.rules.Table.{State, Call}
@@ -89,7 +89,7 @@ tooLarge bytes = ltb 6 (settingsIn bytes .levels) || ltb 64 (clientsIn bytes)
 unfoldable pub fileCause : List ℕ → ℕ
 fileCause bytes = firstCause ((malformed bytes, 10) ∷ (tooLarge bytes, 11) ∷ [])
 
--- ---- what is lent to the opening: as many words as the tree has, and as many records as there are clients
+-- ---- what is lent to the opening: as many words as the tree has, and the clients
 
 unfoldable pub lentFor : Settings → ℕ → State
-lentFor s clients = record { words = replicate (wordCount (s .levels)) 0; records = replicate clients (idleWith 0); clock = 0 }
+lentFor s clients = record { words = replicate (wordCount (s .levels)) 0; clients = replicate clients idleClient }
