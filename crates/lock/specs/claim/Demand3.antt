@@ -13,7 +13,7 @@ use Rattle.lock.specs.declared.Settings.{Settings}
 use Rattle.lock.specs.rules.Records.{idleClient}
 use Rattle.lock.specs.rules.Table.{State, Call, clientAt, recordAt, opened, opening}
 use Rattle.lock.specs.rules.History.{run, events, Idle, Clean, SingleHolding, Demand3}
-use Rattle.lock.specs.rules.Readings.{ReadApart}
+use Rattle.lock.specs.rules.Readings.{foundIn, ReadApart}
 use Rattle.lock.specs.claim.HistoryRecord.{holds-record, all-idle}
 use Rattle.lock.specs.claim.Parts.{recordIn, partsOf, record-at}
 use Rattle.lock.specs.claim.Keeping.{run-keeps}
@@ -41,7 +41,7 @@ module _ (s : Settings) (lent : State) (e : opening s lent .number ≡ 0) (ks : 
       let p = partsOf (run s st ks) in
       let first = opened-invariant s lent e in
       let after = run-keeps s st first ks in
-      let checked = run-checked s ks st first touch reading read (opened-timing s lent (events s st ks) touch reading) in
+      let checked = run-checked s ks st first touch reading read (opened-timing s lent (events s st ks) (foundIn s st ks) touch reading) in
       let a = holds-record s st ks c l r x in
       let b = holds-record s st ks d k q y in
       let i = record-at (run s st ks) c in

@@ -15,7 +15,8 @@ use Rattle.lock.specs.declared.Record.{Record}
 use Rattle.lock.specs.declared.Settings.{Settings}
 use Rattle.lock.specs.rules.Records.{currentPiece}
 use Rattle.lock.specs.rules.Table.{step}
-use Rattle.lock.specs.rules.History.{Event, StepAt, Steady}
+use Rattle.lock.specs.rules.History.{Event, StepAt}
+use Rattle.lock.specs.rules.Readings.{NotSlow, NotFast}
 use Rattle.lock.specs.claim.InnerWords.{nobody}
 use Rattle.lock.specs.claim.Parts.{Parts, recordIn}
 use Rattle.lock.specs.claim.Stage.{passing, checked-stage}
@@ -24,18 +25,19 @@ use Rattle.lock.specs.claim.Onward.{Unclaimed}
 use Rattle.lock.specs.claim.Invariant.{Invariant}
 
 -- of the client c with the record r, whose t0 was read at the moment m0 and whose t1 at m1, where it has noted them, and of its steps in the rest of the history
-pub record Noted (s : Settings) (r : Record) (m0 m1 present : ℕ) (rest : List Event) (reading : ℕ → ℕ) (c : ℕ) : Type 0 where
+pub record Noted (s : Settings) (r : Record) (m0 m1 present : ℕ) (rest : List Event) (found reading : ℕ → ℕ) (c : ℕ) : Type 0 where
   pub past : passing r ≢ 0 → m1 ≤ present
-  pub from-parent : passing r ≢ 0 → (j u : ℕ) → StepAt rest j c u → Steady (r .t1) u m1 (reading j)
-  pub from-claim : 6 ≤ r .phase → r .phase ≤ 7 → level (currentPiece r) ≢ s .levels → (j u : ℕ) → StepAt rest j c u → Steady (r .t0) u m0 (reading j)
+  pub not-slow : passing r ≢ 0 → (j u : ℕ) → StepAt rest j c u → found j ≡ 6 → NotSlow (s .wait) (r .t1) u m1 (reading j)
+  pub not-fast : 6 ≤ r .phase → r .phase ≤ 7 → level (currentPiece r) ≢ s .levels → (j u : ℕ) → StepAt rest j c u → found j ≡ 7 → NotFast (s .wait) (r .t0) u m0 (reading j)
 
-pub record Timing (s : Settings) (st : Parts) (rest : List Event) (touch reading : ℕ → ℕ) : Type 0 where
+-- `found j` is the phase in which the call at place j of the rest finds its client's record
+pub record Timing (s : Settings) (st : Parts) (rest : List Event) (found touch reading : ℕ → ℕ) : Type 0 where
   -- the moments at which each client's t0 and t1 were read, and that of the last touch
   pub claim : ℕ → ℕ
   pub parent : ℕ → ℕ
   pub present : ℕ
   pub later : (j d u : ℕ) → StepAt rest j d u → present ≤ touch j
-  pub noted : (c : ℕ) → Noted s (recordIn st c) (claim c) (parent c) present rest reading c
+  pub noted : (c : ℕ) → Noted s (recordIn st c) (claim c) (parent c) present rest found reading c
   pub timed : (c d : ℕ) → c ≢ d → Timed s (recordIn st c) (recordIn st d) (claim c) (parent d) present
 
 -- a record that has claimed nothing is above nobody
@@ -61,24 +63,27 @@ changed-other c x f d n = choose-ne d c x (f d) n
 
 -- ---- the rest of a history after its first event
 
-module _ (s : Settings) (e : Event) (rest : List Event) (touch reading : ℕ → ℕ) where
+module _ (s : Settings) (e : Event) (rest : List Event) (found touch reading : ℕ → ℕ) where
+  abbrev found′ : ℕ → ℕ
+  found′ i = found (suc i)
+
   abbrev touch′ : ℕ → ℕ
   touch′ i = touch (suc i)
 
   abbrev reading′ : ℕ → ℕ
   reading′ i = reading (suc i)
 
-  noted-later : (r : Record) (m0 m1 present now c : ℕ) → present ≤ now → Noted s r m0 m1 present (e ∷ rest) reading c → Noted s r m0 m1 now rest reading′ c
+  noted-later : (r : Record) (m0 m1 present now c : ℕ) → present ≤ now → Noted s r m0 m1 present (e ∷ rest) found reading c → Noted s r m0 m1 now rest found′ reading′ c
   unfolding StepAt
   noted-later r m0 m1 present now c l v = record {
     past = λ d. omega (arith, v .past d);
-    from-parent = λ d j. v .from-parent d (suc j);
-    from-claim = λ a b d j. v .from-claim a b d (suc j);
+    not-slow = λ d j. v .not-slow d (suc j);
+    not-fast = λ a b d j. v .not-fast a b d (suc j);
   }
 
-  module _ (st : Parts) (v : Timing s st (e ∷ rest) touch reading) where
+  module _ (st : Parts) (v : Timing s st (e ∷ rest) found touch reading) where
     -- a refused call
-    pub timing-refused : Timing s st rest touch′ reading′
+    pub timing-refused : Timing s st rest found′ touch′ reading′
     unfolding StepAt
     timing-refused = record {
       claim = v .claim;
@@ -109,7 +114,7 @@ module _ (s : Settings) (e : Event) (rest : List Event) (touch reading : ℕ →
           checks = λ i j k l x y z. absurd (omega (arith, none .stage j (omega arith)));
         }
 
-        pub timing-unclaimed : Timing s after rest touch′ reading′
+        pub timing-unclaimed : Timing s after rest found′ touch′ reading′
         timing-unclaimed =
             let w = timing-refused in
             record {
@@ -117,11 +122,11 @@ module _ (s : Settings) (e : Event) (rest : List Event) (touch reading : ℕ →
               parent = w .parent;
               present = w .present;
               later = w .later;
-              noted = λ d. on-set (λ y. Noted s y (w .claim d) (w .parent d) (w .present) rest reading′ d) rs c d q nobody client
+              noted = λ d. on-set (λ y. Noted s y (w .claim d) (w .parent d) (w .present) rest found′ reading′ d) rs c d q nobody client
                   (λ i. record {
                     past = λ n. absurd (n (none .none));
-                    from-parent = λ n. absurd (n (none .none));
-                    from-claim = λ a b. absurd (omega (arith, none .phase a));
+                    not-slow = λ n. absurd (n (none .none));
+                    not-fast = λ a b. absurd (omega (arith, none .phase a));
                   }) (λ i. w .noted d);
               timed = λ a b n.
                   on-set (λ y. Timed s y (getD (set rs c q) b nobody) (w .claim a) (w .parent b) (w .present)) rs c a q nobody client
@@ -133,7 +138,9 @@ module _ (s : Settings) (e : Event) (rest : List Event) (touch reading : ℕ →
       -- ---- a step
 
       module _ (inv : Invariant s st) (now : ℕ) (time : Timely s rs nobody r q now) (at : (e .number ≡ 0) × (e .made ≡ step c now))
-          (order : (j d u : ℕ) → StepAt rest j d u → touch 0 ≤ touch (suc j)) (steady : (j u : ℕ) → StepAt rest j c u → Steady now u (reading 0) (reading (suc j)))
+          (order : (j d u : ℕ) → StepAt rest j d u → touch 0 ≤ touch (suc j)) (is : found 0 ≡ r .phase)
+          (not-slow : (j u : ℕ) → StepAt rest j c u → r .phase ≡ 3 → found (suc j) ≡ 6 → NotSlow (s .wait) now u (reading 0) (reading (suc j)))
+          (not-fast : (j u : ℕ) → StepAt rest j c u → r .phase ≡ 5 → found (suc j) ≡ 7 → NotFast (s .wait) now u (reading 0) (reading (suc j)))
           (read-first : (r .phase ≡ 3) ⊎ (r .phase ≡ 7) → reading 0 ≤ touch 0) (touched-first : (r .phase ≡ 5) ⊎ (r .phase ≡ 6) → touch 0 ≤ reading 0) where
         abbrev m0 : ℕ
         m0 = v .claim c
@@ -150,8 +157,8 @@ module _ (s : Settings) (e : Event) (rest : List Event) (touch reading : ℕ →
         read = record {
           read-first = read-first;
           touched-first = touched-first;
-          from-parent = λ d. v .noted c .from-parent d 0 now at;
-          from-claim = λ a b d. v .noted c .from-claim a b d 0 now at;
+          not-slow = λ d p. v .noted c .not-slow d 0 now at (is ∙ p);
+          not-fast = λ inner p. v .noted c .not-fast (omega arith) (omega arith) inner 0 now at (is ∙ p);
         }
 
         abbrev claim′ : ℕ → ℕ
@@ -161,7 +168,7 @@ module _ (s : Settings) (e : Event) (rest : List Event) (touch reading : ℕ →
         parent′ = changed c (parentRead r m1 (reading 0)) (v .parent)
 
         -- what the client has noted, before the step or at it
-        own-noted : Noted s q (claimRead r m0 (reading 0)) (parentRead r m1 (reading 0)) (touch 0) rest reading′ c
+        own-noted : Noted s q (claimRead r m0 (reading 0)) (parentRead r m1 (reading 0)) (touch 0) rest found′ reading′ c
         unfolding StepAt
         own-noted =
             let kept : passing r ≢ 0 → parentRead r m1 (reading 0) ≡ m1 = parent-kept r m1 (reading 0) in
@@ -178,10 +185,10 @@ module _ (s : Settings) (e : Event) (rest : List Event) (touch reading : ℕ →
             (time .passes) in
             record {
               past = λ n. on-parent (λ t m. m ≤ touch 0) n (λ d. omega (arith, old .past d, onward)) (λ z. read-first (inl z));
-              from-parent = λ n j u a. on-parent (λ t m. Steady t u m (reading (suc j))) n (λ d. old .from-parent d (suc j) u a) (λ _. steady j u a);
-              from-claim = λ a b inner j u z. ⊎-elim
-                  (λ o. rw (o .2, claim-kept r m0 (reading 0) (o .0) (o .1)) (old .from-claim (o .0) (o .1) (λ l. inner (ap level (o .3) ∙ l)) (suc j) u z))
-                  (λ o. ⊎-elim (λ y. rw (y .1, claim-now r m0 (reading 0) (y .0)) (steady j u z)) (λ l. absurd (inner l)) o) (time .claims a b);
+              not-slow = λ n j u a f. on-parent (λ t m. NotSlow (s .wait) t u m (reading (suc j))) n (λ d. old .not-slow d (suc j) u a f) (λ z. not-slow j u a z f);
+              not-fast = λ a b inner j u z f. ⊎-elim
+                  (λ o. rw (o .2, claim-kept r m0 (reading 0) (o .0) (o .1)) (old .not-fast (o .0) (o .1) (λ l. inner (ap level (o .3) ∙ l)) (suc j) u z f))
+                  (λ o. ⊎-elim (λ y. rw (y .1, claim-now r m0 (reading 0) (y .0)) (not-fast j u z (y .0) f)) (λ l. absurd (inner l)) o) (time .claims a b);
             }
 
         two-timed : (a b : ℕ) → a ≢ b → Timed s (getD (set rs c q) a nobody) (getD (set rs c q) b nobody) (claim′ a) (parent′ b) (touch 0)
@@ -199,14 +206,14 @@ module _ (s : Settings) (e : Event) (rest : List Event) (touch reading : ℕ →
             (λ j. rw (changed-other c (claimRead r m0 (reading 0)) (v .claim) a i, changed-other c (parentRead r m1 (reading 0)) (v .parent) b j)
             (timed-later s (recordIn st a) (recordIn st b) (v .claim a) (v .parent b) (v .present) (touch 0) onward (v .timed a b n))))
 
-        pub timing-stepped : Timing s after rest touch′ reading′
+        pub timing-stepped : Timing s after rest found′ touch′ reading′
         timing-stepped = record {
           claim = claim′;
           parent = parent′;
           present = touch 0;
           later = order;
-          noted = λ d. on-set (λ y. Noted s y (claim′ d) (parent′ d) (touch 0) rest reading′ d) rs c d q nobody client
-              (λ i. subst (λ (x : ℕ). Noted s q (claim′ x) (parent′ x) (touch 0) rest reading′ x) (sym i)
+          noted = λ d. on-set (λ y. Noted s y (claim′ d) (parent′ d) (touch 0) rest found′ reading′ d) rs c d q nobody client
+              (λ i. subst (λ (x : ℕ). Noted s q (claim′ x) (parent′ x) (touch 0) rest found′ reading′ x) (sym i)
               (rw (changed-own c (claimRead r m0 (reading 0)) (v .claim) c refl, changed-own c (parentRead r m1 (reading 0)) (v .parent) c refl) own-noted))
               (λ i. rw (changed-other c (claimRead r m0 (reading 0)) (v .claim) d i, changed-other c (parentRead r m1 (reading 0)) (v .parent) d i)
               (noted-later (recordIn st d) (v .claim d) (v .parent d) (v .present) (touch 0) d onward (v .noted d)));

@@ -67,17 +67,17 @@ module _ (s : Settings) where
   nobody-unclaimed : Unclaimed nobody
   nobody-unclaimed = unclaimed-first nobody refl (omega arith) (λ _. refl)
 
-  fresh-timing : (words : List ℕ) (clients : ℕ) (clock : ℕ → ℕ) (rest : List Event) (touch reading : ℕ → ℕ)
-      → Timing s (record { words = words; records = replicate clients nobody; clock = clock }) rest touch reading
-  fresh-timing words clients clock rest touch reading =
+  fresh-timing : (words : List ℕ) (clients : ℕ) (clock : ℕ → ℕ) (rest : List Event) (found touch reading : ℕ → ℕ)
+      → Timing s (record { words = words; records = replicate clients nobody; clock = clock }) rest found touch reading
+  fresh-timing words clients clock rest found touch reading =
       let free : (c : ℕ) → nobody ≡ getD (replicate clients nobody) c nobody = λ c. sym (getD-fresh clients c nobody) in
       record {
         claim = λ _. 0;
         parent = λ _. 0;
         present = 0;
         later = λ j d u a. omega arith;
-        noted = λ c. subst (λ x. Noted s x 0 0 0 rest reading c) (free c)
-            (record { past = λ n. omega arith; from-parent = λ n. absurd (n (nobody-unclaimed .none)); from-claim = λ a. absurd (omega arith) });
+        noted = λ c. subst (λ x. Noted s x 0 0 0 rest found reading c) (free c)
+            (record { past = λ n. omega arith; not-slow = λ n. absurd (n (nobody-unclaimed .none)); not-fast = λ a. absurd (omega arith) });
         timed = λ c d _. subst (λ x. Timed s x (getD (replicate clients nobody) d nobody) 0 0 0) (free c) (timed-none s nobody nobody-unclaimed _ 0 0 0);
       }
 
@@ -90,12 +90,12 @@ module _ (s : Settings) where
         subst (λ (rs : List Record). Invariant s (record { words = replicate (length (st .words)) 0; records = rs; clock = clockAt (opened st) })) (sym (records-fresh k))
         (fresh-invariant (length (st .words)) k (clockAt (opened st)) (a .0) (a .1) (a .2))
 
-    pub opened-timing : (rest : List Event) (touch reading : ℕ → ℕ) → Timing s (partsOf (opened st)) rest touch reading
+    pub opened-timing : (rest : List Event) (found touch reading : ℕ → ℕ) → Timing s (partsOf (opened st)) rest found touch reading
     unfolding opened
-    opened-timing rest touch reading =
+    opened-timing rest found touch reading =
         let k = length (st .clients) in
-        subst (λ (rs : List Record). Timing s (record { words = replicate (length (st .words)) 0; records = rs; clock = clockAt (opened st) }) rest touch reading) (sym (records-fresh k))
-        (fresh-timing (replicate (length (st .words)) 0) k (clockAt (opened st)) rest touch reading)
+        subst (λ (rs : List Record). Timing s (record { words = replicate (length (st .words)) 0; records = rs; clock = clockAt (opened st) }) rest found touch reading) (sym (records-fresh k))
+        (fresh-timing (replicate (length (st .words)) 0) k (clockAt (opened st)) rest found touch reading)
 
 pub opening-invariant : (s : Settings) (lent : State) → opening s lent .number ≡ 0 → Invariant s (partsOf (opening s lent .state))
 unfolding opening

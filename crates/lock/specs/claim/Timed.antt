@@ -18,7 +18,7 @@ use Rattle.tree.specs.laws.Check.{checkNode}
 use Rattle.lock.specs.declared.Record.{Record}
 use Rattle.lock.specs.declared.Settings.{Settings}
 use Rattle.lock.specs.rules.Records.{pieceAt, currentPiece}
-use Rattle.lock.specs.rules.History.{Steady}
+use Rattle.lock.specs.rules.Readings.{NotSlow, NotFast}
 use Rattle.lock.specs.laws.Active.{Settled}
 use Rattle.lock.specs.claim.Owned.{owns, ownsNotice}
 use Rattle.lock.specs.claim.Fit.{Fit}
@@ -93,8 +93,8 @@ claimRead r m0 reading = choose (leb 6 (r .phase) && leb (r .phase) 7) m0 readin
 pub record Read (s : Settings) (r : Record) (now m0 m1 touch reading : ℕ) : Type 0 where
   pub read-first : (r .phase ≡ 3) ⊎ (r .phase ≡ 7) → reading ≤ touch
   pub touched-first : (r .phase ≡ 5) ⊎ (r .phase ≡ 6) → touch ≤ reading
-  pub from-parent : passing r ≢ 0 → Steady (r .t1) now m1 reading
-  pub from-claim : 6 ≤ r .phase → r .phase ≤ 7 → level (currentPiece r) ≢ s .levels → Steady (r .t0) now m0 reading
+  pub not-slow : passing r ≢ 0 → r .phase ≡ 6 → NotSlow (s .wait) (r .t1) now m1 reading
+  pub not-fast : level (currentPiece r) ≢ s .levels → r .phase ≡ 7 → NotFast (s .wait) (r .t0) now m0 reading
 
 pub parent-kept : (r : Record) (m1 reading : ℕ) → passing r ≢ 0 → parentRead r m1 reading ≡ m1
 parent-kept r m1 reading d = choose-ne (passing r) 0 reading m1 d
@@ -139,7 +139,7 @@ module _ (s : Settings) (g : Settled s) (rs : List Record) (nobody r q : Record)
         let begun : 6 ≤ r .phase = omega (arith, z .1) in
         let most : r .phase ≤ 7 = omega (arith, z .1) in
         wait-overdue (s .wait) n1 m0 (r .t0) now reading touch (v .claims begun most at) (z .2)
-        (read .from-claim begun most (λ e. nothing-below (currentPiece r) (currentPiece b) (low (b .current)) e (at .above)) .1) (read .read-first (inr (z .1))))
+        (read .not-fast (λ e. nothing-below (currentPiece r) (currentPiece b) (low (b .current)) e (at .above)) (z .1)) (read .read-first (inr (z .1))))
         (λ e. absurd (nothing-below (pieceAt q i) (currentPiece b) (low (b .current)) e (p .above))) o)
         (w .1)
 
@@ -207,7 +207,7 @@ module _ (s : Settings) (g : Settled s) (rs : List Record) (nobody r q : Record)
         let some = level-pos (pieceAt a i) in
         overdue-late (s .wait) m1 (r .t1) now present touch reading
         (v .waits i (waited .0) (waited .1) (record { above = up; clear = omega (arith, some, h .1) })) later (read .touched-first (inr (h .2)))
-        (read .from-parent (λ z. omega (arith, some, h .1, up .higher)) .0) (h .3))
+        (read .not-slow (λ z. omega (arith, some, h .1, up .higher)) (h .2)) (h .3))
         (λ root. omega (arith, p .higher, level-pos (pieceAt a i), ap level root, level-root 1 (omega arith))) other)
         (w .1)
 
