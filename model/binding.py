@@ -33,9 +33,6 @@ class ModelTable:
     def record(self, client):
         return self.lock.clients[client].record
 
-    def clock(self, client):
-        return self.lock.clients[client].clock
-
     def planners_page(self):
         rows = [pages.Row()] * len(self.lock.clients)
         pages.planners_page(self.lock.settings, self.lock.clients, rows)
