@@ -26,7 +26,8 @@ struct Planned {
 fn next_clock(random: &mut Random, settings: Settings, client: Client) -> u64 {
     let Client { clock, record } = client;
     let late = (9_999 * settings.wait).div_ceil(10_001);
-    let ends = [(record.t1, late), (record.t0, settings.wait), (record.t1, WRAPPING)].map(|(from, ticks)| from.saturating_add(ticks));
+    let ends =
+        [(record.t1, late), (record.t0, settings.wait), (record.t1, WRAPPING)].map(|(from, ticks)| from.saturating_add(ticks));
     match random.below(60) {
         _ if clock == 0 => random.one_of(&[1, 1 << 32, u64::MAX - (1 << 40)]),
         0 => clock - 1,
