@@ -11,9 +11,9 @@
  *
  * A client is stepped by its own clock, which may start at any number and need not agree with another's. It does not go back: a step
  * below that client's last clock is refused by 5. And it is true within 1 part in 10,000: between any two steps of a client 10,000 times
- * the ticks of its clock is 9,999 to 10,001 times the ticks that truly went by, rounding to whole ticks included. No call can test this.
- * If it is not so, two clients may come to hold overlapping windows; still, with any clocks, the tree is clean when all are idle.
- * docs/LINKING.md says which clocks will do. */
+ * the ticks of its clock is 9,999 to 10,001 times the ticks that truly went by from call to call. Rounding counts, and so does what goes
+ * by between the reading of a clock and the call. No call can test this. If it is not so, two clients may come to hold overlapping
+ * windows; still, with any clocks, the tree is clean when all are idle. docs/LINKING.md says which clocks will do. */
 
 #ifndef NOLTHEWYR_H
 #define NOLTHEWYR_H

@@ -65,9 +65,10 @@ class Table:
     def step(self, client, clock):
         """Does the one thing that the client's phase says, by the client's own clock, which may start at any number. It does not go back: a
         step below that client's last clock is refused by 5. And it is true within 1 part in 10,000: between any two steps of a client
-        10,000 times the ticks of its clock is 9,999 to 10,001 times the ticks that truly went by, rounding to whole ticks included. No call
-        can test this. If it is not so, two clients may come to hold overlapping windows; still, with any clocks, the tree is clean when all
-        are idle. docs/LINKING.md says which clocks will do."""
+        10,000 times the ticks of its clock is 9,999 to 10,001 times the ticks that truly went by from call to call. Rounding counts, and so
+        does what goes by between the reading of a clock and the call: threads that share a table give a function that reads the clock, and
+        it is called when no other call can come between. No call can test this. If it is not so, two clients may come to hold overlapping
+        windows; still, with any clocks, the tree is clean when all are idle. docs/LINKING.md says which clocks will do."""
         return self._make(library().nolthewyr_step, client, clock)
 
     def release(self, client):
@@ -102,7 +103,7 @@ class Table:
 
     def _make(self, function, client, a=0, b=0):
         with self._lock:
-            accepted(function(*self._lent, Call(client=client, a=a, b=b)))
+            accepted(function(*self._lent, Call(client=client, a=a() if callable(a) else a, b=b)))
             return Phase(self._clients[client].record.phase)
 
 

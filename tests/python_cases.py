@@ -66,6 +66,17 @@ def owned_memory():
     yield case("table in Python", [3], 1), int({table.record(1), table.record(-1), table.clock(1), table.clock(-1)} == {None})
 
 
+def clock_read_in_turn():
+    """A clock that is given as a function is read when no other call can come between, and a number that does not fit is refused too."""
+    library()
+    table = nolthewyr.Table(nolthewyr.Settings(2, 1, 5, 9), 1)
+    table.request(0, 10, 20)
+    table.step(0, lambda: 7 if table._lock.locked() else 8)
+    yield case("table in Python", [7], 1), int(table.clock(0) == 7 and not table._lock.locked())
+    yield case("table in Python", [8], 1), raises(lambda: table.step(0, lambda: TOP + 1))
+    yield case("table in Python", [9], 1), int(table.clock(0) == 7)
+
+
 def shown_by_names():
     """A struct is shown by the names of its fields, which can be gone through in order, a run's page too."""
     library()
@@ -80,5 +91,6 @@ def shown_by_names():
 SUITES = {
     "table in Python, a number of over 64 bits is refused": numbers_that_do_not_fit,
     "table in Python, it owns what it was opened with, and calls wait for each other": owned_memory,
+    "table in Python, a clock that is a function is read in the call's turn": clock_read_in_turn,
     "table in Python, structs are shown by their names": shown_by_names,
 }
