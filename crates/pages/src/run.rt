@@ -39,11 +39,7 @@ fn own_page(own: Client, settings: Settings, held: u64) -> RunPage
 
 // The run's own record and how many clients are in phase 9, and no more. Tests 1, 3, 4, 6.
 #[no_mangle]
-pub extern "C" fn nolthewyr_run_page(
-    clients: &[Client],
-    settings: Settings,
-    client: u64,
-) -> RunPage
+pub extern "C" fn nolthewyr_run_page(clients: &[Client], settings: Settings, client: u64) -> RunPage
     ensures { λ p. ⌜ p ≡ runPage settings (now (clients .entry)) client ⌝ }
 {
     let cause = causes::run_cause(settings, clients.len(), client);

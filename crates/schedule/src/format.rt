@@ -104,12 +104,7 @@ fn call_at(bytes: &[u8], at: usize) -> Call
     let client = u16_at(bytes, at + 2);
     let a = u64_at(bytes, at + 8);
     let b = u64_at(bytes, at + 16);
-    Call {
-        kind,
-        client,
-        a,
-        b,
-    }
+    Call { kind, client, a, b }
 }
 
 // Call k.
