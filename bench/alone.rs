@@ -1,8 +1,8 @@
 //! The cover and the unreadable test alone, through the library `probe` and in plain Rust, both by C's convention.
 
 use crate::lent::Window;
-use crate::met::{met, Met};
-use crate::nolthewyr::{CoverAnswer, Phase, Record, Settings};
+use crate::met::met;
+use crate::nolthewyr::{Client, CoverAnswer, Phase, Record, Settings};
 use crate::random::Random;
 use crate::row;
 use crate::rust::linked;
@@ -35,23 +35,23 @@ fn compare_covers(random: &mut Random) {
     }
 }
 
-fn compare_tests(random: &mut Random, mix: &[Met]) {
+fn compare_tests(random: &mut Random, mix: &[Client]) {
     for place in 0..COMPARED {
-        let (whole, last) = mix[place % mix.len()];
+        let Client { clock, record: whole } = mix[place % mix.len()];
         let record = if random.seldom(4) { whole } else { random.damaged(whole) };
-        let [rattle, rust] = UNREADABLE.map(|unreadable| unsafe { unreadable(record, SETTINGS, last) });
-        assert_eq!(rattle, rust, "{record:?}, last clock {last}: Rattle on the left, Rust on the right");
-        assert!(record != whole || !rust, "{whole:?}, last clock {last}: unreadable");
+        let [rattle, rust] = UNREADABLE.map(|unreadable| unsafe { unreadable(record, SETTINGS, clock) });
+        assert_eq!(rattle, rust, "{record:?}, last clock {clock}: Rattle on the left, Rust on the right");
+        assert!(record != whole || !rust, "{whole:?}, last clock {clock}: unreadable");
     }
 }
 
-/// The records of a window, and one that waits for an ancestor, since alone in the tree no client does.
-fn records(window: Window) -> Vec<Met> {
-    let mut records = met(SETTINGS, window);
-    let climbing = records.iter().find(|(record, _)| record.phase == Phase::CLIMB);
-    let (record, last) = *climbing.expect("a record that climbs");
-    records.push((Record { phase: Phase::BLOCKED, ..record }, last));
-    records
+/// The client of a window before each call, and one that waits for an ancestor, since alone in the tree no client does.
+fn clients(window: Window) -> Vec<Client> {
+    let mut clients = met(SETTINGS, window);
+    let climbing = clients.iter().find(|client| client.record.phase == Phase::CLIMB);
+    let Client { clock, record } = *climbing.expect("a client that climbs");
+    clients.push(Client { clock, record: Record { phase: Phase::BLOCKED, ..record } });
+    clients
 }
 
 /// Nanoseconds of a call that is made on each item of a mix in turn.
@@ -68,10 +68,10 @@ fn cover_times(mix: &[Window]) -> [f64; 2] {
     })
 }
 
-fn test_times(mix: &[Met]) -> [f64; 2] {
+fn test_times(mix: &[Client]) -> [f64; 2] {
     black_box(UNREADABLE).map(|unreadable| {
-        time_each(mix, |(record, last)| {
-            black_box(unsafe { unreadable(record, SETTINGS, last) });
+        time_each(mix, |Client { clock, record }| {
+            black_box(unsafe { unreadable(record, SETTINGS, clock) });
         })
     })
 }
@@ -86,7 +86,7 @@ fn mixes<T: Clone>(of: impl Fn(Window) -> Vec<T>) -> Vec<(&'static str, Vec<T>)>
 
 pub fn measure() {
     let covers = mixes(|window| vec![window]);
-    let tests = mixes(records);
+    let tests = mixes(clients);
     compare_covers(&mut Random(1));
     compare_tests(&mut Random(2), &tests[WINDOWS.len()].1);
     let times = best(ROUNDS, || {

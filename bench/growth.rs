@@ -28,7 +28,7 @@ impl Pair {
 
     fn round(&mut self, window: Window) -> [f64; SIDES.len()] {
         self.0.each_mut().map(|lent| {
-            let client = lent.records.len() as u64 - 1;
+            let client = lent.clients.len() as u64 - 1;
             time(TAKES, || lent.take_and_give_back(client, window))
         })
     }

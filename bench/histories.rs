@@ -1,8 +1,8 @@
-//! Sees that both sides are the same protocol: after each call of random histories their answers, words, records and clocks are
+//! Sees that both sides are the same protocol: after each call of random histories their numbers, words, clocks and records are
 //! equal. The time of a competitor that leaves something out would be worth nothing.
 
 use crate::lent::{agree, Lent};
-use crate::nolthewyr::{Record, Settings};
+use crate::nolthewyr::{Client, Outcome, Phase, Record, Settings};
 use crate::random::Random;
 use crate::sides::{Kind, Linked, KINDS, SIDES};
 
@@ -10,8 +10,9 @@ type Tables = [Lent<Linked>; SIDES.len()];
 
 const CALLS: usize = 20000;
 const CLIENTS: u64 = 5;
+/// The fewest ticks of which 10,001 times as many do not fit 64 bits.
+const WRAPPING: u64 = u64::MAX / 10_001 + 1;
 
-/// A call but for the clock, which the table knows.
 #[derive(Clone, Copy, Debug)]
 struct Planned {
     kind: Kind,
@@ -20,15 +21,30 @@ struct Planned {
     b: u64,
 }
 
+/// The clock of a client's next step. Each client's starts at a number of its own; mostly it stands still or goes on by 1, seldom to
+/// where the claim begins to be late or the wait is over, or one before, or where a product would wrap, and seldom it goes back.
+fn next_clock(random: &mut Random, settings: Settings, client: Client) -> u64 {
+    let Client { clock, record } = client;
+    let late = (9_999 * settings.wait).div_ceil(10_001);
+    let ends =
+        [(record.t1, late), (record.t0, settings.wait), (record.t1, WRAPPING)].map(|(from, ticks)| from.saturating_add(ticks));
+    match random.below(60) {
+        _ if clock == 0 => random.one_of(&[1, 1 << 32, u64::MAX - (1 << 40)]),
+        0 => clock - 1,
+        1..4 => clock.max(random.one_of(&ends) - random.below(2)),
+        4..14 => clock.saturating_add(1),
+        _ => clock,
+    }
+}
+
 impl Planned {
     /// Mostly steps that go on, seldom a client or a clock that is refused.
-    fn any(random: &mut Random, levels: u64, clock: u64) -> Planned {
+    fn any(random: &mut Random, lent: &Lent<Linked>) -> Planned {
         let client = if random.seldom(50) { random.one_of(&[CLIENTS, 1 << 32, u64::MAX]) } else { random.below(CLIENTS) };
         let kind = if random.below(10) < 7 { Kind::Step } else { random.one_of(&KINDS) };
         let (a, b) = match kind {
-            Kind::Request => random.window(levels),
-            Kind::Step if random.seldom(60) => (clock.saturating_sub(1), 0),
-            Kind::Step => (clock + random.seldom(6) as u64, 0),
+            Kind::Request => random.window(lent.settings.levels),
+            Kind::Step => (next_clock(random, lent.settings, lent.clients.get(client as usize).copied().unwrap_or_default()), 0),
             Kind::Release | Kind::Cancel => (0, 0),
         };
         Planned { kind, client, a, b }
@@ -37,7 +53,7 @@ impl Planned {
 
 fn put(tables: &mut Tables, client: usize, record: Record) {
     for lent in tables {
-        lent.records[client] = record;
+        lent.clients[client].record = record;
     }
 }
 
@@ -50,7 +66,7 @@ fn damage(random: &mut Random, tables: &mut Tables, client: usize) {
             lent.words[node] = word;
         }
     }
-    if let Some(&record) = tables[0].records.get(client) {
+    if let Some(&Client { record, .. }) = tables[0].clients.get(client) {
         let record = match random.below(100) {
             0 => Record::default(),
             1..30 => random.damaged(record),
@@ -60,12 +76,24 @@ fn damage(random: &mut Random, tables: &mut Tables, client: usize) {
     }
 }
 
-/// How often each number was answered, and how often a record was in each phase and had each outcome after an accepted call.
+/// How often each number was answered, how often a record was in each phase and had each outcome after an accepted call, and how often
+/// a claim was late though less than the wait had gone by.
 #[derive(Default)]
 struct Met {
     numbers: [usize; 10],
     phases: [usize; 11],
     outcomes: [usize; 5],
+    late_within_the_wait: usize,
+}
+
+impl Met {
+    fn add(&mut self, settings: Settings, client: Client) {
+        let Client { clock, record } = client;
+        self.phases[record.phase.0 as usize] += 1;
+        self.outcomes[record.outcome.0 as usize] += 1;
+        let late = record.phase == Phase::RETURNING && record.outcome == Outcome::LATE;
+        self.late_within_the_wait += (late && clock - record.t1 < settings.wait) as usize;
+    }
 }
 
 /// Openings and calls that are refused for their settings (1), for the count of words (2) or for that of clients (3).
@@ -81,10 +109,10 @@ fn compare_refused(met: &mut Met) {
         for lent in &mut tables {
             assert_eq!(lent.open(), number, "{settings:?}, {words} words, {clients} clients");
             for kind in KINDS {
-                assert_eq!(lent.make(kind, 0, 0, 1).number, number, "{kind:?}, {settings:?}, {words} words, {clients} clients");
+                assert_eq!(lent.make(kind, 0, 0, 1), number, "{kind:?}, {settings:?}, {words} words, {clients} clients");
             }
         }
-        assert!(agree(&tables), "{settings:?}, {words} words, {clients} clients: words or records differ");
+        assert!(agree(&tables), "{settings:?}, {words} words, {clients} clients: words or clients differ");
         met.numbers[number as usize] += KINDS.len();
     }
 }
@@ -93,23 +121,21 @@ fn compare_refused(met: &mut Met) {
 fn compare_call(tables: &mut Tables, planned: Planned, met: &mut Met) -> u64 {
     let [rattle, rust] = tables.each_mut().map(|lent| lent.make(planned.kind, planned.client, planned.a, planned.b));
     assert_eq!(rattle, rust, "{planned:?}: Rattle on the left, Rust on the right");
-    assert!(agree(tables), "{planned:?}: words or records differ");
-    met.numbers[rattle.number as usize] += 1;
-    if rattle.number == 0 {
-        let record = &tables[0].records[planned.client as usize];
-        met.phases[record.phase.0 as usize] += 1;
-        met.outcomes[record.outcome.0 as usize] += 1;
+    assert!(agree(tables), "{planned:?}: words or clients differ");
+    met.numbers[rattle as usize] += 1;
+    if rattle == 0 {
+        met.add(tables[0].settings, tables[0].clients[planned.client as usize]);
     }
-    rattle.number
+    rattle
 }
 
 fn compare_history(seed: u64, settings: Settings, damaging: bool, met: &mut Met) {
     let mut random = Random(seed);
     let mut tables = SIDES.map(|side| Lent::opened(side, settings, CLIENTS as usize));
     for _ in 0..CALLS {
-        let planned = Planned::any(&mut random, settings.levels, tables[0].clock);
+        let planned = Planned::any(&mut random, &tables[0]);
         let client = planned.client as usize;
-        let whole = tables[0].records.get(client).copied();
+        let whole = tables[0].clients.get(client).map(|client| client.record);
         if damaging {
             damage(&mut random, &mut tables, client);
         }
@@ -122,18 +148,20 @@ fn compare_history(seed: u64, settings: Settings, damaging: bool, met: &mut Met)
 }
 
 /// Histories on small trees for every m, with and without damage. Every number that a call can answer, every phase and every outcome
-/// must have occurred.
+/// must have occurred, and a claim that is late by request 2.3's factors alone.
 pub fn compare_sides() {
     let mut met = Met::default();
     compare_refused(&mut met);
     for seed in 0..40 {
-        let (wait, patience) = ([1, 5, 25][seed as usize % 3], [2, 20, 200][seed as usize / 3 % 3]);
+        let wait = [1, 5, 25, 5_001, 123_456, u32::MAX as u64][seed as usize % 6];
+        let patience = [2, 20, 2 * wait][seed as usize / 6 % 3].min(u32::MAX as u64);
         let settings = Settings { levels: 2 + seed % 5, distance: 1 + seed / 5 % 4, wait, patience };
         compare_history(seed, settings, seed >= 20, &mut met);
     }
     assert!(!met.numbers.contains(&0), "a number was never answered: {:?}", met.numbers);
     assert!(!met.phases.contains(&0), "a phase was never reached: {:?}", met.phases);
     assert!(!met.outcomes.contains(&0), "an outcome never occurred: {:?}", met.outcomes);
-    println!("{} calls left equal answers, words and records", met.numbers.iter().sum::<usize>());
+    assert!(met.late_within_the_wait > 0, "no claim was late before the wait was over");
+    println!("{} calls left equal numbers, words, clocks and records", met.numbers.iter().sum::<usize>());
     println!("they were answered 0 to 9 so often: {:?}", met.numbers);
 }

@@ -1,6 +1,6 @@
 //! A lent table with the calls of one side over it, and what is measured: a window from its request to idle.
 
-use crate::nolthewyr::{Answer, Call, Phase, Record, Settings};
+use crate::nolthewyr::{Call, Client, Phase, Record, Settings};
 use crate::rust;
 use crate::sides::{Kind, Linked, Side};
 
@@ -9,23 +9,24 @@ pub type Window = (u64, u64);
 
 pub struct Lent<S> {
     pub side: S,
-    settings: Settings,
+    pub settings: Settings,
     pub words: Vec<u64>,
-    pub records: Vec<Record>,
-    pub clock: u64,
+    pub clients: Vec<Client>,
+    /// All clients that are measured are stepped by this one clock.
+    clock: u64,
 }
 
 impl<S: Side> Lent<S> {
-    /// Words and records are filled, so that an opening that leaves some as they were is seen.
+    /// Words and clients are filled, so that an opening that leaves some as they were is seen.
     pub fn filled(side: S, settings: Settings, count: usize, clients: usize) -> Lent<S> {
         // The pointers are hidden from the compiler, which could otherwise use what it knows of the Rust side's bodies.
         let side = std::hint::black_box(side);
-        let filled = Record { phase: Phase::HELD, ..Record::default() };
-        Lent { side, settings, words: vec![u64::MAX; count], records: vec![filled; clients], clock: 0 }
+        let filled = Client { clock: u64::MAX, record: Record { phase: Phase::HELD, ..Record::default() } };
+        Lent { side, settings, words: vec![u64::MAX; count], clients: vec![filled; clients], clock: 0 }
     }
 
     pub fn open(&mut self) -> u64 {
-        self.side.open(&mut self.records, &mut self.words, self.settings)
+        self.side.open(&mut self.clients, &mut self.words, self.settings)
     }
 
     /// An opened table with as many words as the tree has nodes.
@@ -36,20 +37,18 @@ impl<S: Side> Lent<S> {
     }
 
     /// Makes the call on what the last one left.
-    pub fn make(&mut self, kind: Kind, client: u64, a: u64, b: u64) -> Answer {
-        let call = Call { kind: kind as u64, client, a, b, last: self.clock };
-        let answer = self.side.make(kind, &mut self.records, &mut self.words, self.settings, call);
-        self.clock = answer.clock;
-        answer
+    pub fn make(&mut self, kind: Kind, client: u64, a: u64, b: u64) -> u64 {
+        let call = Call { kind: kind as u64, client, a, b };
+        self.side.make(kind, &mut self.clients, &mut self.words, self.settings, call)
     }
 
     fn accepted(&mut self, kind: Kind, client: u64, a: u64, b: u64) {
-        let answer = self.make(kind, client, a, b);
-        assert_eq!(answer.number, 0, "{:?}", self.records[client as usize]);
+        let number = self.make(kind, client, a, b);
+        assert_eq!(number, 0, "{:?}", self.clients[client as usize]);
     }
 
     pub fn phase(&self, client: u64) -> Phase {
-        self.records[client as usize].phase
+        self.clients[client as usize].record.phase
     }
 
     pub fn request(&mut self, client: u64, (l, r): Window) {
@@ -63,8 +62,8 @@ impl<S: Side> Lent<S> {
     /// One step. Only in the wait does the clock move on, since with T 1 a piece is late if it moves between the climb and the last
     /// notice.
     pub fn step(&mut self, client: u64) {
-        let clock = self.clock + (self.phase(client) == Phase::WAIT) as u64;
-        self.accepted(Kind::Step, client, clock, 0);
+        self.clock += (self.phase(client) == Phase::WAIT) as u64;
+        self.accepted(Kind::Step, client, self.clock, 0);
     }
 
     pub fn step_until(&mut self, client: u64, phase: Phase) {
@@ -91,7 +90,7 @@ impl<S: Side> Lent<S> {
     }
 }
 
-/// Whether words, records and clock of both tables are equal.
+/// Whether words and clients of both tables are equal.
 pub fn agree([one, other]: &[Lent<Linked>; 2]) -> bool {
-    one.words == other.words && one.records == other.records && one.clock == other.clock
+    one.words == other.words && one.clients == other.clients
 }

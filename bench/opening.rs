@@ -1,6 +1,6 @@
 //! The opening of the largest tree beside zeroing the same bytes.
 
-use crate::nolthewyr::{Record, Settings};
+use crate::nolthewyr::{Client, Settings};
 use crate::row;
 use crate::rust;
 use crate::settings::{MOST_CLIENTS, SETTINGS};
@@ -17,17 +17,17 @@ fn zero<T>(items: &mut [T]) {
 }
 
 /// Milliseconds of Rattle, Rust and `memset` over the same memory.
-fn measured(records: &mut [Record], words: &mut [u64]) -> Vec<f64> {
-    let open = |side: &mut Linked, records: &mut [Record], words: &mut [u64]| {
-        time(1, || assert_eq!(side.open(records, words, SETTINGS), 0, "the opening is refused")) / 1e6
+fn measured(clients: &mut [Client], words: &mut [u64]) -> Vec<f64> {
+    let open = |side: &mut Linked, clients: &mut [Client], words: &mut [u64]| {
+        time(1, || assert_eq!(side.open(clients, words, SETTINGS), 0, "the opening is refused")) / 1e6
     };
     let (mut rattle, mut rust) = (black_box(RATTLE), black_box(RUST));
     best(ROUNDS, || {
         let memset = time(1, || {
-            zero(records);
+            zero(clients);
             zero(words);
         });
-        vec![open(&mut rattle, records, words), open(&mut rust, records, words), memset / 1e6]
+        vec![open(&mut rattle, clients, words), open(&mut rust, clients, words), memset / 1e6]
     })
 }
 
@@ -37,8 +37,8 @@ pub fn measure() {
     let rows: Vec<_> = [1, MOST_CLIENTS]
         .iter()
         .map(|&clients| {
-            let mut records = vec![Record::default(); clients];
-            let times = measured(&mut records, &mut words);
+            let mut lent = vec![Client::default(); clients];
+            let times = measured(&mut lent, &mut words);
             let (rattle, rust, memset) = (times[0], times[1], times[2]);
             let (to_rust, to_memset, count) = (rattle / rust, rattle / memset, words.len());
             row!["{levels}", "{count}", "{clients}", "{rattle:.2}", "{rust:.2}", "{memset:.2}", "{to_rust:.2}", "{to_memset:.2}"]

@@ -1,7 +1,7 @@
 //! The two pages of tables with more and more clients, of which half hold a leaf, a quarter have asked for a window and the others are idle.
 
 use crate::lent::Lent;
-use crate::nolthewyr::{nolthewyr_planners_page, nolthewyr_run_page, Record, Row, RunPageAnswer, Settings};
+use crate::nolthewyr::{nolthewyr_planners_page, nolthewyr_run_page, Client, Row, RunPageAnswer, Settings};
 use crate::row;
 use crate::rust::linked;
 use crate::settings::{MOST_CLIENTS, SETTINGS};
@@ -14,17 +14,16 @@ const CLIENTS: [usize; 3] = [40, 1000, MOST_CLIENTS];
 const ROUNDS: usize = 200;
 const UNITS_OF_A_LEAF: u64 = 64;
 
-type Planners = unsafe extern "C" fn(*const Record, usize, *mut Row, usize, Settings, u64) -> u64;
-type Run = unsafe extern "C" fn(*const Record, usize, Settings, u64, u64) -> RunPageAnswer;
+type Planners = unsafe extern "C" fn(*const Client, usize, *mut Row, usize, Settings) -> u64;
+type Run = unsafe extern "C" fn(*const Client, usize, Settings, u64) -> RunPageAnswer;
 
 const PLANNERS: [Planners; 2] = [nolthewyr_planners_page, linked::planners_page];
 const RUN: [Run; 2] = [nolthewyr_run_page, linked::run_page];
 
 /// A table in use, and the rows to fill.
 struct Table {
-    records: Vec<Record>,
+    clients: Vec<Client>,
     rows: Vec<Row>,
-    last: u64,
 }
 
 impl Table {
@@ -38,16 +37,16 @@ impl Table {
                 _ => {}
             }
         }
-        Table { rows: vec![Row::default(); clients], last: lent.clock, records: lent.records }
+        Table { rows: vec![Row::default(); clients], clients: lent.clients }
     }
 
     fn planners(&mut self, page: Planners) -> u64 {
-        let (records, rows) = (&self.records, &mut self.rows);
-        unsafe { page(records.as_ptr(), records.len(), rows.as_mut_ptr(), rows.len(), SETTINGS, self.last) }
+        let (clients, rows) = (&self.clients, &mut self.rows);
+        unsafe { page(clients.as_ptr(), clients.len(), rows.as_mut_ptr(), rows.len(), SETTINGS) }
     }
 
     fn run(&self, page: Run) -> RunPageAnswer {
-        unsafe { page(self.records.as_ptr(), self.records.len(), SETTINGS, 0, self.last) }
+        unsafe { page(self.clients.as_ptr(), self.clients.len(), SETTINGS, 0) }
     }
 
     /// That both sides give the same pages, before they are measured.
@@ -65,8 +64,8 @@ impl Table {
     /// Nanoseconds for a client, of the planners' page on both sides, then of the run's page.
     fn measured(&mut self) -> Vec<f64> {
         self.compare_sides();
-        let clients = self.records.len() as f64;
-        let takes = 1 + MOST_CLIENTS / self.records.len();
+        let clients = self.clients.len() as f64;
+        let takes = 1 + MOST_CLIENTS / self.clients.len();
         let times = best(ROUNDS, || {
             let planners = black_box(PLANNERS).map(|page| {
                 time(takes, || {

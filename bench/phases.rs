@@ -2,26 +2,26 @@
 //! callgrind's output, which has the cost of every called function by its caller, tells the phases apart.
 
 use crate::lent::{Lent, Window};
-use crate::nolthewyr::{Answer, Call, Phase, Record, Settings};
+use crate::nolthewyr::{Call, Client, Phase, Settings};
 use crate::settings::{SETTINGS, WINDOWS};
 use crate::sides::{Kind, Linked, OnTable, Side, SIDES};
 use std::hint::black_box;
 
-type InPhase = fn(OnTable, &mut [Record], &mut [u64], Settings, Call) -> Answer;
+type InPhase = fn(OnTable, &mut [Client], &mut [u64], Settings, Call) -> u64;
 
 #[inline(never)]
 fn in_phase<const PHASE: u64>(
     on_table: OnTable,
-    records: &mut [Record],
+    clients: &mut [Client],
     words: &mut [u64],
     settings: Settings,
     call: Call,
-) -> Answer {
-    let answer = unsafe { on_table(records.as_mut_ptr(), records.len(), words.as_mut_ptr(), words.len(), settings, call) };
+) -> u64 {
+    let number = unsafe { on_table(clients.as_mut_ptr(), clients.len(), words.as_mut_ptr(), words.len(), settings, call) };
     // Something after the call, another thing for each phase: otherwise the compiler could jump in place of calling, or make one
     // function of all.
     black_box(PHASE);
-    answer
+    number
 }
 
 const IN_PHASE: [InPhase; 11] = [
@@ -45,16 +45,16 @@ struct Counted {
 }
 
 impl Side for Counted {
-    fn open(&mut self, records: &mut [Record], words: &mut [u64], settings: Settings) -> u64 {
-        self.linked.open(records, words, settings)
+    fn open(&mut self, clients: &mut [Client], words: &mut [u64], settings: Settings) -> u64 {
+        self.linked.open(clients, words, settings)
     }
 
-    fn make(&mut self, kind: Kind, records: &mut [Record], words: &mut [u64], settings: Settings, call: Call) -> Answer {
+    fn make(&mut self, kind: Kind, clients: &mut [Client], words: &mut [u64], settings: Settings, call: Call) -> u64 {
         if !self.counting {
-            return self.linked.make(kind, records, words, settings, call);
+            return self.linked.make(kind, clients, words, settings, call);
         }
-        let Phase(phase) = records[call.client as usize].phase;
-        IN_PHASE[phase as usize](self.linked.calls[kind as usize], records, words, settings, call)
+        let Phase(phase) = clients[call.client as usize].record.phase;
+        IN_PHASE[phase as usize](self.linked.calls[kind as usize], clients, words, settings, call)
     }
 }
 

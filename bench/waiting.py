@@ -2,9 +2,10 @@
 """How many clients wait for each other for ever if none gives up, and what cancel and back-off make of the same wishes: the table of
 docs/WAITING.md: make && bench/waiting.py [PATIENCE]
 
-40 clients with windows of all sizes (the logarithm of the length is uniform) ask at the same time and step in turn, one step a tick; who
-holds releases after 20 ticks. A client that is late asks again at once. The patience is in ticks; without it it is the longest there is, so
-that none runs out. A client whose patience has run out has given up, as one that cancels: it pauses if it has a way to, and asks again.
+40 clients with windows of all sizes (the logarithm of the length is uniform) ask at the same time and step in turn by one clock, one step
+a tick; who holds releases after 20 ticks. A client that is late asks again at once. The patience is in ticks; without it it is the longest
+there is, so that none runs out. A client whose patience has run out has given up, as one that cancels: it pauses if it has a way to, and
+asks again.
 
 With --model the calls are made by the model, which needs no library and takes longer.
 """

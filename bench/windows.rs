@@ -50,7 +50,7 @@ impl Trial {
     }
 
     fn compare(&self) {
-        assert!(agree(&self.tables), "with {} windows held words or records differ", self.held);
+        assert!(agree(&self.tables), "with {} windows held words or clients differ", self.held);
     }
 
     /// The times of Rattle, Rust and `fcntl`. `fcntl` has fewer takes where more ranges are held, since its time grows with them.

@@ -15,11 +15,10 @@
 enum { CLIENTS = 2, WAIT = 30, PATIENCE = 100, MOST_STEPS = 300, FIRST_LIMIT = 200, LAST_LIMIT = 1600, WORK = 800 };
 
 static nolthewyr_settings settings = {.levels = 3, .distance = 2, .wait = WAIT, .patience = PATIENCE};
-static nolthewyr_record records[CLIENTS];
+static nolthewyr_client clients[CLIENTS];
 static uint64_t *words;
 static size_t count;
-static uint64_t last;
-static uint64_t now; /* here a count of steps and pauses; clients that run by themselves read a clock that they share */
+static uint64_t now; /* the true time, here a count of steps and pauses */
 
 static void accepted(uint64_t number)
 {
@@ -29,23 +28,34 @@ static void accepted(uint64_t number)
     exit(EXIT_FAILURE);
 }
 
-typedef nolthewyr_answer on_table(nolthewyr_record *, size_t, uint64_t *, size_t, nolthewyr_settings, nolthewyr_call);
+typedef uint64_t on_table(nolthewyr_client *, size_t, uint64_t *, size_t, nolthewyr_settings, nolthewyr_call);
 
 /* Makes a call on what the last one left, and gives the client's phase after it. */
 static uint64_t make(on_table *function, uint64_t client, uint64_t a, uint64_t b)
 {
-    nolthewyr_call call = {.client = client, .a = a, .b = b, .last = last};
-    nolthewyr_answer answer = function(records, CLIENTS, words, count, settings, call);
-    accepted(answer.number);
-    last = answer.clock;
-    return records[client].phase;
+    nolthewyr_call call = {.client = client, .a = a, .b = b};
+    accepted(function(clients, CLIENTS, words, count, settings, call));
+    return clients[client].record.phase;
+}
+
+/* The client's own clock, which began at another number than the others': nobody has to agree on the time. A client that runs by itself
+ * reads a clock of its machine here; docs/LINKING.md says which will do. */
+static uint64_t own_clock(uint64_t client)
+{
+    return now + 1000000 * client;
+}
+
+static uint64_t step(uint64_t client)
+{
+    now++;
+    return make(nolthewyr_step, client, own_clock(client), 0);
 }
 
 static void step_until_idle(uint64_t client)
 {
-    while (records[client].phase != NOLTHEWYR_PHASE_IDLE)
-        make(nolthewyr_step, client, ++now, 0);
-    printf("client %" PRIu64 " is idle at %" PRIu64 ": %s\n", client, now, nolthewyr_outcome_text(records[client].outcome));
+    while (clients[client].record.phase != NOLTHEWYR_PHASE_IDLE)
+        step(client);
+    printf("client %" PRIu64 " is idle at %" PRIu64 ": %s\n", client, now, nolthewyr_outcome_text(clients[client].record.outcome));
 }
 
 /* Whether the client holds the window after a limited number of steps. If not it is idle again: it was late, its patience ran out, or it
@@ -54,7 +64,7 @@ static bool attempt(uint64_t client, uint64_t left, uint64_t right)
 {
     uint64_t phase = make(nolthewyr_request, client, left, right);
     for (int steps = 0; steps < MOST_STEPS && phase != NOLTHEWYR_PHASE_HELD && phase != NOLTHEWYR_PHASE_IDLE; steps++)
-        phase = make(nolthewyr_step, client, ++now, 0);
+        phase = step(client);
     if (phase == NOLTHEWYR_PHASE_HELD)
         return true;
     if (phase != NOLTHEWYR_PHASE_IDLE && phase != NOLTHEWYR_PHASE_RETURNING)
@@ -72,7 +82,7 @@ static void release(uint64_t client)
 /* How many clients hold their windows: all that a client may know of the others. */
 static uint64_t holding(uint64_t client)
 {
-    nolthewyr_run_page_answer page = nolthewyr_run_page(records, CLIENTS, settings, client, last);
+    nolthewyr_run_page_answer page = nolthewyr_run_page(clients, CLIENTS, settings, client);
     accepted(page.number);
     return page.held;
 }
@@ -81,7 +91,7 @@ static uint64_t holding(uint64_t client)
 static void show_planners(void)
 {
     nolthewyr_row rows[CLIENTS];
-    accepted(nolthewyr_planners_page(records, CLIENTS, rows, CLIENTS, settings, last));
+    accepted(nolthewyr_planners_page(clients, CLIENTS, rows, CLIENTS, settings));
     for (int client = 0; client < CLIENTS; client++)
         if (rows[client].phase != NOLTHEWYR_PHASE_IDLE)
             printf("planners see client %d: %s, [%" PRIu64 ", %" PRIu64 ") and %" PRIu64 " units beyond\n", client,
@@ -93,7 +103,7 @@ static void let_pass(uint64_t client, uint64_t pause)
 {
     now += pause;
     printf("client %" PRIu64 " has paused until %" PRIu64 "; clients that hold: %" PRIu64 "\n", client, now, holding(client));
-    if (records[0].phase == NOLTHEWYR_PHASE_HELD && now >= WORK)
+    if (clients[0].record.phase == NOLTHEWYR_PHASE_HELD && now >= WORK)
         release(0);
 }
 
@@ -123,7 +133,7 @@ int main(int argc, char **argv)
     words = calloc(count + 1, sizeof *words); /* one more, so that there is something to lend if no tree has such levels */
     if (words == NULL)
         return EXIT_FAILURE;
-    accepted(nolthewyr_open(records, CLIENTS, words, count, settings));
+    accepted(nolthewyr_open(clients, CLIENTS, words, count, settings));
     take(0, 10, 20);
     take(1, 15, 30);
     show_planners();

@@ -18,15 +18,20 @@ WORK = 800
 
 
 class Clients:
-    """The clients of one table. `now` is here a count of steps and pauses; clients that run by themselves read a clock that they share,
-    and each begins with a `state` of its own for its random pauses."""
+    """The clients of one table. `now` is the true time, here a count of steps and pauses. Clients that run by themselves begin each with a
+    `state` of its own for its random pauses."""
 
     def __init__(self, table):
         self.table, self.now, self.state = table, 0, 88172645463325252
 
+    def own_clock(self, client):
+        """The client's own clock, which began at another number than the others': nobody has to agree on the time. A client that runs by
+        itself reads a clock of its machine here; docs/LINKING.md says which will do."""
+        return self.now + 1000000 * client
+
     def step(self, client):
         self.now += 1
-        return self.table.step(client, self.now)
+        return self.table.step(client, self.own_clock(client))
 
     def step_until_idle(self, client):
         while self.table.record(client).phase != Phase.IDLE:

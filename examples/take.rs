@@ -17,7 +17,7 @@ const WORK: u64 = 800;
 
 struct Clients {
     table: Table,
-    /// Here a count of steps and pauses; clients that run by themselves read a clock that they share.
+    /// The true time, here a count of steps and pauses.
     now: u64,
     /// Of the random pauses. Each client that runs by itself begins with a state of its own.
     state: u64,
@@ -28,9 +28,15 @@ impl Clients {
         self.table.record(client).expect("there are two clients")
     }
 
+    /// The client's own clock, which began at another number than the others': nobody has to agree on the time. A client that runs by
+    /// itself reads a clock of its machine here; docs/LINKING.md says which will do.
+    fn own_clock(&self, client: usize) -> u64 {
+        self.now + 1_000_000 * client as u64
+    }
+
     fn step(&mut self, client: usize) -> Result<Phase, Cause> {
         self.now += 1;
-        self.table.step(client, self.now)
+        self.table.step(client, self.own_clock(client))
     }
 
     fn step_until_idle(&mut self, client: usize) -> Result<(), Cause> {

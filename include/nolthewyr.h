@@ -1,12 +1,19 @@
 /* Locks on windows of one long table of units, for C and C++. docs/LINKING.md says how a window is taken and given back.
  *
- * The library allocates nothing: the caller lends records and words. The proof of the calls assumes what Rust's references give, and
+ * The library allocates nothing: the caller lends clients and words. The proof of the calls assumes what Rust's references give, and
  * from C it is the caller's duty:
- * - each length is true: `records` has `clients` elements, and `words` or `rows` has `count`, at aligned addresses; no pointer is null;
+ * - each length is true: `clients` has `client_count` elements, `words` has `word_count` and `rows` has `row_count`, at aligned
+ *   addresses; no pointer is null;
  * - the two arrays do not overlap;
- * - while a call runs nobody else reads or writes them (while a page is asked for, others may read the records), and between the calls
+ * - while a call runs nobody else reads or writes them (while a page is asked for, others may read the clients), and between the calls
  *   of one table nobody else writes them.
- * All else is tested: a call with any other numbers in its arguments or in the arrays is accepted or refused by a number. */
+ * All else is tested: a call with any other numbers in its arguments or in the arrays is accepted or refused by a number.
+ *
+ * A client is stepped by its own clock, which may start at any number and need not agree with another's. It does not go back: a step
+ * below that client's last clock is refused by 5. And it is true within 1 part in 10,000: between any two steps of a client 10,000 times
+ * the ticks of its clock is 9,999 to 10,001 times the ticks that truly went by from call to call. Rounding counts, and so does what goes
+ * by between the reading of a clock and the call. No call can test this. If it is not so, two clients may come to hold overlapping
+ * windows; still, with any clocks, the tree is clean when all are idle. docs/LINKING.md says which clocks will do. */
 
 #ifndef NOLTHEWYR_H
 #define NOLTHEWYR_H
@@ -18,9 +25,9 @@
 extern "C" {
 #endif
 
-/* The version of this header. Records grow between versions: a program goes with a library whose first two numbers are the same, and
+/* The version of this header. Structs grow between versions: a program goes with a library whose first two numbers are the same, and
  * whose third, which grows with new functions, is not lower if the program calls one of these. */
-#define NOLTHEWYR_VERSION "0.2.0"
+#define NOLTHEWYR_VERSION "0.3.0"
 
 /* Where a client is. It holds its window exactly while its phase is 9. */
 enum nolthewyr_phase {
@@ -38,8 +45,8 @@ enum nolthewyr_phase {
 };
 
 /* How a client's last window ended, from phase 10 on until its next request. After 2 and 4 nothing is wrong with the window: once idle, the
- * client asks for it again. It is late if its claim took the wait or longer, and out of patience if it had its first piece, and not the
- * later one within the patience: it gives the first back, since those for whom it waits may wait for that. */
+ * client asks for it again. It is late if its claim took 9,999/10,001 of the wait or longer, and out of patience if it had its first
+ * piece, and not the later one within the patience: it gives the first back, since those for whom it waits may wait for that. */
 enum nolthewyr_outcome {
     NOLTHEWYR_OUTCOME_NONE = 0,
     NOLTHEWYR_OUTCOME_RELEASED = 1,
@@ -62,7 +69,7 @@ enum nolthewyr_cause {
     NOLTHEWYR_CAUSE_CLEAR_BIT = 9
 };
 
-/* The levels H of the tree (2..12), the distance m of notices (1..4), the wait T and the patience P (both 1..2^32 - 1). */
+/* The levels H of the tree (2..12), the distance m of notices (1..4), the wait T and the patience P (both 1..2^32 - 1 ticks). */
 typedef struct nolthewyr_settings {
     uint64_t levels;
     uint64_t distance;
@@ -70,8 +77,8 @@ typedef struct nolthewyr_settings {
     uint64_t patience;
 } nolthewyr_settings;
 
-/* A client record. A caller reads the phase, the outcome and the window [left, right), and writes nothing. `taken` is the clock at which
- * the first piece was taken. */
+/* A client record. A caller reads the phase, the outcome and the window [left, right), and writes nothing. `t1`, `t0` and `taken` are
+ * times by the client's own clock; `taken` is that at which the first piece was taken. */
 typedef struct nolthewyr_record {
     uint64_t phase;
     uint64_t outcome;
@@ -90,21 +97,19 @@ typedef struct nolthewyr_record {
     uint64_t taken;
 } nolthewyr_record;
 
-/* A request has its edges in a and b, a step its clock in a. `last` is the clock that the call before answered, 0 after an opening.
- * No function looks at `kind`. */
+/* A client: its last clock, which is that of its last accepted step and 0 after an opening, and its record. A caller writes nothing. */
+typedef struct nolthewyr_client {
+    uint64_t clock;
+    nolthewyr_record record;
+} nolthewyr_client;
+
+/* A request has its edges in a and b, a step its clock in a. No function looks at `kind`. */
 typedef struct nolthewyr_call {
     uint64_t kind;
     uint64_t client;
     uint64_t a;
     uint64_t b;
-    uint64_t last;
 } nolthewyr_call;
-
-/* The number, and the clock after the call. */
-typedef struct nolthewyr_answer {
-    uint64_t number;
-    uint64_t clock;
-} nolthewyr_answer;
 
 /* The number, the nodes of a window (second 0 for none), and how many units they have beyond it; all 0 in a refused answer. */
 typedef struct nolthewyr_cover_answer {
@@ -135,35 +140,36 @@ typedef struct nolthewyr_run_page_answer {
 /* How many words a tree of so many levels has, (4^levels - 1) / 3; 0 for levels that no tree has. */
 uint64_t nolthewyr_word_count(uint64_t levels);
 
-/* Tests the settings, the count of words and the count of clients, then zeroes all words and records; the clock is then 0. */
-uint64_t nolthewyr_open(nolthewyr_record *records, size_t clients, uint64_t *words, size_t count, nolthewyr_settings settings);
+/* Tests the settings, the count of words and the count of clients, then zeroes all words, and every client's clock and record. */
+uint64_t nolthewyr_open(nolthewyr_client *clients, size_t client_count, uint64_t *words, size_t word_count,
+                        nolthewyr_settings settings);
 
 /* Asks for [a, b) for an idle client: its record then has the window and its pieces, and no word is touched. */
-nolthewyr_answer nolthewyr_request(nolthewyr_record *records, size_t clients, uint64_t *words, size_t count,
-                                   nolthewyr_settings settings, nolthewyr_call call);
+uint64_t nolthewyr_request(nolthewyr_client *clients, size_t client_count, uint64_t *words, size_t word_count,
+                           nolthewyr_settings settings, nolthewyr_call call);
 
-/* Does the one thing that the client's phase says, at clock a, touches at most one word, and answers a as the clock. In place of that, a
- * client in phases 1 to 8 of a later piece whose first was taken the patience or longer ago goes to phase 10, with outcome 4. */
-nolthewyr_answer nolthewyr_step(nolthewyr_record *records, size_t clients, uint64_t *words, size_t count,
-                                nolthewyr_settings settings, nolthewyr_call call);
+/* Does the one thing that the client's phase says, at clock a, touches at most one word, and sets the client's clock to a. In place of
+ * that, a client in phases 1 to 8 of a later piece whose first was taken the patience or longer ago goes to phase 10, with outcome 4. */
+uint64_t nolthewyr_step(nolthewyr_client *clients, size_t client_count, uint64_t *words, size_t word_count,
+                        nolthewyr_settings settings, nolthewyr_call call);
 
 /* Ends the holding of a client in phase 9, which then gives its words back by steps until it is idle with outcome 1. */
-nolthewyr_answer nolthewyr_release(nolthewyr_record *records, size_t clients, uint64_t *words, size_t count,
-                                   nolthewyr_settings settings, nolthewyr_call call);
+uint64_t nolthewyr_release(nolthewyr_client *clients, size_t client_count, uint64_t *words, size_t word_count,
+                           nolthewyr_settings settings, nolthewyr_call call);
 
 /* Gives up a window that is not yet held: the client gives back by steps what it has, if anything, and is idle with outcome 3. */
-nolthewyr_answer nolthewyr_cancel(nolthewyr_record *records, size_t clients, uint64_t *words, size_t count,
-                                  nolthewyr_settings settings, nolthewyr_call call);
+uint64_t nolthewyr_cancel(nolthewyr_client *clients, size_t client_count, uint64_t *words, size_t word_count,
+                          nolthewyr_settings settings, nolthewyr_call call);
 
-/* The planners' page: fills a row for each client. `last` is the clock that the last call answered. Tests the settings (1), that there is
- * one row a client (2), the count of clients (3), and that every record is readable (6); a refused page leaves all rows as they were. */
-uint64_t nolthewyr_planners_page(const nolthewyr_record *records, size_t clients, nolthewyr_row *rows, size_t count,
-                                 nolthewyr_settings settings, uint64_t last);
+/* The planners' page: fills a row for each client. Tests the settings (1), that there is one row a client (2), the count of clients (3),
+ * and that every record is readable (6); a refused page leaves all rows as they were. */
+uint64_t nolthewyr_planners_page(const nolthewyr_client *clients, size_t client_count, nolthewyr_row *rows, size_t row_count,
+                                 nolthewyr_settings settings);
 
 /* A forecast run's page: what it may see of the table, its own record and how many clients hold their windows. Tests the settings (1), the
  * count of clients (3), the client (4), and that its own record is readable (6). */
-nolthewyr_run_page_answer nolthewyr_run_page(const nolthewyr_record *records, size_t clients, nolthewyr_settings settings,
-                                             uint64_t client, uint64_t last);
+nolthewyr_run_page_answer nolthewyr_run_page(const nolthewyr_client *clients, size_t client_count, nolthewyr_settings settings,
+                                             uint64_t client);
 
 /* The nodes that a request for [left, right) would take. Tests the levels, then the window. */
 nolthewyr_cover_answer nolthewyr_cover(uint64_t levels, uint64_t left, uint64_t right);

@@ -11,26 +11,25 @@ pub use linked::*;
 /// More clients than a table has.
 const TOO_MANY_CLIENTS: usize = 32_768;
 
-type OnTable = fn(&mut [Record], &mut [u64], Settings, Call) -> Answer;
+type OnTable = fn(&mut [Client], &mut [u64], Settings, Call) -> u64;
 
-/// An opened table. It owns its words, records, settings and last clock, so that every call is made on what the call before left.
-/// Each call gives the client's phase after it.
+/// An opened table. It owns its words, clients and settings, so that every call is made on what the call before left. Each call gives
+/// the client's phase after it.
 #[derive(Clone, Debug)]
 pub struct Table {
     settings: Settings,
-    records: Vec<Record>,
+    clients: Vec<Client>,
     words: Vec<u64>,
-    clock: u64,
 }
 
 impl Table {
     /// Opens a table for clients 0 up to `clients` less 1. The library refuses what no table has, and it does so on little memory: it is
-    /// lent no words for levels outside 2..12, and not more records than the first count that is too high.
+    /// lent no words for levels outside 2..12, and not more clients than the first count that is too high.
     pub fn open(settings: Settings, clients: usize) -> Result<Table, Cause> {
-        let records = vec![Record::default(); clients.min(TOO_MANY_CLIENTS)];
+        let clients = vec![Client::default(); clients.min(TOO_MANY_CLIENTS)];
         let words = vec![0; word_count(settings.levels) as usize];
-        let mut table = Table { settings, records, words, clock: 0 };
-        accepted(open(&mut table.records, &mut table.words, settings))?;
+        let mut table = Table { settings, clients, words };
+        accepted(open(&mut table.clients, &mut table.words, settings))?;
         Ok(table)
     }
 
@@ -39,7 +38,12 @@ impl Table {
         self.make(request, client, left, right)
     }
 
-    /// Does the one thing that the client's phase says, at a clock that is never below the last one.
+    /// Does the one thing that the client's phase says, by the client's own clock, which may start at any number. It does not go back: a
+    /// step below that client's last clock is refused by 5. And it is true within 1 part in 10,000: between any two steps of a client
+    /// 10,000 times the ticks of its clock is 9,999 to 10,001 times the ticks that truly went by from call to call. Rounding counts, and
+    /// so does what goes by between the reading of a clock and the call: threads read it under the mutex of the table. No call can test
+    /// this. If it is not so, two clients may come to hold overlapping windows; still, with any clocks, the tree is clean when all are
+    /// idle. docs/LINKING.md says which clocks will do.
     pub fn step(&mut self, client: usize, clock: u64) -> Result<Phase, Cause> {
         self.make(step, client, clock, 0)
     }
@@ -56,33 +60,31 @@ impl Table {
 
     /// The planners' page: a row for each client.
     pub fn planners_page(&self) -> Result<Vec<Row>, Cause> {
-        let mut rows = vec![Row::default(); self.records.len()];
-        accepted(planners_page(&self.records, &mut rows, self.settings, self.clock))?;
+        let mut rows = vec![Row::default(); self.clients.len()];
+        accepted(planners_page(&self.clients, &mut rows, self.settings))?;
         Ok(rows)
     }
 
     /// The page of a client that is a forecast run: what it may see of the table.
     pub fn run_page(&self, client: usize) -> Result<RunPageAnswer, Cause> {
-        let page = run_page(&self.records, self.settings, client as u64, self.clock);
+        let page = run_page(&self.clients, self.settings, client as u64);
         accepted(page.number).map(|()| page)
     }
 
     /// The client's record, if there is such a client.
     pub fn record(&self, client: usize) -> Option<&Record> {
-        self.records.get(client)
+        self.clients.get(client).map(|client| &client.record)
     }
 
-    /// The last clock: that of the last accepted step of any client, 0 before the first.
-    pub fn clock(&self) -> u64 {
-        self.clock
+    /// The client's last clock, that of its last accepted step, 0 before the first; if there is such a client.
+    pub fn clock(&self, client: usize) -> Option<u64> {
+        self.clients.get(client).map(|client| client.clock)
     }
 
     fn make(&mut self, on_table: OnTable, client: usize, a: u64, b: u64) -> Result<Phase, Cause> {
-        let call = Call { client: client as u64, a, b, last: self.clock, ..Call::default() };
-        let answer = on_table(&mut self.records, &mut self.words, self.settings, call);
-        accepted(answer.number)?;
-        self.clock = answer.clock;
-        Ok(self.records[client].phase)
+        let call = Call { client: client as u64, a, b, ..Call::default() };
+        accepted(on_table(&mut self.clients, &mut self.words, self.settings, call))?;
+        Ok(self.clients[client].record.phase)
     }
 }
 
@@ -104,26 +106,26 @@ pub fn version() -> &'static str {
     library_text(nolthewyr_version())
 }
 
-// The slices of these functions give what the proof assumes: lengths that are true, records that overlap neither words nor rows, and
+// The slices of these functions give what the proof assumes: lengths that are true, clients that overlap neither words nor rows, and
 // nobody else who writes them meanwhile, or reads what is written.
 
-pub fn open(records: &mut [Record], words: &mut [u64], settings: Settings) -> u64 {
-    unsafe { nolthewyr_open(records.as_mut_ptr(), records.len(), words.as_mut_ptr(), words.len(), settings) }
+pub fn open(clients: &mut [Client], words: &mut [u64], settings: Settings) -> u64 {
+    unsafe { nolthewyr_open(clients.as_mut_ptr(), clients.len(), words.as_mut_ptr(), words.len(), settings) }
 }
 
 macro_rules! on_table {
     ($($name:ident by $linked:ident),+) => {$(
-        pub fn $name(records: &mut [Record], words: &mut [u64], settings: Settings, call: Call) -> Answer {
-            unsafe { $linked(records.as_mut_ptr(), records.len(), words.as_mut_ptr(), words.len(), settings, call) }
+        pub fn $name(clients: &mut [Client], words: &mut [u64], settings: Settings, call: Call) -> u64 {
+            unsafe { $linked(clients.as_mut_ptr(), clients.len(), words.as_mut_ptr(), words.len(), settings, call) }
         }
     )+};
 }
 on_table!(request by nolthewyr_request, step by nolthewyr_step, release by nolthewyr_release, cancel by nolthewyr_cancel);
 
-pub fn planners_page(records: &[Record], rows: &mut [Row], settings: Settings, last: u64) -> u64 {
-    unsafe { nolthewyr_planners_page(records.as_ptr(), records.len(), rows.as_mut_ptr(), rows.len(), settings, last) }
+pub fn planners_page(clients: &[Client], rows: &mut [Row], settings: Settings) -> u64 {
+    unsafe { nolthewyr_planners_page(clients.as_ptr(), clients.len(), rows.as_mut_ptr(), rows.len(), settings) }
 }
 
-pub fn run_page(records: &[Record], settings: Settings, client: u64, last: u64) -> RunPageAnswer {
-    unsafe { nolthewyr_run_page(records.as_ptr(), records.len(), settings, client, last) }
+pub fn run_page(clients: &[Client], settings: Settings, client: u64) -> RunPageAnswer {
+    unsafe { nolthewyr_run_page(clients.as_ptr(), clients.len(), settings, client) }
 }

@@ -63,19 +63,18 @@ pub struct Record {
 
 #[repr(C)]
 #[derive(Clone, Copy, Debug, Default, PartialEq)]
+pub struct Client {
+    pub clock: u64,
+    pub record: Record,
+}
+
+#[repr(C)]
+#[derive(Clone, Copy, Debug, Default, PartialEq)]
 pub struct Call {
     pub kind: u64,
     pub client: u64,
     pub a: u64,
     pub b: u64,
-    pub last: u64,
-}
-
-#[repr(C)]
-#[derive(Clone, Copy, Debug, PartialEq)]
-pub struct Answer {
-    pub number: u64,
-    pub clock: u64,
 }
 
 #[repr(C)]
@@ -114,13 +113,13 @@ pub(super) fn library_text(text: *const c_char) -> &'static str {
 // Those that take no lent memory may be called with any numbers.
 #[rustfmt::skip]
 unsafe extern "C" {
-    pub fn nolthewyr_open(records: *mut Record, clients: usize, words: *mut u64, count: usize, settings: Settings) -> u64;
-    pub fn nolthewyr_request(records: *mut Record, clients: usize, words: *mut u64, count: usize, settings: Settings, call: Call) -> Answer;
-    pub fn nolthewyr_step(records: *mut Record, clients: usize, words: *mut u64, count: usize, settings: Settings, call: Call) -> Answer;
-    pub fn nolthewyr_release(records: *mut Record, clients: usize, words: *mut u64, count: usize, settings: Settings, call: Call) -> Answer;
-    pub fn nolthewyr_cancel(records: *mut Record, clients: usize, words: *mut u64, count: usize, settings: Settings, call: Call) -> Answer;
-    pub fn nolthewyr_planners_page(records: *const Record, clients: usize, rows: *mut Row, count: usize, settings: Settings, last: u64) -> u64;
-    pub fn nolthewyr_run_page(records: *const Record, clients: usize, settings: Settings, client: u64, last: u64) -> RunPageAnswer;
+    pub fn nolthewyr_open(clients: *mut Client, client_count: usize, words: *mut u64, word_count: usize, settings: Settings) -> u64;
+    pub fn nolthewyr_request(clients: *mut Client, client_count: usize, words: *mut u64, word_count: usize, settings: Settings, call: Call) -> u64;
+    pub fn nolthewyr_step(clients: *mut Client, client_count: usize, words: *mut u64, word_count: usize, settings: Settings, call: Call) -> u64;
+    pub fn nolthewyr_release(clients: *mut Client, client_count: usize, words: *mut u64, word_count: usize, settings: Settings, call: Call) -> u64;
+    pub fn nolthewyr_cancel(clients: *mut Client, client_count: usize, words: *mut u64, word_count: usize, settings: Settings, call: Call) -> u64;
+    pub fn nolthewyr_planners_page(clients: *const Client, client_count: usize, rows: *mut Row, row_count: usize, settings: Settings) -> u64;
+    pub fn nolthewyr_run_page(clients: *const Client, client_count: usize, settings: Settings, client: u64) -> RunPageAnswer;
     pub safe fn nolthewyr_cover(levels: u64, left: u64, right: u64) -> CoverAnswer;
     pub safe fn nolthewyr_word_count(levels: u64) -> u64;
     pub safe fn nolthewyr_phase_text(number: u64) -> *const c_char;

@@ -2,7 +2,7 @@
 
 from model import pages, tree
 from model.history import Call, Opened
-from model.record import IDLE, Settings
+from model.record import IDLE_CLIENT, Settings
 
 
 class ModelTable:
@@ -10,14 +10,13 @@ class ModelTable:
 
     def __init__(self, settings, clients):
         of_lock = Settings(*settings)
-        self.lock = Opened(of_lock, [0] * tree.node_count(of_lock.levels), [IDLE] * clients)
+        self.lock = Opened(of_lock, [0] * tree.node_count(of_lock.levels), [IDLE_CLIENT] * clients)
 
     def make(self, kind, client, *numbers):
         call = Call(kind, client, *numbers)
-        number, self.lock.clock = self.lock.answer(call)
-        if number != 0:
+        if number := self.lock.answer(call):
             raise ValueError(f"{call} is refused by {number}")
-        return self.lock.records[client].phase
+        return self.record(client).phase
 
     def request(self, client, left, right):
         return self.make("request", client, left, right)
@@ -32,12 +31,12 @@ class ModelTable:
         return self.make("cancel", client)
 
     def record(self, client):
-        return self.lock.records[client]
+        return self.lock.clients[client].record
 
     def planners_page(self):
-        rows = [pages.Row()] * len(self.lock.records)
-        pages.planners_page(self.lock.settings, self.lock.records, rows, self.lock.clock)
+        rows = [pages.Row()] * len(self.lock.clients)
+        pages.planners_page(self.lock.settings, self.lock.clients, rows)
         return rows
 
     def run_page(self, client):
-        return pages.run_page(self.lock.settings, self.lock.records, client, self.lock.clock)
+        return pages.run_page(self.lock.settings, self.lock.clients, client)

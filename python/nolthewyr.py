@@ -2,7 +2,7 @@
 
     table = Table(Settings(levels=3, distance=2, wait=30, patience=100), clients=2)
     table.request(0, 10, 20)            # client, left edge, right edge
-    table.step(0, clock)                # again and again, until it gives Phase.HELD; or Phase.IDLE, and it asks again
+    table.step(0, clock)                # by its own clock, until it gives Phase.HELD; or Phase.IDLE, and it asks again
     table.release(0)                    # and steps until it is Phase.IDLE
     table.planners_page()               # a row for each client: phase, window, nodes and over-cover
     table.run_page(0)                   # what client 0 may see: its own record, and how many clients hold
@@ -18,7 +18,7 @@ from threading import Lock
 
 # All that a program names is found here, whichever of the two files has it.
 from nolthewyr_linked import (
-    FUNCTIONS, LEAST, SERIES, Answer, Call, Cause, CoverAnswer, Outcome, Phase, Record, Row, RunPageAnswer, Settings, fitting, library,
+    FUNCTIONS, LEAST, SERIES, Call, Cause, Client, CoverAnswer, Outcome, Phase, Record, Row, RunPageAnswer, Settings, fitting, library,
     library_file)
 
 TOO_MANY_CLIENTS = 32768
@@ -35,31 +35,40 @@ class Refused(Exception):
         return f"refused by {self.number}: {self.text}"
 
 
-def accepted(answer):
-    if answer.number != Cause.ACCEPTED:
-        raise Refused(answer.number)
+def accepted(number):
+    if number != Cause.ACCEPTED:
+        raise Refused(number)
+
+
+def accepted_answer(answer):
+    accepted(answer.number)
     return answer
 
 
 class Table:
-    """An opened table. It owns its words, records, settings and last clock, so that every call is made on what the call before left,
-    and threads may share it: a call is whole before the next begins. Each call gives the client's phase after it."""
+    """An opened table. It owns its words, clients and settings, so that every call is made on what the call before left, and threads may
+    share it: a call is whole before the next begins. Each call gives the client's phase after it."""
 
     def __init__(self, settings, clients):
         """Clients are numbered from 0. The library refuses what no table has, and it does so on little memory: it is lent no words for
-        levels outside 2..12, and not more records than the first count that is too high."""
-        self._settings, self._clock, self._lock = Settings.from_buffer_copy(settings), 0, Lock()
-        self._records = (Record * min(fitting(clients), TOO_MANY_CLIENTS))()
+        levels outside 2..12, and not more clients than the first count that is too high."""
+        self._settings, self._lock = Settings.from_buffer_copy(settings), Lock()
+        self._clients = (Client * min(fitting(clients), TOO_MANY_CLIENTS))()
         self._words = (c_uint64 * word_count(settings.levels))()
-        self._lent = self._records, len(self._records), self._words, len(self._words), self._settings
-        accepted(Answer(library().nolthewyr_open(*self._lent), 0))
+        self._lent = self._clients, len(self._clients), self._words, len(self._words), self._settings
+        accepted(library().nolthewyr_open(*self._lent))
 
     def request(self, client, left, right):
         """Asks for [left, right) for an idle client."""
         return self._make(library().nolthewyr_request, client, left, right)
 
     def step(self, client, clock):
-        """Does the one thing that the client's phase says, at a clock that is never below the last one."""
+        """Does the one thing that the client's phase says, by the client's own clock, which may start at any number. It does not go back: a
+        step below that client's last clock is refused by 5. And it is true within 1 part in 10,000: between any two steps of a client
+        10,000 times the ticks of its clock is 9,999 to 10,001 times the ticks that truly went by from call to call. Rounding counts, and so
+        does what goes by between the reading of a clock and the call: threads that share a table give a function that reads the clock, and
+        it is called when no other call can come between. No call can test this. If it is not so, two clients may come to hold overlapping
+        windows; still, with any clocks, the tree is clean when all are idle. docs/LINKING.md says which clocks will do."""
         return self._make(library().nolthewyr_step, client, clock)
 
     def release(self, client):
@@ -72,38 +81,35 @@ class Table:
 
     def planners_page(self):
         """The planners' page: a row for each client."""
-        rows = (Row * len(self._records))()
+        rows = (Row * len(self._clients))()
         with self._lock:
-            number = library().nolthewyr_planners_page(self._records, len(self._records), rows, len(rows), self._settings, self._clock)
-        accepted(Answer(number, 0))
+            accepted(library().nolthewyr_planners_page(self._clients, len(self._clients), rows, len(rows), self._settings))
         return list(rows)
 
     def run_page(self, client):
         """The page of a client that is a forecast run: what it may see of the table."""
         with self._lock:
-            page = library().nolthewyr_run_page(self._records, len(self._records), self._settings, fitting(client), self._clock)
-        return accepted(page)
+            return accepted_answer(library().nolthewyr_run_page(self._clients, len(self._clients), self._settings, fitting(client)))
 
     def record(self, client):
         """A copy of the client's record, or None if there is no such client."""
         with self._lock:
-            return Record.from_buffer_copy(self._records[client]) if 0 <= client < len(self._records) else None
+            return Record.from_buffer_copy(self._clients[client].record) if 0 <= client < len(self._clients) else None
 
-    @property
-    def clock(self):
-        """The last clock: that of the last accepted step of any client, 0 before the first."""
-        return self._clock
+    def clock(self, client):
+        """The client's last clock, that of its last accepted step, 0 before the first; or None if there is no such client."""
+        with self._lock:
+            return self._clients[client].clock if 0 <= client < len(self._clients) else None
 
     def _make(self, function, client, a=0, b=0):
         with self._lock:
-            answer = accepted(function(*self._lent, Call(client=client, a=a, b=b, last=self._clock)))
-            self._clock = answer.clock
-            return Phase(self._records[client].phase)
+            accepted(function(*self._lent, Call(client=client, a=a() if callable(a) else a, b=b)))
+            return Phase(self._clients[client].record.phase)
 
 
 def cover(levels, left, right):
     """The nodes that a request for [left, right) would take."""
-    return accepted(library().nolthewyr_cover(fitting(levels), fitting(left), fitting(right)))
+    return accepted_answer(library().nolthewyr_cover(fitting(levels), fitting(left), fitting(right)))
 
 
 def word_count(levels):

@@ -9,8 +9,8 @@ from enum import IntEnum
 from functools import lru_cache
 from pathlib import Path
 
-# Records grow between versions, and functions with the third number: a library of another series, or of a lower version, is not used.
-SERIES = "0.2"
+# Structs grow between versions, and functions come with the third number: a library of another series, or of a lower version, is not used.
+SERIES = "0.3"
 LEAST = 0
 FILE = f"libnolthewyr.so.{SERIES}"
 
@@ -61,16 +61,16 @@ class Record(Numbers):
     _fields_ = numbers("phase outcome left right first second current giving grip ticket place notices t1 t0 taken")
 
 
+class Client(Fields):
+    """A client: its last clock, which is that of its last accepted step and 0 after an opening, and its record."""
+
+    _fields_ = [("clock", c_uint64), ("record", Record)]
+
+
 class Call(Numbers):
-    """What a call asks: a request has its edges in a and b, a step its clock in a; `last` is the clock before it."""
+    """What a call asks: a request has its edges in a and b, a step its clock in a."""
 
-    _fields_ = numbers("kind client a b last")
-
-
-class Answer(Numbers):
-    """The number of a call (0 accepted) and the clock after it."""
-
-    _fields_ = numbers("number clock")
+    _fields_ = numbers("kind client a b")
 
 
 class CoverAnswer(Numbers):
@@ -92,12 +92,12 @@ class RunPageAnswer(Fields):
     _fields_ = [("number", c_uint64), ("own", Record), ("held", c_uint64)]
 
 
-LENT = POINTER(Record), c_size_t, POINTER(c_uint64), c_size_t, Settings
+LENT = POINTER(Client), c_size_t, POINTER(c_uint64), c_size_t, Settings
 FUNCTIONS = {
     "open": (LENT, c_uint64),
-    **{name: ((*LENT, Call), Answer) for name in ("request", "step", "release", "cancel")},
-    "planners_page": ((POINTER(Record), c_size_t, POINTER(Row), c_size_t, Settings, c_uint64), c_uint64),
-    "run_page": ((POINTER(Record), c_size_t, Settings, c_uint64, c_uint64), RunPageAnswer),
+    **{name: ((*LENT, Call), c_uint64) for name in ("request", "step", "release", "cancel")},
+    "planners_page": ((POINTER(Client), c_size_t, POINTER(Row), c_size_t, Settings), c_uint64),
+    "run_page": ((POINTER(Client), c_size_t, Settings, c_uint64), RunPageAnswer),
     "cover": ((c_uint64, c_uint64, c_uint64), CoverAnswer),
     "word_count": ((c_uint64,), c_uint64),
     **{f"{name}_text": ((c_uint64,), c_char_p) for name in ("phase", "outcome", "cause")},

@@ -7,16 +7,18 @@ from random import Random
 
 from compare import NAMES, case, unlike
 from compiled_table import library, nolthewyr
-from histories import TOP, Driver
+from histories import Driver
 from library import ROOT, SECONDS, command, made
-from linking_cases import ENUMERATIONS, RUST, UNKNOWN
+from linking_cases import RUST
 from model import cover, pages, tree
 from model.history import Opened
-from model.record import IDLE, Settings
+from model.record import IDLE_CLIENT, Settings
+from name_cases import ENUMERATIONS, TOP, UNKNOWN
 
 NAMES["opening of a table"] = ("language", "levels", "distance", "wait", "patience", "clients"), ("number",)
-NAMES["call on a table"] = ("language", "history", "call"), ("number", "clock, or of a page the run's number", "fields unlike")
+NAMES["call on a table"] = ("language", "history", "call"), ("number", "the client's clock, or of a page the run's number", "fields unlike")
 NAMES["outcome of the histories"] = ("outcome",), ("occurs",)
+NAMES["steps below another client's clock"] = (), ("occur",)
 NAMES["asked of the levels"] = ("language", "levels", "left", "right"), ("number", "first", "second", "over-cover")
 NAMES["word count"] = ("language", "levels"), ("words",)
 NAMES["text in Rust"] = ("enumeration", "number"), ("that of the library",)
@@ -87,36 +89,39 @@ def openings():
 
 def pages_by_model(lock, client):
     """The numbers of both pages, the count and the client's record if its page is accepted, and all rows."""
-    rows = [pages.Row()] * len(lock.records)
-    number = pages.planners_page(lock.settings, lock.records, rows, lock.clock)
-    page = pages.run_page(lock.settings, lock.records, client, lock.clock)
+    rows = [pages.Row()] * len(lock.clients)
+    number = pages.planners_page(lock.settings, lock.clients, rows)
+    page = pages.run_page(lock.settings, lock.clients, client)
     own = () if page.number else (page.held, *page.own)
     return number, page.number, *own, *(field for row in rows for field in row)
 
 
 class History:
-    """A random history made by the model: its settings and clients, its calls, and the number, clock and record after each; and now and
-    then the pages."""
+    """A random history made by the model: its settings and clients, its calls, and after each the number, and the clock and record of its
+    client if there is one; and now and then the pages. `steps_below` counts the accepted steps below another client's clock."""
 
     def __init__(self, seed):
-        rng = Random(f"binding {seed}")
-        waits, patiences = (1, 2, 5, 9), (1, 5, 20, 2 ** 32 - 1)
-        self.settings = Settings(rng.choice([2, 3, 4, 6]), rng.choice(tree.DISTANCES), rng.choice(waits), rng.choice(patiences))
-        self.clients = rng.choice([1, 2, 3, 6])
-        lock = Opened(self.settings, [0] * tree.node_count(self.settings.levels), [IDLE] * self.clients)
-        driver = Driver(lock, seed)
-        self.calls, self.answers, self.outcomes = [], [], set()
+        self.rng = Random(f"binding {seed}")
+        levels, waits, patiences = (2, 3, 4, 6), (1, 2, 5, 9, 5001), (1, 5, 20, 2 ** 32 - 1)
+        self.settings = Settings(*map(self.rng.choice, (levels, tree.DISTANCES, waits, patiences)))
+        self.clients = self.rng.choice([1, 2, 3, 6])
+        self.lock = Opened(self.settings, [0] * tree.node_count(self.settings.levels), [IDLE_CLIENT] * self.clients)
+        self.calls, self.answers, self.outcomes, self.steps_below = [], [], set(), 0
+        driver = Driver(self.lock, seed)
         for _ in range(1000):
-            call = driver.next_call()
-            numbers = call[1:4] if call.kind == "request" else call[1:3] if call.kind == "step" else call[1:2]
-            self.calls.append((call.kind, *numbers))
-            number = lock.make(call).number
-            record = lock.records[call.client] if call.client < self.clients else ()
-            self.outcomes.update(record[1:2])
-            self.answers.append((number, lock.clock, *record))
-            if rng.random() < SHARE_WITH_PAGES:
-                self.calls.append(("pages", call.client))
-                self.answers.append(pages_by_model(lock, call.client))
+            self.make(driver.next_call())
+
+    def make(self, call):
+        numbers = call[1:4] if call.kind == "request" else call[1:3] if call.kind == "step" else call[1:2]
+        self.calls.append((call.kind, *numbers))
+        number = self.lock.make(call).number
+        clock, record = self.lock.clients[call.client] if call.client < self.clients else (None, ())
+        self.answers.append((number, clock, *record) if record else (number,))
+        self.outcomes.update(record[1:2])
+        self.steps_below += (call.kind, number) == ("step", 0) and any(client.clock > clock for client in self.lock.clients)
+        if self.rng.random() < SHARE_WITH_PAGES:
+            self.calls.append(("pages", call.client))
+            self.answers.append(pages_by_model(self.lock, call.client))
 
 
 def python_pages(table, client):
@@ -127,14 +132,14 @@ def python_pages(table, client):
 
 
 def python_answers(history):
-    """What a table in Python gives for every call: the number, the clock, and the client's record if there is one; or the pages."""
+    """What a table in Python gives for every call: the number, and the client's clock and record if there is one; or the pages."""
     table = nolthewyr.Table(nolthewyr.Settings(*history.settings), history.clients)
     for name, client, *others in history.calls:
         if name == "pages":
             yield python_pages(table, client)
         else:
             number = refused(getattr(table, name), client, *others)
-            yield number, table.clock, *(table.record(client) or ())
+            yield (number, table.clock(client), *table.record(client)) if client < history.clients else (number,)
 
 
 def rust_answers(history, edition):
@@ -149,17 +154,16 @@ def compared(place, seed, history, answers):
 
 def calls_of_histories():
     """Ten random histories in Python and in both editions of Rust: each call and each page gives what the model gives. Every outcome
-    occurs in them."""
+    occurs in them, and steps below the clock of another client."""
     library()
-    outcomes = set()
-    for seed in range(10):
-        history = History(seed)
-        outcomes |= history.outcomes
+    histories = [History(seed) for seed in range(10)]
+    for seed, history in enumerate(histories):
         yield from compared(0, seed, history, list(python_answers(history)))
         for place, edition in enumerate(EDITIONS, 1):
             yield from compared(place, seed, history, rust_answers(history, edition))
     for outcome in nolthewyr.Outcome:
-        yield case("outcome of the histories", [outcome], 1), int(outcome in outcomes)
+        yield case("outcome of the histories", [outcome], 1), int(any(outcome in history.outcomes for history in histories))
+    yield case("steps below another client's clock", [], 1), int(sum(history.steps_below for history in histories) > 0)
 
 
 def python_cover(*asked):

@@ -10,7 +10,7 @@ from compare import NAMES, case
 from compiled_table import library, nolthewyr
 from example_lines import lines
 from library import ROOT, command
-from linking_cases import ENUMERATIONS
+from name_cases import ENUMERATIONS
 from prefix import BUILDERS, asked, built, c_shared, environment, folder, place, prefix, printed, python, run, rust_shared
 
 NAMES["example line"] = ("place in the list of languages", "levels", "line"), ("as the model says",)
@@ -29,7 +29,7 @@ RUST_FILES = "nolthewyr.rs", "nolthewyr_linked.rs"
 PYTHON_FILES = "nolthewyr.py", "nolthewyr_linked.py"
 # Versions that the Python files do not use, each with the least third number that they ask for: of other series, the one before among them,
 # one without a third number, and a lower one.
-OTHER_VERSIONS = {"0.1.1": 0, "0.3.0": 0, "1.2.0": 0, "0.20.0": 0, "0.2.x": 0, "0.2.1": 2}
+OTHER_VERSIONS = {"0.2.0": 0, "0.4.0": 0, "1.3.0": 0, "0.30.0": 0, "0.3.x": 0, "0.3.1": 2}
 
 
 def compared(name, before, expected, found):
@@ -120,7 +120,7 @@ def of_another_version(version):
 
 
 def another_version():
-    """A library of another series is not used, since its records may have another size, and none of a lower version, since it has not all
+    """A library of another series is not used, since its structs may have another size, and none of a lower version, since it has not all
     functions. Both are refused by their version, whatever functions they have."""
     for way, (version, least) in enumerate(OTHER_VERSIONS.items(), 5):
         made = of_another_version(version)

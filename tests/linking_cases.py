@@ -1,5 +1,5 @@
 """Cases for the declarations in C, Rust and Python: a compiler believes them, so that they are held to the Rattle source, to what the
-libraries export, to document 01's names, and to each other."""
+libraries export, and to each other."""
 
 import re
 import subprocess
@@ -10,9 +10,7 @@ from library import ROOT, made
 
 NAMES["declared struct"] = ("language", "struct"), ("fields", "fields unlike")
 NAMES["declared functions"] = ("place",), ("functions", "functions unlike")
-NAMES["declared parameters"] = ("language", "function"), ("parameters", "parameters unlike")
-NAMES["declared names"] = ("language", "enumeration"), ("names", "names unlike")
-NAMES["text"] = ("enumeration", "number"), ("as document 01 says",)
+NAMES["declared types"] = ("language", "function"), ("parameters and result", "unlike")
 NAMES["compiled without a warning"] = ("place in the list of compilers",), ("exit status",)
 NAMES["version"] = ("place",), ("that of the header",)
 
@@ -24,33 +22,17 @@ TEXTS = ROOT / "library" / "texts.c"
 
 # Each struct of the header, and the crate and the name that it has in the Rattle source.
 STRUCTS = {
-    "settings": ("lock", "Settings"), "record": ("lock", "Record"), "call": ("lock", "Call"), "answer": ("table", "Answer"),
+    "settings": ("lock", "Settings"), "record": ("lock", "Record"), "client": ("lock", "Client"), "call": ("lock", "Call"),
     "cover_answer": ("cover", "Answer"), "row": ("pages", "Row"), "run_page_answer": ("pages", "RunPage"),
 }
 # The crates whose exported functions are linked.
 LINKED = "table", "pages"
 
-# What the length of each lent slice is called, and what C's types are in Rust.
-LENGTHS = {"records": "clients", "words": "count", "rows": "count"}
-C_TYPES = {"uint64_t": "u64", "size_t": "usize"}
-
-# What the documents call each number, outcome 4 by document 02's patience that has run out. The names of causes are short ones for the rows
-# of document 01's table.
-ENUMERATIONS = {
-    "phase": "idle ticket turn climb blocked claim notify wait check held returning".split(),
-    "outcome": "none released late cancelled out_of_patience".split(),
-    "cause": "accepted settings word_count client_count client clock unreadable window phase clear_bit".split(),
-}
-
-# Words of document 01's table that the texts of the causes have.
-CAUSE_WORDS = [
-    "accepted", "levels not 2 to 12, distance not 1 to 4, or wait or patience not 1 to 4294967295",
-    "word count not the tree's, (4^levels - 1) / 3; or not one row for each client",
-    "no clients, or over 32767", "client not below the table's count", "step clock below the last clock", "client's record unreadable",
-    "window", "request when not idle, release when not held, or cancel", "returning leaf finds a wanted bit clear", "schedule",
-    "over 6 levels or over 64 clients",
-]
-UNKNOWN = 2 ** 8, 2 ** 32, 2 ** 32 + 1, 2 ** 64 - 1
+# What the length of each lent slice is called, what C's types are in Rust, and what the structs that a function answers are called where
+# it is linked.
+LENGTHS = {"clients": "client_count", "words": "word_count", "rows": "row_count"}
+C_TYPES = {"uint64_t": "u64", "size_t": "usize", "char": "c_char"}
+ANSWERS = {"cover::Answer": "CoverAnswer", "RunPage": "RunPageAnswer"}
 
 
 def title(name):
@@ -114,41 +96,57 @@ def by_rattle(parameters):
             yield f"{name}: {type_}"
 
 
+def type_in_c(const, type_, pointer):
+    """A type in C, by its name in Rust."""
+    lent = f"*{'const' if const else 'mut'} " if pointer else ""
+    return f"{lent}{C_TYPES.get(type_) or struct_of(type_)}"
+
+
 def by_c(parameters):
-    """The parameters in C, by the types' names in Rust."""
     for const, type_, pointer, name in re.findall(r"(const )?(\w+) (\*?)(\w+)", " ".join(parameters.split())):
-        lent = f"*{'const' if const else 'mut'} " if pointer else ""
-        yield f"{name}: {lent}{C_TYPES.get(type_) or struct_of(type_)}"
+        yield f"{name}: {type_in_c(const, type_, pointer)}"
+
+
+def result_in_c(result):
+    return type_in_c(*re.fullmatch(r"(const )?(\w+) (\*?)", result).groups())
 
 
 def by_rust(parameters):
     return (f"{name}: {type_}" for name, type_ in named_types(parameters))
 
 
-def functions_in(text, pattern, parameters_of):
-    """The functions of a text, each with its parameters in order."""
-    return {name: list(parameters_of(parameters)) for name, parameters in re.findall(pattern, text, re.MULTILINE)}
+def functions_in(text, pattern, parameters_of, result_of):
+    """The functions of a text, each with its parameters in order and its result."""
+    found = re.finditer(pattern, text, re.MULTILINE)
+    return {each["name"]: [*parameters_of(each["parameters"]), f"-> {result_of(each['result'])}"] for each in found}
 
 
 def exported_by_source():
-    """The functions that are linked, each with its parameters in order."""
+    """The functions that are linked, each with its parameters in order and its result."""
     sources = (path for crate in LINKED for path in (ROOT / "crates" / crate / "src").glob("*.rt"))
-    proved = functions_in("".join(path.read_text() for path in sources), r'pub extern "C" fn (\w+)\(([^)]*)\)', by_rattle)
-    return proved | functions_in(TEXTS.read_text(), r"^const char \*(\w+)\(([^)]*)\)", by_c)
+    proved = r'pub extern "C" fn (?P<name>\w+)\((?P<parameters>[^)]*)\) -> (?P<result>[\w:]+)'
+    texts = r"^(?P<result>const char \*)(?P<name>\w+)\((?P<parameters>[^)]*)\)"
+    by_proof = functions_in("".join(path.read_text() for path in sources), proved, by_rattle, lambda type_: ANSWERS.get(type_, type_))
+    return by_proof | functions_in(TEXTS.read_text(), texts, by_c, result_in_c)
 
 
-def declared_parameters():
-    """The functions that C and Rust declare have the parameters of the source in the same order, by name and by type."""
-    declared = [
-        functions_in(HEADER.read_text(), r"^\w[\w ]*[ *](nolthewyr_\w+)\(([^)]*)\);", by_c),
-        functions_in(RUST_LINKED.read_text(), r"fn (nolthewyr_\w+)\(([^)]*)\)", by_rust),
-    ]
-    for place, functions in enumerate(declared):
+def declared_by_c():
+    return functions_in(
+        HEADER.read_text(), r"^(?P<result>\w[\w ]*[ *])(?P<name>nolthewyr_\w+)\((?P<parameters>[^)]*)\);", by_c, result_in_c)
+
+
+def declared_by_rust():
+    return functions_in(RUST_LINKED.read_text(), r"fn (?P<name>nolthewyr_\w+)\((?P<parameters>[^)]*)\) -> (?P<result>.*);", by_rust, str)
+
+
+def declared_types():
+    """The functions that C and Rust declare have the parameters of the source in the same order, by name and by type, and its results."""
+    for place, functions in enumerate((declared_by_c(), declared_by_rust())):
         for number, (name, expected) in enumerate(exported_by_source().items()):
             found = functions.get(name, [])
             if found != expected:
                 print(f"    {name} is declared with {found}, and not with {expected}")
-            yield case("declared parameters", [place, number], (len(expected), 0)), (len(found), unlike(expected, found))
+            yield case("declared types", [place, number], (len(expected), 0)), (len(found), unlike(expected, found))
 
 
 def exported(path, *options):
@@ -161,48 +159,14 @@ def declared_functions():
     """The declared functions and the exported ones are the same, in all languages and both libraries."""
     expected = set(exported_by_source())
     found = [
-        set(re.findall(r"^\w[\w ]*[ *](nolthewyr_\w+)\(", HEADER.read_text(), re.MULTILINE)),
-        set(re.findall(r"fn (nolthewyr_\w+)\(", RUST_LINKED.read_text())),
+        set(declared_by_c()),
+        set(declared_by_rust()),
         {f"nolthewyr_{name}" for name in nolthewyr.FUNCTIONS},
         exported(made("build/libnolthewyr.a")),
         exported(made("build/libnolthewyr.so"), "--dynamic"),
     ]
     for place, names in enumerate(found):
         yield case("declared functions", [place], (len(expected), 0)), (len(names), len(names ^ expected))
-
-
-def c_names(name):
-    return re.findall(rf"NOLTHEWYR_{name.upper()}_(\w+) = (\d+)", HEADER.read_text())
-
-
-def rust_names(name):
-    [listed] = re.findall(rf"named_number!\({title(name)} by nolthewyr_{name}_text: ([^)]*)\);", RUST_LINKED.read_text())
-    return re.findall(r"(\w+) = (\d+)", listed)
-
-
-def python_names(name):
-    return [(named.name, named.value) for named in getattr(nolthewyr, title(name))]
-
-
-def declared_names():
-    """Every phase, outcome and cause has the same name and number in all languages."""
-    for place, names_of in enumerate((c_names, rust_names, python_names)):
-        for number, (name, names) in enumerate(ENUMERATIONS.items()):
-            found = [(named.lower(), int(at)) for named, at in names_of(name)]
-            expected = [(named, at) for at, named in enumerate(names)]
-            yield case("declared names", [place, number], (len(names), 0)), (len(found), unlike(expected, found))
-
-
-def texts():
-    """Phases and outcomes are said by their names, causes by document 01's words, and every other number is said to be unknown."""
-    library()
-    words = ENUMERATIONS | {"cause": CAUSE_WORDS}
-    for place, (name, said) in enumerate(words.items()):
-        text = getattr(nolthewyr, f"{name}_text")
-        for number in (*range(len(said) + 1), *UNKNOWN):
-            expected = said[number].replace("_", " ") if number < len(said) else f"unknown {name}"
-            as_said = expected in text(number) if name == "cause" else expected == text(number)
-            yield case("text", [place, number], 1), int(as_said)
 
 
 C_CHECKED = "-Wall", "-Wextra", "-Wpedantic", "-Werror", "-fsyntax-only", "-I", HEADER.parent
@@ -237,9 +201,7 @@ def versions():
 SUITES = {
     "linking, the declared structs are those of the source": declared_structs,
     "linking, the declared functions are those that are exported": declared_functions,
-    "linking, the declared functions have the source's parameters": declared_parameters,
-    "linking, phases, outcomes and causes have the documents' names in all languages": declared_names,
-    "linking, every number has a text": texts,
+    "linking, the declared functions have the source's parameters and results": declared_types,
     "linking, the declarations compile without a warning": compiled,
     "linking, one version everywhere": versions,
 }

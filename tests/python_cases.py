@@ -5,8 +5,8 @@ from threading import Thread
 
 from compare import NAMES, case
 from compiled_table import library, nolthewyr
-from histories import TOP
 from model.record import IDLE
+from name_cases import TOP
 
 NAMES["number that does not fit"] = ("place in the list of calls",), ("raises",)
 NAMES["table in Python"] = ("claim",), ("holds",)
@@ -36,7 +36,8 @@ def numbers_that_do_not_fit():
         ]
         for place, call in enumerate(calls):
             yield case("number that does not fit", [place], 1), raises(call)
-    yield case("table in Python", [0], 1), int(table.clock == 0 and all(tuple(table.record(client)) == IDLE for client in range(2)))
+    unchanged = [table.clock(client) == 0 and tuple(table.record(client)) == IDLE for client in range(2)]
+    yield case("table in Python", [0], 2), sum(unchanged)
 
 
 def waits(table, call, *arguments):
@@ -51,18 +52,29 @@ def waits(table, call, *arguments):
 
 
 def owned_memory():
-    """What a caller does to the settings it opened with, or to a record or a page it was given, does not reach the table, and a call or a
-    page waits until another thread's call is made."""
+    """What a caller does to the settings it opened with, or to a record or a page it was given, does not reach the table, and whatever is
+    asked of the table waits until another thread's call is made."""
     library()
     settings = nolthewyr.Settings(2, 1, 5, 9)
     table = nolthewyr.Table(settings, 1)
     table.request(0, 10, 20)
     settings.levels, table.record(0).phase = 3, 9
     table.run_page(0).own.phase = table.planners_page()[0].phase = 9
-    all_wait = [waits(table, table.step, 0, 1), waits(table, table.planners_page), waits(table, table.run_page, 0)]
-    yield case("table in Python", [1], 3), sum(all_wait)
-    yield case("table in Python", [2], 1), int(table.clock == 1 and table.record(0).phase == nolthewyr.Phase.CLAIM)
-    yield case("table in Python", [3], 1), int(table.record(1) is None and table.record(-1) is None)
+    asked = (table.step, 0, 1), (table.planners_page,), (table.run_page, 0), (table.record, 0), (table.clock, 0)
+    yield case("table in Python", [1], len(asked)), sum(waits(table, *call) for call in asked)
+    yield case("table in Python", [2], 1), int(table.clock(0) == 1 and table.record(0).phase == nolthewyr.Phase.CLAIM)
+    yield case("table in Python", [3], 1), int({table.record(1), table.record(-1), table.clock(1), table.clock(-1)} == {None})
+
+
+def clock_read_in_turn():
+    """A clock that is given as a function is read when no other call can come between, and a number that does not fit is refused too."""
+    library()
+    table = nolthewyr.Table(nolthewyr.Settings(2, 1, 5, 9), 1)
+    table.request(0, 10, 20)
+    table.step(0, lambda: 7 if table._lock.locked() else 8)
+    yield case("table in Python", [7], 1), int(table.clock(0) == 7 and not table._lock.locked())
+    yield case("table in Python", [8], 1), raises(lambda: table.step(0, lambda: TOP + 1))
+    yield case("table in Python", [9], 1), int(table.clock(0) == 7)
 
 
 def shown_by_names():
@@ -79,5 +91,6 @@ def shown_by_names():
 SUITES = {
     "table in Python, a number of over 64 bits is refused": numbers_that_do_not_fit,
     "table in Python, it owns what it was opened with, and calls wait for each other": owned_memory,
+    "table in Python, a clock that is a function is read in the call's turn": clock_read_in_turn,
     "table in Python, structs are shown by their names": shown_by_names,
 }

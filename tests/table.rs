@@ -2,7 +2,7 @@
 //! text, as its answer:
 //!
 //!     open LEVELS DISTANCE WAIT PATIENCE CLIENTS  the number; from here on the calls are made on this table, if it was accepted
-//!     request CLIENT LEFT RIGHT                   the number, the last clock and the client's record; the others likewise
+//!     request CLIENT LEFT RIGHT                   the number, the client's last clock and its record; the others likewise
 //!     step CLIENT CLOCK
 //!     release CLIENT
 //!     cancel CLIENT
@@ -25,11 +25,11 @@ fn fields(record: &Record) -> String {
 /// Also has what a caller finds: the phase that a call gives is that of the record.
 fn told(table: &Table, client: usize, made: Result<Phase, Cause>) -> String {
     let number = made.err().unwrap_or(Cause::ACCEPTED).0;
-    let Some(record) = table.record(client) else {
-        return format!("{number} {}", table.clock());
+    let (Some(clock), Some(record)) = (table.clock(client), table.record(client)) else {
+        return number.to_string();
     };
     assert!(made.is_err() || made == Ok(record.phase));
-    format!("{number} {} {}", table.clock(), fields(record))
+    format!("{number} {clock} {}", fields(record))
 }
 
 fn pages(table: &Table, client: usize) -> String {

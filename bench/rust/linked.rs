@@ -1,59 +1,63 @@
 //! The calls by C's convention, with the signatures that the libraries `nolthewyr` and `probe` have.
 
 use super::Cover;
-use crate::nolthewyr::{Answer, Call, CoverAnswer, Record, Row, RunPageAnswer, Settings};
+use crate::nolthewyr::{Call, Client, CoverAnswer, Record, Row, RunPageAnswer, Settings};
 use std::slice::{from_raw_parts, from_raw_parts_mut};
 
-/// The lent records and words, as slices.
+/// The lent clients and words, as slices.
 ///
 /// # Safety
 /// As include/nolthewyr.h says: the lengths are true, and nothing overlaps.
-unsafe fn lent<'a>(records: *mut Record, clients: usize, words: *mut u64, count: usize) -> (&'a mut [Record], &'a mut [u64]) {
-    (from_raw_parts_mut(records, clients), from_raw_parts_mut(words, count))
+unsafe fn lent<'a>(
+    clients: *mut Client,
+    client_count: usize,
+    words: *mut u64,
+    word_count: usize,
+) -> (&'a mut [Client], &'a mut [u64]) {
+    (from_raw_parts_mut(clients, client_count), from_raw_parts_mut(words, word_count))
 }
 
 macro_rules! linked {
     ($($name:ident),+) => {
         $(pub unsafe extern "C" fn $name(
-            records: *mut Record,
-            clients: usize,
+            clients: *mut Client,
+            client_count: usize,
             words: *mut u64,
-            count: usize,
+            word_count: usize,
             settings: Settings,
             call: Call,
-        ) -> Answer {
-            let (records, words) = lent(records, clients, words, count);
-            super::$name(records, words, &settings, &call)
+        ) -> u64 {
+            let (clients, words) = lent(clients, client_count, words, word_count);
+            super::$name(clients, words, &settings, &call)
         })+
     };
 }
 
 linked!(request, step, untested_step, release, cancel);
 
-pub unsafe extern "C" fn open(records: *mut Record, clients: usize, words: *mut u64, count: usize, settings: Settings) -> u64 {
-    let (records, words) = lent(records, clients, words, count);
-    super::open(records, words, &settings)
+pub unsafe extern "C" fn open(
+    clients: *mut Client,
+    client_count: usize,
+    words: *mut u64,
+    word_count: usize,
+    settings: Settings,
+) -> u64 {
+    let (clients, words) = lent(clients, client_count, words, word_count);
+    super::open(clients, words, &settings)
 }
 
 pub unsafe extern "C" fn planners_page(
-    records: *const Record,
-    clients: usize,
+    clients: *const Client,
+    client_count: usize,
     rows: *mut Row,
-    count: usize,
+    row_count: usize,
     settings: Settings,
-    last: u64,
 ) -> u64 {
-    super::planners_page(from_raw_parts(records, clients), from_raw_parts_mut(rows, count), &settings, last)
+    super::planners_page(from_raw_parts(clients, client_count), from_raw_parts_mut(rows, row_count), &settings)
 }
 
-pub unsafe extern "C" fn run_page(
-    records: *const Record,
-    clients: usize,
-    settings: Settings,
-    client: u64,
-    last: u64,
-) -> RunPageAnswer {
-    super::run_page(from_raw_parts(records, clients), &settings, client, last)
+pub unsafe extern "C" fn run_page(clients: *const Client, client_count: usize, settings: Settings, client: u64) -> RunPageAnswer {
+    super::run_page(from_raw_parts(clients, client_count), &settings, client)
 }
 
 pub unsafe extern "C" fn cover(levels: u64, l: u64, r: u64) -> CoverAnswer {

@@ -1,6 +1,7 @@
 //! The lock in plain Rust, the competitor of the Rattle code: the calls over the table, each of which tests all that the documents
-//! say and changes the record where it stands.
+//! say and changes the client where it stands.
 
+mod client;
 pub mod linked;
 mod pages;
 mod record;
@@ -9,7 +10,7 @@ mod tree;
 mod unreadable;
 mod word;
 
-use crate::nolthewyr::{Answer, Call, Record, Settings};
+use crate::nolthewyr::{Call, Client, Settings};
 
 pub use pages::{planners_page, run_page};
 pub use tree::{nodes, Cover};
@@ -47,8 +48,8 @@ fn test_settings(settings: &Settings) -> Result<(), Cause> {
 }
 
 /// Cause 3.
-fn test_clients(records: &[Record]) -> Result<(), Cause> {
-    if (1..=MOST_CLIENTS).contains(&records.len()) {
+fn test_clients(clients: &[Client]) -> Result<(), Cause> {
+    if (1..=MOST_CLIENTS).contains(&clients.len()) {
         Ok(())
     } else {
         Err(Cause::ClientCount)
@@ -56,57 +57,58 @@ fn test_clients(records: &[Record]) -> Result<(), Cause> {
 }
 
 /// Causes 1 to 3.
-fn test_table(records: &[Record], words: &[u64], settings: &Settings) -> Result<(), Cause> {
+fn test_table(clients: &[Client], words: &[u64], settings: &Settings) -> Result<(), Cause> {
     test_settings(settings)?;
     if words.len() as u64 != nodes(settings.levels) {
         return Err(Cause::WordCount);
     }
-    test_clients(records)
+    test_clients(clients)
 }
 
-/// Makes a call on the record of its client, after causes 1 to 4. An accepted call leaves the given clock, a refused one the last.
-fn on_record(
-    records: &mut [Record],
+/// 0, or the number of the cause.
+fn number(made: Result<(), Cause>) -> u64 {
+    made.map_or_else(|cause| cause as u64, |()| 0)
+}
+
+/// Makes a call on its client, after causes 1 to 4.
+fn on_client(
+    clients: &mut [Client],
     words: &mut [u64],
     settings: &Settings,
     call: &Call,
-    clock: u64,
-    make: impl FnOnce(&mut Record, &mut [u64]) -> Result<(), Cause>,
-) -> Answer {
-    let tested = test_table(records, words, settings);
-    let record = tested.and_then(|()| records.get_mut(call.client as usize).ok_or(Cause::Client));
-    match record.and_then(|record| make(record, words)) {
-        Ok(()) => Answer { number: 0, clock },
-        Err(cause) => Answer { number: cause as u64, clock: call.last },
-    }
+    make: impl FnOnce(&mut Client, &mut [u64]) -> Result<(), Cause>,
+) -> u64 {
+    let tested = test_table(clients, words, settings);
+    let client = tested.and_then(|()| clients.get_mut(call.client as usize).ok_or(Cause::Client));
+    number(client.and_then(|client| make(client, words)))
 }
 
-pub fn request(records: &mut [Record], words: &mut [u64], settings: &Settings, call: &Call) -> Answer {
-    on_record(records, words, settings, call, call.last, |record, _| record.request(settings, call))
+pub fn request(clients: &mut [Client], words: &mut [u64], settings: &Settings, call: &Call) -> u64 {
+    on_client(clients, words, settings, call, |client, _| client.request(settings, call.a, call.b))
 }
 
-pub fn step(records: &mut [Record], words: &mut [u64], settings: &Settings, call: &Call) -> Answer {
-    on_record(records, words, settings, call, call.a, |record, words| record.step(words, settings, call))
+pub fn step(clients: &mut [Client], words: &mut [u64], settings: &Settings, call: &Call) -> u64 {
+    on_client(clients, words, settings, call, |client, words| client.step(words, settings, call.a))
 }
 
 /// A step that takes the record for readable. No call of the lock may: it is here to measure what the test costs.
-pub fn untested_step(records: &mut [Record], words: &mut [u64], settings: &Settings, call: &Call) -> Answer {
-    on_record(records, words, settings, call, call.a, |record, words| record.untested_step(words, settings, call))
+pub fn untested_step(clients: &mut [Client], words: &mut [u64], settings: &Settings, call: &Call) -> u64 {
+    on_client(clients, words, settings, call, |client, words| client.untested_step(words, settings, call.a))
 }
 
-pub fn release(records: &mut [Record], words: &mut [u64], settings: &Settings, call: &Call) -> Answer {
-    on_record(records, words, settings, call, call.last, |record, _| record.release(settings, call))
+pub fn release(clients: &mut [Client], words: &mut [u64], settings: &Settings, call: &Call) -> u64 {
+    on_client(clients, words, settings, call, |client, _| client.release(settings))
 }
 
-pub fn cancel(records: &mut [Record], words: &mut [u64], settings: &Settings, call: &Call) -> Answer {
-    on_record(records, words, settings, call, call.last, |record, _| record.cancel(settings, call))
+pub fn cancel(clients: &mut [Client], words: &mut [u64], settings: &Settings, call: &Call) -> u64 {
+    on_client(clients, words, settings, call, |client, _| client.cancel(settings))
 }
 
-pub fn open(records: &mut [Record], words: &mut [u64], settings: &Settings) -> u64 {
-    if let Err(cause) = test_table(records, words, settings) {
+pub fn open(clients: &mut [Client], words: &mut [u64], settings: &Settings) -> u64 {
+    if let Err(cause) = test_table(clients, words, settings) {
         return cause as u64;
     }
-    records.fill(Record::default());
+    clients.fill(Client::default());
     words.fill(0);
     0
 }

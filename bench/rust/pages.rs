@@ -1,7 +1,7 @@
 //! The two pages in plain Rust, with all tests that request 2.1 names.
 
-use super::{test_clients, test_settings, Cause};
-use crate::nolthewyr::{Phase, Record, Row, RunPageAnswer, Settings};
+use super::{number, test_clients, test_settings, Cause};
+use crate::nolthewyr::{Client, Phase, Record, Row, RunPageAnswer, Settings};
 
 impl Record {
     #[inline(always)]
@@ -18,40 +18,40 @@ impl Record {
     }
 }
 
-fn planners_rows(records: &[Record], rows: &mut [Row], settings: &Settings, last: u64) -> Result<(), Cause> {
+fn planners_rows(clients: &[Client], rows: &mut [Row], settings: &Settings) -> Result<(), Cause> {
     test_settings(settings)?;
-    if rows.len() != records.len() {
+    if rows.len() != clients.len() {
         return Err(Cause::WordCount);
     }
-    test_clients(records)?;
-    if records.iter().any(|record| record.unreadable(settings, last)) {
+    test_clients(clients)?;
+    if clients.iter().any(|client| client.unreadable(settings)) {
         return Err(Cause::Unreadable);
     }
-    for (row, record) in rows.iter_mut().zip(records) {
-        *row = record.row(settings);
+    for (row, client) in rows.iter_mut().zip(clients) {
+        *row = client.record.row(settings);
     }
     Ok(())
 }
 
-pub fn planners_page(records: &[Record], rows: &mut [Row], settings: &Settings, last: u64) -> u64 {
-    planners_rows(records, rows, settings, last).map_or_else(|cause| cause as u64, |()| 0)
+pub fn planners_page(clients: &[Client], rows: &mut [Row], settings: &Settings) -> u64 {
+    number(planners_rows(clients, rows, settings))
 }
 
-fn own_record<'a>(records: &'a [Record], settings: &Settings, client: u64, last: u64) -> Result<&'a Record, Cause> {
+fn own_record<'a>(clients: &'a [Client], settings: &Settings, client: u64) -> Result<&'a Record, Cause> {
     test_settings(settings)?;
-    test_clients(records)?;
-    let own = records.get(client as usize).ok_or(Cause::Client)?;
-    if own.unreadable(settings, last) {
+    test_clients(clients)?;
+    let own = clients.get(client as usize).ok_or(Cause::Client)?;
+    if own.unreadable(settings) {
         Err(Cause::Unreadable)
     } else {
-        Ok(own)
+        Ok(&own.record)
     }
 }
 
-pub fn run_page(records: &[Record], settings: &Settings, client: u64, last: u64) -> RunPageAnswer {
-    match own_record(records, settings, client, last) {
+pub fn run_page(clients: &[Client], settings: &Settings, client: u64) -> RunPageAnswer {
+    match own_record(clients, settings, client) {
         Ok(own) => {
-            let held = records.iter().filter(|record| record.phase == Phase::HELD).count() as u64;
+            let held = clients.iter().filter(|client| client.record.phase == Phase::HELD).count() as u64;
             RunPageAnswer { number: 0, own: *own, held }
         }
         Err(cause) => RunPageAnswer { number: cause as u64, own: Record::default(), held: 0 },

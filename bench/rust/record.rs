@@ -1,8 +1,7 @@
-//! The calls on one record, after causes 1 to 4.
+//! What the calls of a client do with its record.
 
-use super::tree::{cover, level, Cover};
-use super::Cause;
-use crate::nolthewyr::{Call, Outcome, Phase, Record, Settings};
+use super::tree::level;
+use crate::nolthewyr::{Outcome, Phase, Record, Settings};
 
 /// What of its current piece a client has.
 pub mod grip {
@@ -19,16 +18,6 @@ impl Settings {
             Phase::CLIMB
         } else {
             Phase::TICKET
-        }
-    }
-}
-
-impl Call {
-    fn in_time(&self) -> Result<(), Cause> {
-        if self.a < self.last {
-            Err(Cause::Clock)
-        } else {
-            Ok(())
         }
     }
 }
@@ -64,54 +53,5 @@ impl Record {
     pub fn return_all(&mut self, outcome: Outcome) {
         self.outcome = outcome;
         self.go_to(Phase::RETURNING);
-    }
-
-    fn readable(&self, settings: &Settings, last: u64) -> Result<(), Cause> {
-        if self.unreadable(settings, last) {
-            Err(Cause::Unreadable)
-        } else {
-            Ok(())
-        }
-    }
-
-    pub fn request(&mut self, settings: &Settings, call: &Call) -> Result<(), Cause> {
-        self.readable(settings, call.last)?;
-        let (left, right) = (call.a, call.b);
-        let Cover { first, second, .. } = cover(settings.levels, left, right).ok_or(Cause::Window)?;
-        if self.phase != Phase::IDLE {
-            return Err(Cause::Phase);
-        }
-        *self = Record { phase: settings.first_phase(first), left, right, first, second, ..Record::default() };
-        Ok(())
-    }
-
-    pub fn step(&mut self, words: &mut [u64], settings: &Settings, call: &Call) -> Result<(), Cause> {
-        call.in_time()?;
-        self.readable(settings, call.last)?;
-        self.advance(words, settings, call.a)
-    }
-
-    pub fn untested_step(&mut self, words: &mut [u64], settings: &Settings, call: &Call) -> Result<(), Cause> {
-        call.in_time()?;
-        self.advance(words, settings, call.a)
-    }
-
-    pub fn release(&mut self, settings: &Settings, call: &Call) -> Result<(), Cause> {
-        self.readable(settings, call.last)?;
-        if self.phase != Phase::HELD {
-            return Err(Cause::Phase);
-        }
-        self.return_all(Outcome::RELEASED);
-        Ok(())
-    }
-
-    pub fn cancel(&mut self, settings: &Settings, call: &Call) -> Result<(), Cause> {
-        self.readable(settings, call.last)?;
-        match self.phase {
-            Phase::IDLE | Phase::HELD | Phase::RETURNING => return Err(Cause::Phase),
-            _ if self.current == 0 && self.grip == grip::NOTHING => self.become_idle(Outcome::CANCELLED),
-            _ => self.return_all(Outcome::CANCELLED),
-        }
-        Ok(())
     }
 }

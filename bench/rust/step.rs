@@ -103,6 +103,12 @@ impl Record {
         }
     }
 
+    /// Late unless 10,001 × (clock - t1) < 9,999 × T. From T on it is late in any case; below T, which has 32 bits, both products fit 64.
+    fn late(&self, settings: &Settings, clock: u64) -> bool {
+        let elapsed = clock - self.t1;
+        elapsed >= settings.wait || 10_001 * elapsed >= 9_999 * settings.wait
+    }
+
     fn notify(&mut self, words: &mut [u64], settings: &Settings, clock: u64) {
         let node = self.piece(self.current);
         let d = level(node);
@@ -112,7 +118,7 @@ impl Record {
         if self.notices < settings.notify_count(d) {
             return;
         }
-        if clock - self.t1 >= settings.wait {
+        if self.late(settings, clock) {
             self.return_all(Outcome::LATE);
         } else if d == settings.levels {
             self.end_piece(settings, clock);

@@ -1,3 +1,6 @@
+pub mod DriftExample
 pub mod HistoryExample
 pub mod PatienceExample
+pub mod Seen
+pub mod UntrueExample
 pub mod WholeCase

@@ -4,6 +4,7 @@ pub mod ActiveLaws
 pub mod ByKind
 pub mod CallLaws
 pub mod CoverLaws
+pub mod LateLaws
 pub mod MoveLaws
 pub mod OwnTests
 pub mod PatienceLaws

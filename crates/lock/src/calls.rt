@@ -8,7 +8,7 @@ ghost use Rattle.tree.specs.rules.Tree.{wordCount};
 ghost use Rattle.cover.specs.rules.Answer.{windowOutside};
 ghost use Rattle.cover.specs.laws.Lowest.{Window};
 ghost use Rattle.lock.specs.declared.Stepped.{Stepped};
-ghost use Rattle.lock.specs.rules.Records.{coverOf, wordAt, written, sentBack, clientWith};
+ghost use Rattle.lock.specs.rules.Records.{coverOf, wordAt, written, sentBack, clientWith, idleClient};
 ghost use Rattle.lock.specs.rules.Steps.{touched, moved};
 ghost use Rattle.lock.specs.rules.Unreadable.{differ, unreadable};
 ghost use Rattle.lock.specs.rules.Calls.{firstCause, treeTests, requested, cancelled, answered};
@@ -105,6 +105,16 @@ impl Record {
 }
 
 impl Client {
+    // As an opening leaves it.
+    pub fn idle() -> Client
+        ensures { λ c. ⌜ c ≡ idleClient ⌝ }
+    {
+        Client {
+            clock: 0,
+            record: Record::idle_with(0),
+        }
+    }
+
     // "As it was": a refused call gives its number only.
     fn refused(self, number: u64) -> Stepped
         ensures { λ s. ⌜ s ≡ record { number = number; next = self } ⌝ }

@@ -1,5 +1,5 @@
 -- An exported call over the table, proved once for the four. The code is
---     fn f(records: &mut [Record], words: &mut [u64], settings: Settings, call: Call) -> Answer { table_act(records, words, settings, call, kind) }
+--     fn f(clients: &mut [Client], words: &mut [u64], settings: Settings, call: Call) -> u64 { table_act(clients, words, settings, call, kind) }
 --     function key kind      its MIR, over the key of `table_act` and the number that it passes
 --     said                   what f promises, which has to be shown of what the call that the kind names gives
 --     forward-meets          where the table's entry at the key meets the contract of `table_act`, the MIR meets f's
@@ -28,7 +28,7 @@ use types.Part.{agg, whole, sub, look-in}
 use sound.WpLaws.{FmC, fmOf, WpFn-mono}
 use denote.RattleType.{owns}
 use denote.Laws.{Is, shows}
-use denote.Plain.{uint-makes}
+use denote.Plain.{uint-makes, uint-lawful}
 use denote.Builtin.{u64, SliceRefMutOf}
 use denote.Memory.{pointee}
 use denote.Ref.{RefT, now}
@@ -43,22 +43,19 @@ use denote.Triple.Call.{calls-at}
 use denote.Triple.Clauses.{Ended, AtExit, Clauses, closing, ensured, lasts}
 use denote.Triple.Walked.{Stays, stay-none, gave-slice, walkOf, goes-none, goes-gave-slice, ends-at, walked, walk-meets}
 use denote.Exit.{yes}
-use Rattle.lock.specs.declared.Record.{Record}
+use Rattle.lock.specs.declared.Client.{Client}
 use Rattle.lock.specs.declared.Settings.{Settings}
 use Rattle.lock.specs.declared.Call.{Call}
 use Rattle.lock.specs.rules.Table as Table
 use Rattle.lock.specs.rules.ByValue.{callOf}
-use Rattle.lock.proofs.Record.Laws as Rec′
+use Rattle.lock.proofs.Client.Laws as Cl′
 use Rattle.lock.proofs.Settings as G
 use Rattle.lock.proofs.Settings.Laws as G′
 use Rattle.lock.proofs.Call as K
 use Rattle.lock.proofs.Call.Laws as K′
-use Rattle.table.specs.declared.Answer.{Answer}
 use Rattle.table.specs.rules.Lent.{lent}
 use Rattle.table.specs.laws.CallLaws.{Same}
-use Rattle.table.proofs.Answer as An
-use Rattle.table.proofs.Answer.Laws as An′
-use Rattle.table.proofs.Rows.{R, RG, RK, RA, word}
+use Rattle.table.proofs.Rows.{R, RG, RK, word}
 use Rattle.table.proofs.Walk.{shows-that}
 use Rattle.table.proofs.table_act as callee
 
@@ -67,10 +64,10 @@ function key kind = record {
   lifetimes = 2;
   outlives = [];
   params = 4;
-  locals = local An′.mir valueLocal ∷ local (sliceTy (tyRef (named 0) mut (pointee (R .written)))) valueLocal ∷ local (sliceTy (tyRef (named 1) mut word)) valueLocal
+  locals = local word valueLocal ∷ local (sliceTy (tyRef (named 0) mut (pointee (R .written)))) valueLocal ∷ local (sliceTy (tyRef (named 1) mut word)) valueLocal
       ∷ local G′.mir valueLocal ∷ local K′.mir valueLocal ∷ local (tyRef erased mut (pointee (R .written))) valueLocal ∷ local (sliceTy (tyRef erased mut (pointee (R .written)))) valueLocal
       ∷ local (tyRef erased mut word) valueLocal ∷ local (sliceTy (tyRef erased mut word)) valueLocal ∷ [];
-  body = seq (assign (place 5 []) (addrOf (place 1 (field 0 ∷ deref Rec′.mir ∷ []))))
+  body = seq (assign (place 5 []) (addrOf (place 1 (field 0 ∷ deref Cl′.mir ∷ []))))
       (seq (assign (place 6 []) (aggregate (copy (place 5 []) ∷ copy (place 1 (field 1 ∷ [])) ∷ [])))
       (seq (assign (place 7 []) (addrOf (place 2 (field 0 ∷ deref word ∷ []))))
       (seq (assign (place 8 []) (aggregate (copy (place 7 []) ∷ copy (place 2 (field 1 ∷ [])) ∷ [])))
@@ -82,7 +79,7 @@ signature = record {
   lifetimes = 2;
   outlives = [];
   params = SliceRefMutOf (0 ∷ []) tt (plain (λ _. R)) (λ _. tt) ∷ SliceRefMutOf (1 ∷ []) tt (plain (λ _. u64)) (λ _. tt) ∷ plain (λ _. RG) ∷ plain (λ _. RK) ∷ [];
-  result = plain (λ _. RA);
+  result = plain (λ _. u64);
 }
 
 abbrev pub ended : Ended
@@ -97,22 +94,22 @@ Callee 𝓤 H A mem run = tripleOf 𝓤 H A callee.signature (callee.spec 𝓤 H
 
 -- what f promises of the answer and of the parameters at exit
 abbrev pub Said : {M : Type 1} → URA M → Type 2
-Said 𝓤 = (κs : Lfts 2) → Args signature κs → Answer → AtExit ended κs → SProp 𝓤
+Said 𝓤 = (κs : Lfts 2) → Args signature κs → ℕ → AtExit ended κs → SProp 𝓤
 
 abbrev pub clauses : {M : Type 1} (𝓤 : URA M) → Said 𝓤 → Clauses 𝓤 ended
 clauses 𝓤 said κs a = record { ghost = Unit {0}; requires = λ _. emp 𝓤; ensures = λ _ r e. said κs a r e }
 
 module _ (kind : ℕ) where
   -- what the call that the kind names leaves, and that the promise holds of it
-  abbrev made-of : List Record → List ℕ → Settings → Call → Table.Out
-  made-of ys ws st ca = Table.call st (lent ys ws (ca .last)) (callOf kind (ca .client) (ca .a) (ca .b))
+  abbrev made-of : List Client → List ℕ → Settings → Call → Table.Out
+  made-of ys ws st ca = Table.call st (lent ys ws) (callOf kind (ca .client) (ca .a) (ca .b))
 
   abbrev pub Shown : {M : Type 1} (𝓤 : URA M) → Said 𝓤 → Type 1
-  Shown 𝓤 said = (κs : Lfts 2) (a : Args signature κs) (r : Answer) (e : AtExit ended κs) → Same (made-of (now (a .0)) (now (a .1 .0)) (a .1 .1 .0) (a .1 .1 .1 .0)) r (now (e .0)) (now (e .1 .0)) → ent 𝓤 (emp 𝓤) (said κs a r e)
+  Shown 𝓤 said = (κs : Lfts 2) (a : Args signature κs) (r : ℕ) (e : AtExit ended κs) → Same (made-of (now (a .0)) (now (a .1 .0)) (a .1 .1 .0) (a .1 .1 .1 .0)) r (now (e .0)) (now (e .1 .0)) → ent 𝓤 (emp 𝓤) (said κs a r e)
 
-  module _ {M : Type 1} (𝓤 : URA M) (H : Heap 𝓤) (A : Atoms 𝓤) (W : Given 𝓤 H A) (mem : Memory → SProp 𝓤) (run : Routine → Fun 𝓤) (said : Said 𝓤) (shown : Shown 𝓤 said) (fits : T (ltb kind (2 ^ 64))) (κ κ′ : Lft) (q q′ : Share) (x : RefT (List Record)) (u : RefT (List ℕ)) (st : Settings) (ca : Call)
+  module _ {M : Type 1} (𝓤 : URA M) (H : Heap 𝓤) (A : Atoms 𝓤) (W : Given 𝓤 H A) (mem : Memory → SProp 𝓤) (run : Routine → Fun 𝓤) (said : Said 𝓤) (shown : Shown 𝓤 said) (fits : T (ltb kind (2 ^ 64))) (κ κ′ : Lft) (q q′ : Share) (x : RefT (List Client)) (u : RefT (List ℕ)) (st : Settings) (ca : Call)
       (gs : Is RG st (G′.lowered st ∷ [])) (gc : Is RK ca (K′.lowered ca ∷ [])) (room : Room R (length (x .now))) (room′ : Room u64 (length (u .now))) where
-    abbrev ys : List Record
+    abbrev ys : List Client
     ys = x .now
 
     abbrev ws : List ℕ
@@ -125,7 +122,7 @@ module _ (kind : ℕ) where
     abbrev s′ : Val
     s′ = sliceVal (u .ptr) (length ws)
 
-    abbrev a : RefT (List Record) × (RefT (List ℕ) × (Settings × (Call × Unit {0})))
+    abbrev a : RefT (List Client) × (RefT (List ℕ) × (Settings × (Call × Unit {0})))
     a = (x, (u, (st, (ca, tt))))
 
     abbrev vals : List Val × (List Val × (List Val × (List Val × Unit {0})))
@@ -134,17 +131,17 @@ module _ (kind : ℕ) where
     abbrev Post : Val → SProp 𝓤
     Post = walkOf 𝓤 H A ended stayed (clauses 𝓤 said) .post (((κ, (κ′, tt)), (q, (q′, tt)), tt, a, vals), tt)
 
-    exits : (v : Val) (n : Answer) (zs : List Record) (vs : List ℕ) → Is RA n (v ∷ []) → length zs ≡ length ys → length vs ≡ length ws → Same (made-of ys ws st ca) n zs vs
+    exits : (v : Val) (n : ℕ) (zs : List Client) (vs : List ℕ) → Is u64 n (v ∷ []) → length zs ≡ length ys → length vs ≡ length ws → Same (made-of ys ws st ca) n zs vs
         → ent 𝓤 (⋆ 𝓤 H A ((‵ (flft κ q) ⊛ (‵ (flft κ′ q′) ⊛ ‵ ftrue)) ∷ ‵ (finally R (x .name) zs) ∷ ‵ (finally u64 (u .name) vs) ∷ [])) (Post v)
     exits v n zs vs is k l e =
         qed W ((‵ (flft κ q) ⊛ (‵ (flft κ′ q′) ⊛ ‵ ftrue)) ∷ ‵ (finally R (x .name) zs) ∷ ‵ (finally u64 (u .name) vs) ∷ []) ∵
         suffices ! _ (ends-at 𝓤 H A ended stayed (clauses 𝓤 said) W (((κ, (κ′, tt)), (q, (q′, tt)), tt, a, vals), tt) v n (zs, (vs, (tt, (tt, tt)))) (k, (l, (tt, (tt, tt))))) $
         shows-that ! (shown (κ, (κ′, tt)) a n _ e) $ frame ! $
         nothing ! $ owned ! RK (Is RK) ((LL.makes K.the-type K′.the-plain) 𝓤 H A) ca _ gc $ fjoin ! $ owned ! RG (Is RG) ((LL.makes G.the-type G′.the-plain) 𝓤 H A) st _ gs $ fjoin ! $
-        move ! (2 ∷ 0 ∷ []) $ fjoin ! $ move ! (1 ∷ 0 ∷ []) $ fjoin ! $ frame ! $ owned ! RA (Is RA) ((LL.makes An.the-type An′.the-plain) 𝓤 H A) n _ is $ done !
+        move ! (2 ∷ 0 ∷ []) $ fjoin ! $ move ! (1 ∷ 0 ∷ []) $ fjoin ! $ frame ! $ owned ! u64 (Is u64) (uint-makes 𝓤 H A W w64) n _ is $ done !
 
     -- what `table_act` is passed: both slices at their own lifetimes, shares and names
-    abbrev passed : RefT (List Record) × (RefT (List ℕ) × (Settings × (Call × (ℕ × Unit {0}))))
+    abbrev passed : RefT (List Client) × (RefT (List ℕ) × (Settings × (Call × (ℕ × Unit {0}))))
     passed = (x, (u, (st, (ca, (kind, tt)))))
 
     abbrev to : Callee 𝓤 H A mem run .Ghost
@@ -168,20 +165,20 @@ module _ (kind : ℕ) where
         pass1 ! (init ! 10 refl (LL.lawful G.the-type G′.the-laws 𝓤 H A W .typed st _ gs .0)) $
         pass1 ! (init ! 8 refl (LL.lawful K.the-type K′.the-laws 𝓤 H A W .typed ca _ gc .0)) $ pass0 ! $
         move ! (19 ∷ []) $ fsplit ! $ move ! (1 ∷ []) $ fsplit ! $ move ! (1 ∷ []) $ drop ! $ move ! (20 ∷ 1 ∷ 0 ∷ []) $
-        -- [the two tokens; what the records own; what the words own; _8; …; _0; …]
+        -- [the two tokens; what the clients own; what the words own; _8; …; _0; …]
         assigns ! (addr ! (from ! (fld ! refl (hop ! (look-in ! 17 (sub ! 0 refl (whole !))) (stop !))))) (from ! (stop !)) (init ! 9 refl (tt, tt)) $
         assigns ! (agg ! (and-then ! (load ! (from ! (stop !)) (look ! 9 refl)) (and-then ! (load ! (from ! (fld ! refl (stop !))) (look-in ! 17 (sub ! 1 refl (whole !)))) (no-more !)))) (from ! (stop !)) (init ! 7 refl (tt, (tt, (record { fits = room .0 }, tt)))) $
         assigns ! (addr ! (from ! (fld ! refl (hop ! (look-in ! 15 (sub ! 0 refl (whole !))) (stop !))))) (from ! (stop !)) (init ! 5 refl (tt, tt)) $
         assigns ! (agg ! (and-then ! (load ! (from ! (stop !)) (look ! 5 refl)) (and-then ! (load ! (from ! (fld ! refl (stop !))) (look-in ! 15 (sub ! 1 refl (whole !)))) (no-more !)))) (from ! (stop !)) (init ! 3 refl (tt, (tt, (record { fits = room′ .0 }, tt)))) $
         use3 W (raw (Callee 𝓤 H A mem run .pre to)) goes $
         calls-at ! fm (Callee 𝓤 H A mem run) known to (and-then ! (load ! (from ! (stop !)) (look ! 5 refl)) (and-then ! (load ! (from ! (stop !)) (look ! 1 refl)) (and-then ! (load ! (from ! (stop !)) (look ! 11 refl)) (and-then ! (load ! (from ! (stop !)) (look ! 9 refl)) (and-then ! (lit ! fits) (no-more !)))))) (λ w.
-        use1 W (later (some (λ (n : Answer). ((‵ (flft κ q) ⊛ (‵ (flft κ′ q′) ⊛ ‵ ftrue)) ⊛ ‵ (RA .own n (w ∷ []))) ⊛ raw (ensured 𝓤 H A callee.ended (callee.clauses 𝓤 H A mem run) (κ, (κ′, tt)) passed tt n)))) (id⊢ 𝓤 _) $
+        use1 W (later (some (λ (n : ℕ). ((‵ (flft κ q) ⊛ (‵ (flft κ′ q′) ⊛ ‵ ftrue)) ⊛ ‵ (u64 .own n (w ∷ []))) ⊛ raw (ensured 𝓤 H A callee.ended (callee.clauses 𝓤 H A mem run) (κ, (κ′, tt)) passed tt n)))) (id⊢ 𝓤 _) $
         await ! tt $ pick ! (λ n. split ! $ move ! (1 ∷ []) $
-        use1 W (some (λ (vs : List Record × (List ℕ × (Unit {0} × (Unit {0} × (Unit {0} × Unit {0}))))). ‵ (lasts callee.ended (κ, (κ′, tt)) passed vs) ⊛ raw (fact 𝓤 (Same (made-of ys ws st ca) n (vs .0) (vs .1 .0))))) (id⊢ 𝓤 _) $
+        use1 W (some (λ (vs : List Client × (List ℕ × (Unit {0} × (Unit {0} × (Unit {0} × Unit {0}))))). ‵ (lasts callee.ended (κ, (κ′, tt)) passed vs) ⊛ raw (fact 𝓤 (Same (made-of ys ws st ca) n (vs .0) (vs .1 .0))))) (id⊢ 𝓤 _) $
         pick ! (λ vs. split ! $ move ! (1 ∷ []) $ heard ! (Same (made-of ys ws st ca) n (vs .0) (vs .1 .0)) (λ h. fsplit ! $ fsplit ! $ move ! (1 ∷ []) $ feqL ! (λ e.
         move ! (1 ∷ []) $ fsplit ! $ fsplit ! $ move ! (1 ∷ []) $ feqL ! (λ e′. move ! (1 ∷ []) $ drop ! $ move ! (2 ∷ []) $ split ! $ move ! (1 ∷ []) $
-        -- [the answer; the two tokens; the words' last list; the records'; _8; …]
-        peeks ! RA (Is RA) (shows 𝓤 H A RA) n (w ∷ []) (λ is. land ! (from ! (stop !)) (init ! 20 refl (LL.lawful An.the-type An′.the-laws 𝓤 H A W .typed n _ is .0)) $
+        -- [the number; the two tokens; the words' last list; the clients'; _8; …]
+        peeks ! u64 (Is u64) (shows 𝓤 H A u64) n (w ∷ []) (λ is. land ! (from ! (stop !)) (init ! 20 refl (uint-lawful 𝓤 H A W w64 .typed n _ is .0)) $
         drop ! $
         returns ! (look ! 19 refl) $ forget ! 3 refl $ forget ! 5 refl $ forget ! 7 refl $ forget ! 9 refl $ forget ! 11 refl $ forget ! 13 refl $ forget ! 15 refl $
         forget ! 17 refl $ forget ! 19 refl $ move ! (19 ∷ 20 ∷ []) $ free1 ! $ move ! (17 ∷ 18 ∷ []) $ free1 ! $ move ! (15 ∷ 16 ∷ []) $ free1 ! $

@@ -6,7 +6,6 @@ ghost use Rattle.lock.specs.rules.ByValue.{callOf};
 ghost use Rattle.table.specs.rules.Lent.{lent, result};
 use lock::Call;
 use lock::Client;
-use lock::Record;
 use lock::Settings;
 
 mod by_levels;
@@ -104,10 +103,7 @@ pub extern "C" fn nolthewyr_open(
         return cause;
     }
     zeroes::zero_words(words);
-    let idle = Client {
-        clock: 0,
-        record: Record::idle_with(0),
-    };
+    let idle = Client::idle();
     let mut client = 0;
     while client < clients.len() {
         clients[client] = idle;

@@ -1,18 +1,20 @@
 -- Laws: the record of a client after a call. Only an accepted call of its own changes it, and none but a request gives it other edges. Assumes nothing.
 use mathlib.Core.Path.{_≡_, refl, sym, ap, _∙_, subst}
 use mathlib.Core.Logic.{_⊎_, inl, inr}
+use mathlib.Core.List.{List}
 use Prim.Native.Nat.{ℕ}
 use lib.Dec.{eqb, eqb→eq}
 use lib.ListN.{length, getD, set, length-set}
 use lib.Seq.{getD-set-same, getD-set-other}
 use Rattle.base.specs.laws.ChoiceLaws.{on-choose, choose-eq, by-eq}
+use Rattle.lock.specs.declared.Client.{Client}
 use Rattle.lock.specs.declared.Moved.{Moved}
 use Rattle.lock.specs.declared.Record.{Record}
 use Rattle.lock.specs.declared.Settings.{Settings}
-use Rattle.lock.specs.rules.Records.{Phase, idle, ticket, turn, climb, blocked, claim, notify, wait, check, held, returning, unknown, phaseOf, wordAt, idleWith}
+use Rattle.lock.specs.rules.Records.{Phase, idle, ticket, turn, climb, blocked, claim, notify, wait, check, held, returning, unknown, phaseOf, wordAt, clientWith, idleClient}
 use Rattle.lock.specs.rules.Steps.{begin, firstNoted, taken, ticketTaken, turnAwaited, goUp, climbed, unblocked, bitsClaimed, occClaimed, allNotified, noticeGiven, waited, checkPassed, pieceReturned, wordReturned, turnReturned, claimPiece, returnBits, returnInner, giveBack, movedIn, outOfPatience, touched, moved}
 use Rattle.lock.specs.rules.Calls.{requested, released, cancelled}
-use Rattle.lock.specs.rules.Table.{State, Call, request, step, release, cancel, clientOf, recordAt, numberOf, after, call}
+use Rattle.lock.specs.rules.Table.{State, Call, request, step, release, cancel, clientOf, clientAt, recordAt, clockAt, numberOf, after, call}
 use Rattle.lock.specs.laws.Accepted.{accepted}
 
 -- ---- the record that an accepted call gives back
@@ -23,25 +25,33 @@ recordAfter s st (step c t) = moved s (recordAt st c) (wordAt (st .words) (touch
 recordAfter s st (release c) = released (recordAt st c)
 recordAfter s st (cancel c) = cancelled (recordAt st c)
 
+-- and its clock beside it: "An accepted step sets the last clock."
+unfoldable clockAfter : Settings → State → Call → ℕ
+clockAfter s st (request c l r) = clockAt st c
+clockAfter s st (step c t) = t
+clockAfter s st (release c) = clockAt st c
+clockAfter s st (cancel c) = clockAt st c
+
 module _ (s : Settings) (st : State) where
-  records-after : (k : Call) → after s st k .records ≡ set (st .records) (clientOf k) (recordAfter s st k)
-  unfolding after recordAfter clientOf
-  records-after (request c l r) = refl
-  records-after (step c t) = refl
-  records-after (release c) = refl
-  records-after (cancel c) = refl
+  clients-after : (k : Call) → after s st k .clients ≡ set (st .clients) (clientOf k) (clientWith (clockAfter s st k) (recordAfter s st k))
+  unfolding after clockAfter recordAfter clientOf
+  clients-after (request c l r) = refl
+  clients-after (step c t) = refl
+  clients-after (release c) = refl
+  clients-after (cancel c) = refl
 
   own-after : (k : Call) (c : ℕ) → numberOf s st k ≡ 0 → clientOf k ≡ c → recordAt (after s st k) c ≡ recordAfter s st k
-  unfolding recordAt
+  unfolding clientAt
   own-after k c a e =
       ap (λ (d : ℕ). recordAt (after s st k) d) (sym e)
-      ∙ ap (λ x. getD x (clientOf k) (idleWith 0)) (records-after k)
-      ∙ getD-set-same (st .records) (clientOf k) (recordAfter s st k) (idleWith 0) (accepted s st k a .client)
+      ∙ ap (λ (cs : List Client). getD cs (clientOf k) idleClient .«record») (clients-after k)
+      ∙ ap (λ (x : Client). x .«record») (getD-set-same (st .clients) (clientOf k) _ idleClient (accepted s st k a .client))
 
   other-after : (k : Call) (c : ℕ) → (clientOf k ≡ c → ⊥) → recordAt (after s st k) c ≡ recordAt st c
-  unfolding recordAt
+  unfolding clientAt
   other-after k c d =
-      ap (λ x. getD x c (idleWith 0)) (records-after k) ∙ getD-set-other (st .records) (clientOf k) c (recordAfter s st k) (idleWith 0) (λ e. d (sym e))
+      ap (λ (cs : List Client). getD cs c idleClient .«record») (clients-after k)
+      ∙ ap (λ (x : Client). x .«record») (getD-set-other (st .clients) (clientOf k) c _ idleClient (λ e. d (sym e)))
 
   pub own-record : (k : Call) (c : ℕ) → numberOf s st k ≡ 0 → clientOf k ≡ c → recordAt (call s st k .state) c ≡ recordAfter s st k
   unfolding call
@@ -58,11 +68,11 @@ module _ (s : Settings) (st : State) where
       by-eq (clientOf k) c (λ e. subst P (sym (own-after k c a e)) (new a e)) (λ d. subst P (sym (other-after k c d)) old))
       (λ _. old)
 
-  pub count-after : (k : Call) → length (call s st k .state .records) ≡ length (st .records)
+  pub count-after : (k : Call) → length (call s st k .state .clients) ≡ length (st .clients)
   unfolding call
   count-after k =
-      on-choose (λ x. length (x .records) ≡ length (st .records)) (eqb (numberOf s st k) 0) (after s st k) st
-      (λ _. ap length (records-after k) ∙ length-set (st .records) (clientOf k) (recordAfter s st k)) (λ _. refl)
+      on-choose (λ x. length (x .clients) ≡ length (st .clients)) (eqb (numberOf s st k) 0) (after s st k) st
+      (λ _. ap length (clients-after k) ∙ length-set (st .clients) (clientOf k) _) (λ _. refl)
 
 -- ---- a step leaves the edges as the request set them, or makes the record idle
 

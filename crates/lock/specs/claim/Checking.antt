@@ -61,7 +61,7 @@ module _ (s : Settings) (rs : List Record) (r : Record) (last now : ℕ) (later 
       let some-below : level n < s .levels = omega (arith, ready-apart s r last rd .node (r .current) (rd .active .exists) .inside) in
       keeps-quiet s rs r q 0 w now (λ d. absurd (d refl)) k refl ahead (onward-unreturned s q aheadq) refl refl refl
       (to-check 0 (omega arith) (omega arith) (checked (s .levels) (s .distance) n (g .distance-some) some-below))
-      (onward s rs nobody r now q k refl ahead aheadq (λ _ a. absurd (omega arith)) (λ _ _. inr (inl (omega arith, omega arith, b)))
+      (onward s rs nobody r now q k refl ahead aheadq (λ _ a. absurd (omega arith)) (λ _ _. inr (inl (e, b)))
       (λ l a. absurd (omega (arith, checked-some s q (r .current) at))) (inl (passing-none q (λ f. omega arith) (λ f. omega arith) (λ f. omega arith))) (λ _ _. inl (omega arith, omega arith)))
 
   pub wait-keeps : r .phase ≡ 7 → Keeps s rs r 0 w w (waited s r now) now

@@ -121,7 +121,7 @@ module _ (s : Settings) (rs : List Record) (r : Record) (last now : ℕ) (later 
                 count-none (s .distance) (level n) (omega (arith, level-root n (omega (arith, z .1)))),
               );
             }) o;
-        time = onward s rs nobody r now q k refl ahead aheadq (λ _ _. inr (inl refl)) (λ x _. absurd (omega (arith, b .1)))
+        time = onward s rs nobody r now q k refl ahead aheadq (λ _ _. inr (inl (e, refl))) (λ x _. absurd (omega (arith, b .1)))
             (λ l x. absurd (omega (arith, checked-none s q (r .current) (λ f. omega (arith, b .1)) (λ f. omega (arith, b .1)))))
             (⊎-elim (λ z. inr (inl (omega (arith, passing-notify q (z .0), passing-claim r e), refl))) (λ z. inl (passing-none q (λ f. omega (arith, z .0)) (λ f. omega (arith, z .0)) (λ f. omega (arith, z .0)))) o)
             (λ x _. inr (inr (root x)));

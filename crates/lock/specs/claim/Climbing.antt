@@ -148,7 +148,7 @@ module _ (s : Settings) (rs : List Record) (r : Record) (last now : ℕ) (later 
         (λ _. keeps-stay s rs r x w last now later v (λ _. ancestor-node .0))
 
     -- one ancestor more is clear: t is t1, or the clock, noted at the parent
-    module _ (e : r .phase ≡ 3) (none : (d : ℕ) → owns s 3 x (getD rs d nobody) ≡ 0) (t : ℕ) (m : (t ≡ r .t1) ⊎ ((r .place ≡ 0) × (t ≡ now))) where
+    module _ (e : r .phase ≡ 3) (none : (d : ℕ) → owns s 3 x (getD rs d nobody) ≡ 0) (t : ℕ) (m : ((r .place ≢ 0) × (t ≡ r .t1)) ⊎ ((r .place ≡ 0) × (t ≡ now))) where
       up-to : (p place : ℕ) → ((p ≡ 3) × (place ≡ suc (r .place)) × (place < length (ancestors n))) ⊎ ((p ≡ 5) × (place ≡ 0) × (level n - 1 ≡ suc (r .place)))
           → Keeps s rs r x w w (withPlace place (toPhase p (withT1 t r))) now
       unfolding pieceAt pieces
@@ -160,11 +160,11 @@ module _ (s : Settings) (rs : List Record) (r : Record) (last now : ℕ) (later 
           let ahead : r .phase ≢ 10 = λ z. omega arith in
           let was = passing-climb r e in
           let more : passing q ≡ suc (passing r) = ⊎-elim (λ z. passing-climb q (z .0) ∙ z .1 ∙ ap suc (sym was)) (λ z. passing-claim q (z .0) ∙ z .2 ∙ ap suc (sym was)) o in
-          let noted : t ≤ now = ⊎-elim (λ z. omega (arith, rd .active .t1-past)) (λ z. omega (arith, z .1)) m in
+          let noted : t ≤ now = ⊎-elim (λ z. omega (arith, z .1, rd .active .t1-past)) (λ z. omega (arith, z .1)) m in
           keeps-quiet s rs r q x w now (λ _. ancestor-node .0) k refl ahead (onward-unreturned s q aheadq) refl refl refl
           (climbing-fit (omega arith) (omega arith) p place t noted (⊎-elim (λ z. inl (omega (arith, z .0), omega (arith, z .0), z .2)) (λ z. inr (z .0, z .1)) o))
           (onward-low s rs nobody r now q k refl ahead aheadq y
-          (inr (inr (more, ⊎-elim inl (λ z. inr (was ∙ z .0)) m, λ d. ap (λ (a : ℕ). owns s 3 a (getD rs d nobody)) (ap (λ (a : ℕ). climb (suc a) n) was ∙ sym ancestor-is) ∙ none d))))
+          (inr (inr (more, ⊎-elim (λ z. inl ((λ o. z .0 (sym was ∙ o)), z .1)) (λ z. inr (was ∙ z .0, e, z .1)) m, λ d. ap (λ (a : ℕ). owns s 3 a (getD rs d nobody)) (ap (λ (a : ℕ). climb (suc a) n) was ∙ sym ancestor-is) ∙ none d))))
 
       goes-up : Keeps s rs r x w w (goUp (withT1 t r)) now
       unfolding goUp pieceAt pieces
@@ -179,7 +179,7 @@ module _ (s : Settings) (rs : List Record) (r : Record) (last now : ℕ) (later 
       climbs =
           on-choose (λ p. Keeps s rs r x w w (goUp p) now) (eqb (r .place) 0) (withT1 now r) r
           (λ y. goes-up e none now (inr (eqb→eq (r .place) 0 y, refl)))
-          (λ _. goes-up e none (r .t1) (inl refl))
+          (λ y. goes-up e none (r .t1) (inl (neqb→ne (r .place) 0 y, refl)))
 
     pub climb-keeps : r .phase ≡ 3 → ((occ w ≡ 1 → ⊥) → (d : ℕ) → owns s 3 x (getD rs d nobody) ≡ 0) → Keeps s rs r x w w (climbed r w now) now
     unfolding climbed

@@ -7,12 +7,13 @@ use Prim.Native.Nat.{ℕ, _<_}
 use native.Mathlib.Omega.{arith}
 use lib.ListN.{length, List·getD-eq-default}
 use Rattle.base.specs.laws.ChoiceLaws.{on-choose, by-lt}
+use Rattle.lock.specs.declared.Client.{Client}
 use Rattle.lock.specs.declared.Record.{Record}
 use Rattle.lock.specs.declared.Settings.{Settings}
-use Rattle.lock.specs.rules.Records.{wordAt, idleWith}
+use Rattle.lock.specs.rules.Records.{wordAt, idleClient}
 use Rattle.lock.specs.rules.Steps.{touched, movedIn}
 use Rattle.lock.specs.rules.Calls.{requested, released, cancelled}
-use Rattle.lock.specs.rules.Table.{State, Call, request, step, release, cancel, clientOf, recordAt, numberOf, call}
+use Rattle.lock.specs.rules.Table.{State, Call, request, step, release, cancel, clientOf, clientAt, recordAt, numberOf, call}
 use Rattle.lock.specs.laws.Phases.{at-idle, at-held}
 use Rattle.lock.specs.laws.PatienceLaws.{patient-idle, patient-taken, own-moved}
 use Rattle.lock.specs.laws.Accepted.{accepted, request-tested, release-tested, cancel-tested}
@@ -173,14 +174,14 @@ idle-record s st ks c z (inr h) =
 
 -- ---- all clients: those below the table's count, and past it no record stands
 
-pub count-run : (s : Settings) (ks : List Call) (st : State) → length (run s st ks .records) ≡ length (st .records)
+pub count-run : (s : Settings) (ks : List Call) (st : State) → length (run s st ks .clients) ≡ length (st .clients)
 unfolding run
 count-run s [] st = refl
 count-run s (k ∷ ks) st = count-run s ks (call s st k .state) ∙ count-after s st k
 
 pub all-idle : (s : Settings) (st : State) (ks : List Call) → ((c : ℕ) → recordAt st c .phase ≡ 0)
-    → ((c : ℕ) → c < length (st .records) → Idle (events s st ks) c) → (c : ℕ) → recordAt (run s st ks) c .phase ≡ 0
-unfolding recordAt
+    → ((c : ℕ) → c < length (st .clients) → Idle (events s st ks) c) → (c : ℕ) → recordAt (run s st ks) c .phase ≡ 0
+unfolding clientAt
 all-idle s st ks z h c =
-    by-lt c (length (st .records)) (λ b. idle-record s st ks c (z c) (h c b))
-    (λ b. ap (λ (r : Record). r .phase) (List·getD-eq-default (run s st ks .records) (idleWith 0) (omega (arith, count-run s ks st))))
+    by-lt c (length (st .clients)) (λ b. idle-record s st ks c (z c) (h c b))
+    (λ b. ap (λ (x : Client). x .«record» .phase) (List·getD-eq-default (run s st ks .clients) idleClient (omega (arith, count-run s ks st))))

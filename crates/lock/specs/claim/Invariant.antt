@@ -17,29 +17,26 @@ use Rattle.tree.specs.laws.Range.{leaf-level, leaf-some}
 use Rattle.lock.specs.declared.Record.{Record}
 use Rattle.lock.specs.declared.Settings.{Settings}
 use Rattle.lock.specs.rules.Records.{wordAt, written}
-use Rattle.lock.specs.rules.Table.{State, recordAt}
 use Rattle.lock.specs.laws.Active.{Settled}
 use Rattle.lock.specs.rules.Steps.{wanted}
 use Rattle.lock.specs.claim.Owned.{owns-falls}
-use Rattle.lock.specs.claim.Fit.{Fit, fit-later}
+use Rattle.lock.specs.claim.Fit.{Fit}
 use Rattle.lock.specs.claim.Effect.{Grips, Notices, Effect, quiet, drew, turned, claimed, freed, passed, notified, unnotified, took, gave}
 use Rattle.lock.specs.claim.InnerWords.{nobody, InnerWord, inner-same, inner-drew, inner-turned, inner-claimed, inner-freed, inner-passed, inner-notified, inner-unnotified}
 use Rattle.lock.specs.claim.LeafWords.{LeafBit, leaf-same, leaf-took, leaf-gave}
-use Rattle.lock.specs.claim.Timed.{Timed, Timely, timed-later, timed-above, timed-below}
+use Rattle.lock.specs.claim.Parts.{Parts, recordIn}
 
-pub record Invariant (s : Settings) (st : State) : Type 0 where
+pub record Invariant (s : Settings) (st : Parts) : Type 0 where
   pub settled : Settled s
   pub count : length (st .words) ≡ wordCount (s .levels)
   pub few : length (st .records) ≤ 32767
   -- every record is readable, and its notices fit its phase
-  pub fit : (c : ℕ) → Fit s (recordAt st c) (st .clock)
+  pub fit : (c : ℕ) → Fit s (recordIn st c) (st .clock c)
   -- every inner word holds what the records own of it
   pub inner : (n : ℕ) → Node (s .levels) n → level n ≢ s .levels → InnerWord s (st .records) n (wordAt (st .words) n)
   -- so does every leaf word, which has 64 bits
   pub small : (n : ℕ) → Node (s .levels) n → level n ≡ s .levels → wordAt (st .words) n < 2 ^ 64
   pub bits : (u : ℕ) → u < units (s .levels) → LeafBit s (st .records) u (wordAt (st .words) (leaf (s .levels) u))
-  -- and what is known of two different clients
-  pub timed : (c d : ℕ) → c ≢ d → Timed s (recordAt st c) (recordAt st d) (st .clock)
 
 -- ---- one word written
 
@@ -61,17 +58,16 @@ written-length words (suc i) v = length-set words i v
 
 -- ---- an effect
 
-module _ (s : Settings) (st : State) (inv : Invariant s st) (c : ℕ) (client : c < length (st .records)) (x v : ℕ) (q : Record)
-    (some : x ≢ 0 → Node (s .levels) x) (e : Effect s (recordAt st c) q x (wordAt (st .words) x) v) where
+module _ (s : Settings) (st : Parts) (inv : Invariant s st) (c : ℕ) (client : c < length (st .records)) (x v : ℕ) (q : Record)
+    (some : x ≢ 0 → Node (s .levels) x) (e : Effect s (recordIn st c) q x (wordAt (st .words) x) v) where
   abbrev rs : List Record
   rs = st .records
 
   abbrev r : Record
-  r = recordAt st c
+  r = recordIn st c
 
   -- an inner word that is not touched
   else-kept : (n : ℕ) → Node (s .levels) n → level n ≢ s .levels → n ≢ x → InnerWord s (set rs c q) n (wordAt (st .words) n)
-  unfolding recordAt
   else-kept n a b d =
       let w = wordAt (st .words) n in
       let k = inv .inner n a b in
@@ -94,7 +90,6 @@ module _ (s : Settings) (st : State) (inv : Invariant s st) (c : ℕ) (client : 
 
   -- the inner word that is touched
   here-kept : Node (s .levels) x → level x ≢ s .levels → InnerWord s (set rs c q) x v
-  unfolding recordAt
   here-kept a b =
       let w = wordAt (st .words) x in
       let k = inv .inner x a b in
@@ -116,7 +111,6 @@ module _ (s : Settings) (st : State) (inv : Invariant s st) (c : ℕ) (client : 
 
   -- a unit of a leaf that is not touched
   else-bit : (u : ℕ) → u < units (s .levels) → leaf (s .levels) u ≢ x → LeafBit s (set rs c q) u (wordAt (st .words) (leaf (s .levels) u))
-  unfolding recordAt
   else-bit u f d =
       let same = leaf-same s u levels-some f (wordAt (st .words) (leaf (s .levels) u)) rs (inv .bits u f) c q client in
       elim e [
@@ -134,7 +128,6 @@ module _ (s : Settings) (st : State) (inv : Invariant s st) (c : ℕ) (client : 
 
   -- a unit of the leaf that is touched
   here-bit : (u : ℕ) → u < units (s .levels) → leaf (s .levels) u ≡ x → LeafBit s (set rs c q) u v
-  unfolding recordAt
   here-bit u f z =
       let w = wordAt (st .words) x in
       let k : LeafBit s rs u w = subst (λ (n : ℕ). LeafBit s rs u (wordAt (st .words) n)) z (inv .bits u f) in
@@ -180,31 +173,19 @@ module _ (s : Settings) (st : State) (inv : Invariant s st) (c : ℕ) (client : 
         | no d ↦ subst P (sym (written-other (st .words) x v n d)) (g d)
       ]
 
-  module _ (now : ℕ) (later : st .clock ≤ now) (fits : Fit s q now) (time : Timely s rs nobody r q now) where
-    abbrev after : State
-    after = record { words = written (st .words) x v; records = set rs c q; clock = now }
-
-    two-timed : (a b : ℕ) → a ≢ b → Timed s (recordAt after a) (recordAt after b) now
-    unfolding recordAt
-    two-timed a b d =
-        on-set (λ y. Timed s y (getD (set rs c q) b nobody) now) rs c a q nobody client
-        (λ i. on-set (λ y. Timed s q y now) rs c b q nobody client
-        (λ j. absurd (d (i ∙ sym j)))
-        (λ j. timed-above s (inv .settled) rs nobody r q (st .clock) now later time (getD rs b nobody) (inv .fit b) (λ n z. z b) (inv .timed c b (λ k. j (sym k)))))
-        (λ i. on-set (λ y. Timed s (getD rs a nobody) y now) rs c b q nobody client
-        (λ j. timed-below s (inv .settled) rs nobody r q (st .clock) now later time (getD rs a nobody) (inv .fit a) (λ n z. z a) (inv .timed a c i))
-        (λ j. timed-later s (getD rs a nobody) (getD rs b nobody) (st .clock) now later (inv .timed a b d)))
+  -- the clocks of the other clients stay
+  module _ (clock : ℕ → ℕ) (others : (d : ℕ) → d ≢ c → clock d ≡ st .clock d) (fits : Fit s q (clock c)) where
+    abbrev after : Parts
+    after = record { words = written (st .words) x v; records = set rs c q; clock = clock }
 
     pub effect-keeps : Invariant s after
-    unfolding recordAt
     effect-keeps = record {
       settled = inv .settled;
       count = written-length (st .words) x v ∙ inv .count;
       few = rw (length-set rs c q) (inv .few);
-      fit = λ d. on-set (λ (z : Record). Fit s z now) rs c d q nobody client (λ _. fits) (λ _. fit-later s (getD rs d nobody) (st .clock) (inv .fit d) now later);
+      fit = λ d. on-set (λ (z : Record). Fit s z (clock d)) rs c d q nobody client (λ i. subst (λ (e : ℕ). Fit s q (clock e)) (sym i) fits) (λ i. rw (others d i) (inv .fit d));
       inner = λ n a b. on-word (λ w. InnerWord s (set rs c q) n w) n a (λ i. rw i (here-kept (rw (sym i) a) (rw (sym i) b))) (else-kept n a b);
       small = λ n a b. on-word (λ w. w < 2 ^ 64) n a (λ i. here-small (rw (sym i) a) (rw (sym i) b)) (λ _. inv .small n a b);
       bits = λ u f. on-word (λ w. LeafBit s (set rs c q) u w) (leaf (s .levels) u)
           (record { some = leaf-some (s .levels) u levels-some f; inside = omega (arith, leaf-level (s .levels) u levels-some f) }) (here-bit u f) (else-bit u f);
-      timed = two-timed;
     }

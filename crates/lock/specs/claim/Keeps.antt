@@ -17,13 +17,13 @@ use Rattle.lock.specs.declared.Record.{Record}
 use Rattle.lock.specs.declared.Settings.{Settings}
 use Rattle.lock.specs.rules.Records.{wordAt, written, idleWith}
 use Rattle.lock.specs.laws.Pieces.{few-pieces}
-use Rattle.lock.specs.rules.Table.{State, recordAt}
 use Rattle.lock.specs.laws.Active.{Settled}
 use Rattle.lock.specs.laws.Placed.{widen}
 use Rattle.lock.specs.claim.Owned.{owns, ownsNotice}
 use Rattle.lock.specs.claim.Fit.{Fit, notice-le, ready-apart, ready-noticed, fit-later, on-fit}
 use Rattle.lock.specs.claim.Effect.{Same, Effect, quiet}
 use Rattle.lock.specs.claim.InnerWords.{nobody}
+use Rattle.lock.specs.claim.Parts.{Parts, recordIn}
 use Rattle.lock.specs.claim.Timed.{Timely}
 use Rattle.lock.specs.claim.Invariant.{Invariant, effect-keeps}
 use Rattle.lock.specs.claim.Forward.{Kin, Unreturned, onward-unreturned, forward-same, Empty, empty-owns, empty-notice, fresh-empty}
@@ -36,10 +36,10 @@ pub record Keeps (s : Settings) (rs : List Record) (r : Record) (x w v : ℕ) (q
   pub fits : Fit s q now
   pub time : Timely s rs nobody r q now
 
-pub keeps-invariant : (s : Settings) (st : State) (c x v : ℕ) (q : Record) (now : ℕ) → Invariant s st → c < length (st .records) → st .clock ≤ now
-    → Keeps s (st .records) (recordAt st c) x (wordAt (st .words) x) v q now
-    → Invariant s (record { words = written (st .words) x v; records = set (st .records) c q; clock = now })
-keeps-invariant s st c x v q now inv client later f = effect-keeps s st inv c client x v q (f .node) (f .effect) now later (f .fits) (f .time)
+pub keeps-invariant : (s : Settings) (st : Parts) (c x v : ℕ) (q : Record) (clock : ℕ → ℕ) (now : ℕ) → Invariant s st → c < length (st .records) → clock c ≡ now
+    → ((d : ℕ) → d ≢ c → clock d ≡ st .clock d) → Keeps s (st .records) (recordIn st c) x (wordAt (st .words) x) v q now
+    → Invariant s (record { words = written (st .words) x v; records = set (st .records) c q; clock = clock })
+keeps-invariant s st c x v q clock now inv client own others f = effect-keeps s st inv c client x v q (f .node) (f .effect) clock others (rw own (f .fits))
 
 pub same-refl : (s : Settings) (r : Record) → Same s r r
 same-refl s r = record { owned = λ _ _ _ _. refl; units = λ _. refl; notices = λ _ _. refl; drawn = λ _ _ _ _. refl }
@@ -62,32 +62,28 @@ keeps-quiet s rs r q x w now n k c d u e f g v t = record {
 
 -- ---- what a word says of all records
 
-module _ (s : Settings) (st : State) (inv : Invariant s st) (x : ℕ) (v : Node (s .levels) x) (inner : level x ≢ s .levels) where
+module _ (s : Settings) (st : Parts) (inv : Invariant s st) (x : ℕ) (v : Node (s .levels) x) (inner : level x ≢ s .levels) where
   idle-empty : (o : ℕ) → Empty s (idleWith o)
   idle-empty o = fresh-empty s (idleWith o) (λ e. omega arith) refl refl refl
 
   -- a client past the table owns nothing
-  past : (f : Record → ℕ) → f nobody ≡ 0 → ((d : ℕ) → d < length (st .records) → f (recordAt st d) ≡ 0) → (d : ℕ) → f (getD (st .records) d nobody) ≡ 0
-  unfolding recordAt
+  past : (f : Record → ℕ) → f nobody ≡ 0 → ((d : ℕ) → d < length (st .records) → f (recordIn st d) ≡ 0) → (d : ℕ) → f (getD (st .records) d nobody) ≡ 0
   past f z h d = by-lt d (length (st .records)) (λ b. h d b) (λ b. ap f (getD-past (st .records) d nobody b) ∙ z)
 
   -- Occ is clear: nobody has it
   pub occ-none : occ (wordAt (st .words) x) ≢ 1 → (d : ℕ) → owns s 3 x (getD (st .records) d nobody) ≡ 0
-  unfolding recordAt
   occ-none n = past (owns s 3 x) (empty-owns s nobody (idle-empty 0) 3 x (omega arith))
       (λ d b. omega (arith, inv .inner x v inner .occ-is, field-lt 62 1 (wordAt (st .words) x), sum-at (owns s 3 x) (st .records) d nobody b))
 
   notice-few : (d : ℕ) → ownsNotice s x (getD (st .records) d nobody) ≤ 2
-  unfolding recordAt
   notice-few d =
       let r = getD (st .records) d nobody in
-      on-fit s r (st .clock) (inv .fit d) (inv .settled)
+      on-fit s r (st .clock d) (inv .fit d) (inv .settled)
       (λ e. omega (arith, ap (ownsNotice s x) e, empty-notice s (idleWith (r .outcome)) (idle-empty (r .outcome)) x))
-      (λ l. omega (arith, notice-le s r (ready-apart s r (st .clock) l) (inv .settled) (ready-noticed s r (st .clock) l) x, few-pieces r))
+      (λ l. omega (arith, notice-le s r (ready-apart s r (st .clock d) l) (inv .settled) (ready-noticed s r (st .clock d) l) x, few-pieces r))
 
   -- the notice counts are equal: nobody has a notice there
   pub notice-none : dcnt (wordAt (st .words) x) ≡ dmax (wordAt (st .words) x) → (d : ℕ) → ownsNotice s x (getD (st .records) d nobody) ≡ 0
-  unfolding recordAt
   notice-none e =
       let w = wordAt (st .words) x in
       let all : sumBy (ownsNotice s x) (st .records) ≡ 0

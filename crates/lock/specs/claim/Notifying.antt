@@ -2,11 +2,12 @@
 use mathlib.Core.Path.{_≡_, refl, sym, ap, _∙_}
 use mathlib.Core.Logic.{_≢_, inl, inr}
 use mathlib.Core.List.{List}
-use Prim.Native.Nat.{ℕ, suc, _-_, _≤_, _<_}
+use Prim.Native.Nat.{ℕ, suc, _*_, _-_, _≤_, _<_}
 use native.Mathlib.Omega.{arith}
-use lib.Dec.{leb, ltb, eqb→eq, ltb→lt, nltb→le, nleb→lt}
+use lib.Dec.{ltb, eqb→eq, ltb→lt, nltb→le}
 use lib.ListN.{length, getD}
 use Rattle.base.specs.laws.ChoiceLaws.{on-choose, neqb→ne}
+use Rattle.base.specs.laws.TestLaws.{test-false}
 use Rattle.word.specs.rules.Word.{addDmax}
 use Rattle.tree.specs.rules.Tree.{level, Node}
 use Rattle.tree.specs.rules.Lists.{notifyList}
@@ -14,8 +15,9 @@ use Rattle.tree.specs.laws.Level.{level-pos}
 use Rattle.lock.specs.declared.Record.{Record}
 use Rattle.lock.specs.declared.Settings.{Settings}
 use Rattle.lock.specs.rules.Records.{pieces, pieceAt, currentPiece, isLeaf, gripOf, toPhase, withPlace, withNotices, withTaken, sentBack}
-use Rattle.lock.specs.rules.Steps.{taken, allNotified, noticeGiven}
+use Rattle.lock.specs.rules.Steps.{taken, late, allNotified, noticeGiven}
 use Rattle.lock.specs.laws.Active.{Settled}
+use Rattle.lock.specs.laws.LateLaws.{not-late}
 use Rattle.lock.specs.laws.Pieces.{first-gripped}
 use Rattle.lock.specs.laws.Ready.{Ready, any-grip-leaf, any-grip-most}
 use Rattle.lock.specs.laws.WhenReadable.{readable-notify, readable-wait, readable-returning}
@@ -24,7 +26,7 @@ use Rattle.lock.specs.claim.Effect.{Same, Effect, notified, notices-then
 use Rattle.lock.specs.claim.InnerWords.{nobody}
 use Rattle.lock.specs.claim.Stage.{passing, stage-current, passing-notify, passing-none, checked-none}
 use Rattle.lock.specs.claim.Forward.{Kin, kin, onward-unreturned, entering-unreturned, forward-same, forward-notices, forward-notified}
-use Rattle.lock.specs.claim.Onward.{untaken, asked-same, onward, timely-returning}
+use Rattle.lock.specs.claim.Onward.{untaken, asked-same, onward, unclaimed-returning, timely-none}
 use Rattle.lock.specs.claim.Keeps.{Keeps, notified-inner}
 use Rattle.lock.specs.claim.Taking.{taken-keeps}
 
@@ -90,7 +92,7 @@ module _ (s : Settings) (rs : List Record) (r : Record) (last now : ℕ) (later 
     whole : suc (r .place) ≡ length (notifyList m n)
     whole = omega (arith, listed)
 
-    -- "clock - t1 ≥ T gives outcome 2 and 10"
+    -- late, which "gives outcome 2 and 10"
     late-keeps : Keeps s rs r x w (addDmax 1 w) (sentBack 2 p) now
     unfolding pieces pieceAt
     late-keeps =
@@ -103,10 +105,10 @@ module _ (s : Settings) (rs : List Record) (r : Record) (last now : ℕ) (later 
           fits = fit-readable s q now
               (readable-returning s q now g (asked-same s r q last now rd k later refl refl refl refl refl (untaken s r q last now rd (omega arith) refl refl)) (any-grip-most s r last rd) (any-grip-leaf s r last rd) refl (λ z. omega arith) (omega arith) (λ z. absurd (omega arith)) (omega arith) (omega (arith, whole))
               (λ a. absurd (omega (arith, grip))) (rd .active .giving-begun) (λ z. first-gripped q (λ y. omega (arith, grip)) (ap (gripOf q) (sym (rd .no-giving ahead)) ∙ z))) (λ a. omega arith);
-          time = timely-returning s rs nobody r now q refl;
+          time = timely-none s rs nobody r now q (unclaimed-returning q refl);
         }
 
-    module _ (in-time : now - r .t1 < s .wait) where
+    module _ (in-time : 10001 * (now - r .t1) < 9999 * s .wait) where
       -- all ancestors were passed
       all-passed : level n ≤ suc (passing r)
       all-passed = omega (arith, passing-notify r e, level-pos n)
@@ -127,7 +129,7 @@ module _ (s : Settings) (rs : List Record) (r : Record) (last now : ℕ) (later 
             };
             time = onward s rs nobody r now q k refl ahead (λ f. omega arith) (λ _ _. inl (omega arith, omega arith, refl)) (λ a _. absurd (omega arith))
                 (λ l a. absurd (omega (arith, checked-none s q (r .current) (λ f. omega arith) (λ f. omega arith))))
-                (inl (passing-none q (λ f. omega arith) (λ f. omega arith) (λ f. omega arith))) (λ _ _. inr (inl (all-passed, in-time)));
+                (inl (passing-none q (λ f. omega arith) (λ f. omega arith) (λ f. omega arith))) (λ _ _. inr (inl (all-passed, e, in-time)));
           }
 
       -- "a leaf is taken"
@@ -137,14 +139,14 @@ module _ (s : Settings) (rs : List Record) (r : Record) (last now : ℕ) (later 
           taken-keeps s rs r (suc (r .place)) last now later g rd ahead grip whole x w (addDmax 1 w) (λ _. notified-node .0) given
           (λ t. let q = toPhase 9 (withTaken t p) in
           onward s rs nobody r now q (kin r q refl refl refl refl) refl ahead (λ f. omega arith) (λ _ a. absurd (omega arith)) (λ _ _. inr (inr leaf)) (λ l _. inr (inr leaf))
-          (inl (passing-none q (λ f. omega arith) (λ f. omega arith) (λ f. omega arith))) (λ _ _. inr (inl (all-passed, in-time))))
+          (inl (passing-none q (λ f. omega arith) (λ f. omega arith) (λ f. omega arith))) (λ _ _. inr (inl (all-passed, e, in-time))))
 
     last-keeps : Keeps s rs r x w (addDmax 1 w) (allNotified s p now) now
     unfolding allNotified isLeaf pieces pieceAt
     last-keeps =
-        on-choose (λ q. Keeps s rs r x w (addDmax 1 w) q now) (leb (s .wait) (now - r .t1)) (sentBack 2 p) _
+        on-choose (λ q. Keeps s rs r x w (addDmax 1 w) q now) (late s p now) (sentBack 2 p) _
         (λ _. late-keeps)
-        (λ t. let in-time = nleb→lt (s .wait) (now - r .t1) t in
+        (λ t. let in-time = not-late s p now (test-false (late s p now) t) in
         on-choose (λ q. Keeps s rs r x w (addDmax 1 w) q now) (isLeaf s n) (taken s p now) (toPhase 7 p)
         (λ y. leaf-keeps in-time (eqb→eq (level n) (s .levels) y)) (λ y. inner-keeps in-time (neqb→ne (level n) (s .levels) y)))
 

@@ -3,7 +3,7 @@ use mathlib.Core.Path.{_≡_, refl, sym, ap, subst, _∙_}
 use mathlib.Core.Logic.{_≢_, _⊎_, inl, inr, ⊎-elim}
 use mathlib.Core.Bool.{false}
 use mathlib.Core.List.{List}
-use Prim.Native.Nat.{ℕ, suc, _-_, _≤_, _<_}
+use Prim.Native.Nat.{ℕ, suc, _*_, _-_, _≤_, _<_}
 use native.Mathlib.Omega.{arith}
 use lib.ListN.{length, getD}
 use Rattle.base.specs.laws.ChoiceLaws.{by-lt, by-eq}
@@ -19,7 +19,7 @@ use Rattle.lock.specs.laws.OwnTests.{notBegun}
 use Rattle.lock.specs.laws.WhenReadable.{asked}
 use Rattle.lock.specs.claim.Forward.{Kin}
 use Rattle.lock.specs.claim.Stage.{phaseAt, passing, checkedTo, stage-before, stage-returning, stage-current, stage-after, stage-cases, passing-climb, passing-none, checked-all, checked-none, checked-stage}
-use Rattle.lock.specs.claim.Timed.{Timely}
+use Rattle.lock.specs.claim.Timed.{Upward, Timely}
 
 kin-piece : (r q : Record) → Kin r q → (i : ℕ) → pieceAt q i ≡ pieceAt r i
 unfolding pieceAt
@@ -44,6 +44,28 @@ module _ (s : Settings) (r q : Record) (last now : ℕ) (rd : Ready s r last) wh
 
 -- ---- how far it has come
 
+-- no piece has claimed, and none has passed an ancestor
+pub record Unclaimed (q : Record) : Type 0 where
+  pub phase : 6 ≤ q .phase → 10 ≤ q .phase
+  pub stage : (i : ℕ) → 6 ≤ phaseAt q i → 10 ≤ phaseAt q i
+  pub none : passing q ≡ 0
+
+-- a record that returns
+pub unclaimed-returning : (q : Record) → q .phase ≡ 10 → Unclaimed q
+unclaimed-returning q e = record {
+  phase = λ _. omega arith;
+  stage = λ i x. by-lt i (q .current) (λ b. omega (arith, stage-returning q i b e)) (λ b. by-eq i (q .current) (λ f. omega (arith, stage-current q i f)) (λ d. absurd (omega (arith, stage-after q i (omega arith)))));
+  none = passing-none q (λ f. omega arith) (λ f. omega arith) (λ f. omega arith);
+}
+
+-- a record that begins its first piece, or is idle
+pub unclaimed-first : (q : Record) → q .current ≡ 0 → q .phase ≤ 4 → (q .phase ≡ 3 → q .place ≡ 0) → Unclaimed q
+unclaimed-first q c b p = record {
+  phase = λ x. absurd (omega arith);
+  stage = λ i x. by-eq i 0 (λ e. absurd (omega (arith, stage-current q i (e ∙ sym c)))) (λ d. absurd (omega (arith, stage-after q i (omega arith))));
+  none = by-eq (q .phase) 3 (λ e. passing-climb q e ∙ p e) (λ d. passing-none q d (λ f. omega arith) (λ f. omega arith));
+}
+
 module _ (s : Settings) (rs : List Record) (nobody r : Record) (now : ℕ) where
   pub timely-stay : Timely s rs nobody r r now
   timely-stay = record {
@@ -55,29 +77,14 @@ module _ (s : Settings) (rs : List Record) (nobody r : Record) (now : ℕ) where
   }
 
   module _ (q : Record) where
-    -- no piece has claimed, and none has passed an ancestor
-    pub timely-none : (6 ≤ q .phase → 10 ≤ q .phase) → ((i : ℕ) → 6 ≤ phaseAt q i → 10 ≤ phaseAt q i) → passing q ≡ 0 → Timely s rs nobody r q now
-    timely-none a b c = record {
-      claims = λ x y. absurd (omega (arith, a x));
-      waits = λ i x y. absurd (omega (arith, b i (omega arith)));
-      checks = λ i k x. let z = checked-stage s q i (omega arith) in absurd (omega (arith, z .0, z .1, b i (omega (arith, z .0))));
-      passes = inl c;
-      notifies = λ j x y. absurd (omega (arith, b j (omega arith)));
+    pub timely-none : Unclaimed q → Timely s rs nobody r q now
+    timely-none v = record {
+      claims = λ x y. absurd (omega (arith, v .phase x));
+      waits = λ i x y. absurd (omega (arith, v .stage i (omega arith)));
+      checks = λ i k x. let z = checked-stage s q i (omega arith) in absurd (omega (arith, z .0, z .1, v .stage i (omega (arith, z .0))));
+      passes = inl (v .none);
+      notifies = λ j x y. absurd (omega (arith, v .stage j (omega arith)));
     }
-
-    -- a record that returns
-    pub timely-returning : q .phase ≡ 10 → Timely s rs nobody r q now
-    timely-returning e =
-        timely-none (λ _. omega arith)
-        (λ i x. by-lt i (q .current) (λ b. omega (arith, stage-returning q i b e)) (λ b. by-eq i (q .current) (λ f. omega (arith, stage-current q i f)) (λ d. absurd (omega (arith, stage-after q i (omega arith))))))
-        (passing-none q (λ f. omega arith) (λ f. omega arith) (λ f. omega arith))
-
-    -- a record that begins its first piece, or is idle
-    pub timely-first : q .current ≡ 0 → q .phase ≤ 4 → (q .phase ≡ 3 → q .place ≡ 0) → Timely s rs nobody r q now
-    timely-first c b p =
-        timely-none (λ x. absurd (omega arith))
-        (λ i x. by-eq i 0 (λ e. absurd (omega (arith, stage-current q i (e ∙ sym c)))) (λ d. absurd (omega (arith, stage-after q i (omega arith)))))
-        (by-eq (q .phase) 3 (λ e. passing-climb q e ∙ p e) (λ d. passing-none q d (λ f. omega arith) (λ f. omega arith)))
 
     -- ---- the current piece goes on
 
@@ -101,23 +108,22 @@ module _ (s : Settings) (rs : List Record) (nobody r : Record) (now : ℕ) where
       now-at = stage-current r (r .current) refl
 
       pub onward :
-          (6 ≤ q .phase → q .phase ≤ 7 → ((6 ≤ r .phase) × (r .phase ≤ 7) × (q .t0 ≡ r .t0)) ⊎ ((q .t0 ≡ now) ⊎ (level (currentPiece r) ≡ s .levels)))
-          → (8 ≤ q .phase → q .phase ≤ 9 → ((8 ≤ r .phase) × (r .phase ≤ 9)) ⊎ (((6 ≤ r .phase) × (r .phase ≤ 7) × (s .wait ≤ now - r .t0)) ⊎ (level (currentPiece r) ≡ s .levels)))
+          (6 ≤ q .phase → q .phase ≤ 7 → ((6 ≤ r .phase) × (r .phase ≤ 7) × (q .t0 ≡ r .t0)) ⊎ (((r .phase ≡ 5) × (q .t0 ≡ now)) ⊎ (level (currentPiece r) ≡ s .levels)))
+          → (8 ≤ q .phase → q .phase ≤ 9 → ((8 ≤ r .phase) × (r .phase ≤ 9)) ⊎ (((r .phase ≡ 7) × (s .wait ≤ now - r .t0)) ⊎ (level (currentPiece r) ≡ s .levels)))
           → ((l : ℕ) → l < checkedTo s q (r .current)
           → (l < checkedTo s r (r .current)) ⊎ (((d : ℕ) → ownsNotice s (checkNode (currentPiece r) l) (getD rs d nobody) ≡ 0) ⊎ (level (currentPiece r) ≡ s .levels)))
-          → (passing q ≡ 0) ⊎ (((passing q ≤ passing r) × (q .t1 ≡ r .t1))
-          ⊎ ((passing q ≡ suc (passing r)) × ((q .t1 ≡ r .t1) ⊎ (passing r ≡ 0)) × ((d : ℕ) → owns s 3 (climb (suc (passing r)) (currentPiece r)) (getD rs d nobody) ≡ 0)))
-          → (7 ≤ q .phase → q .phase ≤ 9 → ((7 ≤ r .phase) × (r .phase ≤ 9)) ⊎ (((level (currentPiece r) ≤ suc (passing r)) × (now - r .t1 < s .wait)) ⊎ (currentPiece r ≡ 1)))
+          → (passing q ≡ 0) ⊎ Upward s rs nobody r q now
+          → (7 ≤ q .phase → q .phase ≤ 9 → ((7 ≤ r .phase) × (r .phase ≤ 9)) ⊎ (((level (currentPiece r) ≤ suc (passing r)) × (r .phase ≡ 6) × (10001 * (now - r .t1) < 9999 * s .wait)) ⊎ (currentPiece r ≡ 1)))
           → Timely s rs nobody r q now
       onward claims waits checks passes notifies = record {
         claims = λ x y. ⊎-elim (λ z. inl (z .0, z .1, z .2, current-same)) (λ z. inr (⊎-elim inl (λ l. inr (ap level current-same ∙ l)) z)) (claims x y);
         waits = λ i x y. on-piece (λ j. 8 ≤ phaseAt q j → phaseAt q j ≤ 9 → (pieceAt q j ≡ pieceAt r j) × (((8 ≤ phaseAt r j) × (phaseAt r j ≤ 9))
-            ⊎ (((j ≡ r .current) × (6 ≤ r .phase) × (r .phase ≤ 7) × (s .wait ≤ now - r .t0)) ⊎ (level (pieceAt q j) ≡ s .levels)))) i (omega arith) y
+            ⊎ (((j ≡ r .current) × (r .phase ≡ 7) × (s .wait ≤ now - r .t0)) ⊎ (level (pieceAt q j) ≡ s .levels)))) i (omega arith) y
             (λ l e f _ _. (piece i, inl (omega arith, omega arith)))
             (λ e o u. (
               piece (r .current),
               ⊎-elim (λ z. inl (omega (arith, z .0, now-at), omega (arith, z .1, now-at)))
-                  (λ z. inr (⊎-elim (λ w. inl (refl, w .0, w .1, w .2)) (λ l. inr (ap level (piece (r .current)) ∙ l)) z)) (waits (omega arith) (omega arith)),
+                  (λ z. inr (⊎-elim (λ w. inl (refl, w .0, w .1)) (λ l. inr (ap level (piece (r .current)) ∙ l)) z)) (waits (omega arith) (omega arith)),
             )) x y;
         checks = λ i l x. let stage = checked-stage s q i (omega arith) in
             on-piece (λ j. l < checkedTo s q j → (pieceAt q j ≡ pieceAt r j) × ((l < checkedTo s r j)
@@ -126,19 +132,18 @@ module _ (s : Settings) (rs : List Record) (nobody r : Record) (now : ℕ) where
             (λ e z. (piece (r .current), ⊎-elim inl (λ o. inr (⊎-elim inl (λ w. inr (ap level (piece (r .current)) ∙ w)) o)) (checks l z))) x;
         passes = ⊎-elim inl (λ z. inr (current-same, z)) passes;
         notifies = λ i x y. on-piece (λ j. 7 ≤ phaseAt q j → phaseAt q j ≤ 9 → (pieceAt q j ≡ pieceAt r j) × (((7 ≤ phaseAt r j) × (phaseAt r j ≤ 9))
-            ⊎ (((j ≡ r .current) × (level (currentPiece r) ≤ suc (passing r)) × (now - r .t1 < s .wait)) ⊎ (pieceAt q j ≡ 1)))) i (omega arith) y
+            ⊎ (((j ≡ r .current) × (level (currentPiece r) ≤ suc (passing r)) × (r .phase ≡ 6) × (10001 * (now - r .t1) < 9999 * s .wait)) ⊎ (pieceAt q j ≡ 1)))) i (omega arith) y
             (λ l e f _ _. (piece i, inl (omega arith, omega arith)))
             (λ e o u. (
               piece (r .current),
               ⊎-elim (λ z. inl (omega (arith, z .0, now-at), omega (arith, z .1, now-at)))
-                  (λ z. inr (⊎-elim (λ w. inl (refl, w .0, w .1)) (λ l. inr (piece (r .current) ∙ l)) z)) (notifies (omega arith) (omega arith)),
+                  (λ z. inr (⊎-elim (λ w. inl (refl, w .0, w .1, w .2)) (λ l. inr (piece (r .current) ∙ l)) z)) (notifies (omega arith) (omega arith)),
             )) x y;
       }
 
       -- to a phase in which nothing is claimed
       pub onward-low : q .phase ≤ 5
-          → (passing q ≡ 0) ⊎ (((passing q ≤ passing r) × (q .t1 ≡ r .t1))
-          ⊎ ((passing q ≡ suc (passing r)) × ((q .t1 ≡ r .t1) ⊎ (passing r ≡ 0)) × ((d : ℕ) → owns s 3 (climb (suc (passing r)) (currentPiece r)) (getD rs d nobody) ≡ 0)))
+          → (passing q ≡ 0) ⊎ Upward s rs nobody r q now
           → Timely s rs nobody r q now
       onward-low l passes =
           let at = stage-current q (r .current) (sym c) in

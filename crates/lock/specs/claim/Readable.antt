@@ -1,22 +1,26 @@
 -- No history meets cause 6: after every list of calls from an accepted opening every record is readable, and no call of it is refused by 6. Assumes nothing.
-use mathlib.Core.Path.{_≡_}
+use mathlib.Core.Path.{_≡_, subst}
+use mathlib.Core.Bool.{false}
 use mathlib.Core.Logic.{_≢_, inl, inr}
 use mathlib.Core.List.{List, [], _∷_, _++_}
 use native.Mathlib.Omega.{arith}
 use lib.ListN.{length}
+use Rattle.lock.specs.declared.Record.{Record}
 use Rattle.lock.specs.declared.Settings.{Settings}
 use Rattle.lock.specs.rules.Calls.{treeTests, clientTests, requestTests, stepTests, releaseTests, cancelTests}
-use Rattle.lock.specs.rules.Table.{State, Call, request, step, release, cancel, clientOf, ownTests, numberOf, call, opening}
+use Rattle.lock.specs.rules.Table.{State, Call, request, step, release, cancel, clientOf, clockAt, ownTests, numberOf, call, opening}
+use Rattle.lock.specs.rules.Unreadable.{unreadable}
 use Rattle.lock.specs.rules.History.{run, events, Some, AllReadable}
 use Rattle.lock.specs.laws.CallLaws.{NotNamed, never-named}
+use Rattle.lock.specs.claim.Parts.{partsOf, record-at}
 use Rattle.lock.specs.claim.Invariant.{Invariant}
 use Rattle.lock.specs.claim.Keeping.{call-keeps, run-keeps}
 use Rattle.lock.specs.claim.Start.{opening-invariant}
 
 -- ---- every record
 
-pub invariant-readable : (s : Settings) (st : State) → Invariant s st → AllReadable s st
-invariant-readable s st inv c = inv .fit c .readable
+pub invariant-readable : (s : Settings) (st : State) → Invariant s (partsOf st) → AllReadable s st
+invariant-readable s st inv c = subst (λ (r : Record). unreadable s r (clockAt st c) ≡ false) (record-at st c) (inv .fit c .readable)
 
 pub every-readable : (s : Settings) (lent : State) → opening s lent .number ≡ 0 → (ks : List Call) → AllReadable s (run s (opening s lent .state) ks)
 every-readable s lent e ks = invariant-readable s _ (run-keeps s (opening s lent .state) (opening-invariant s lent e) ks)
@@ -35,10 +39,10 @@ module _ (s : Settings) (st : State) (every : AllReadable s st) where
   not-6 : (k : Call) → numberOf s st k ≢ 6
   unfolding NotNamed numberOf treeTests clientTests
   not-6 k =
-      never-named 6 (treeTests s (length (st .words)) ++ (clientTests (length (st .records)) (clientOf k) ++ ownTests s st k)) (λ z. omega arith)
+      never-named 6 (treeTests s (length (st .words)) ++ (clientTests (length (st .clients)) (clientOf k) ++ ownTests s st k)) (λ z. omega arith)
       (inl (λ z. omega arith), (inl (λ z. omega arith), (inl (λ z. omega arith), (inl (λ z. omega arith), own-tests k))))
 
-run-not-6 : (s : Settings) (st : State) → Invariant s st → (ks : List Call) → Some (λ e. e .number ≡ 6) (events s st ks) → ⊥
+run-not-6 : (s : Settings) (st : State) → Invariant s (partsOf st) → (ks : List Call) → Some (λ e. e .number ≡ 6) (events s st ks) → ⊥
 unfolding events Some call
 run-not-6 s st inv [] x = x
 run-not-6 s st inv (k ∷ ks) (inl e) = not-6 s st (invariant-readable s st inv) k e

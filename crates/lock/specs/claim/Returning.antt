@@ -31,7 +31,7 @@ use Rattle.lock.specs.claim.InnerWords.{nobody}
 use Rattle.lock.specs.claim.Timed.{Timely}
 use Rattle.lock.specs.claim.Forward.{kin}
 use Rattle.lock.specs.claim.Backward.{own-returned, notice-returned, notice-back, word-returned-same, turn-returned}
-use Rattle.lock.specs.claim.Onward.{asked-same, timely-returning, timely-first}
+use Rattle.lock.specs.claim.Onward.{asked-same, unclaimed-returning, unclaimed-first, timely-none}
 use Rattle.lock.specs.claim.Keeps.{Keeps, keeps-stay, notified-inner}
 
 module _ (s : Settings) (rs : List Record) (r : Record) (last now : ℕ) (later : last ≤ now) (g : Settled s) (rd : Ready s r last) (v : Fit s r last) (w : ℕ) (e : r .phase ≡ 10) where
@@ -56,7 +56,7 @@ module _ (s : Settings) (rs : List Record) (r : Record) (last now : ℕ) (later 
         fit-readable s z now
             (readable-returning s z now g (asked-same s r z last now rd (kin r z refl refl refl refl) later refl refl refl refl refl (rd .no-early-time)) a b e (rd .outcome-some e) (rd .outcome-most) (rd .later-piece e) h (rd .active .noticed) c d f)
             (λ x. omega arith),
-        timely-returning s rs nobody r now z e,
+        timely-none s rs nobody r now z (unclaimed-returning z e),
       )
 
   -- with the grip that it has
@@ -73,7 +73,7 @@ module _ (s : Settings) (rs : List Record) (r : Record) (last now : ℕ) (later 
       on-choose P (ltb (r .place) (noticesOf s r (r .giving))) (withPlace (suc (r .place)) r) (pieceReturned r)
       (λ t. onwards (r .giving) (suc (r .place)) (rd .active .giving-begun) (rd .giving-gripped e) (ltb→lt (r .place) (noticesOf s r (r .giving)) t))
       (λ _. on-choose P (eqb (gripOf r next) 0) (idleWith (r .outcome)) (withPlace 0 (withGiving next r))
-      (λ _. (idle-fit s (r .outcome) now (rd .outcome-most), timely-first s rs nobody r now (idleWith (r .outcome)) refl (omega arith) (λ _. refl)))
+      (λ _. (idle-fit s (r .outcome) now (rd .outcome-most), timely-none s rs nobody r now (idleWith (r .outcome)) (unclaimed-first (idleWith (r .outcome)) refl (omega arith) (λ _. refl))))
       (λ t. let some = neqb→ne (gripOf r next) 0 t in
       onwards next 0 (by-lt (r .current) next (λ b. absurd (some (grip-after r next b))) (λ b. b)) some (omega arith)))
 

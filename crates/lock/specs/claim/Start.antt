@@ -1,6 +1,7 @@
--- Laws: what an accepted opening leaves has the invariant. Assumes nothing.
+-- Laws: what an accepted opening leaves has the invariant, and nothing is noted there of which a moment would have to be known. Assumes nothing.
 use mathlib.Core.Path.{_≡_, refl, sym, ap, subst, _∙_}
-use Prim.Native.Nat.{ℕ, zero, suc, _+_, _%_}
+use mathlib.Core.List.{List}
+use Prim.Native.Nat.{ℕ, zero, suc, _+_, _%_, _≤_}
 use native.Mathlib.Omega.{arith}
 use lib.ListN.{length, getD, replicate, length-replicate}
 use Rattle.base.specs.laws.ChoiceLaws.{choose-eq}
@@ -8,18 +9,22 @@ use Rattle.base.specs.laws.Sum.{sumBy, sum-zero, getD-fresh}
 use Rattle.base.specs.laws.Tickets.{none-yet}
 use Rattle.word.specs.rules.Word.{field, bit}
 use Rattle.word.specs.laws.Bits.{bit-zero}
-use Rattle.tree.specs.rules.Tree.{leaf}
+use Rattle.tree.specs.rules.Tree.{leaf, wordCount}
 use Rattle.lock.specs.declared.Record.{Record}
 use Rattle.lock.specs.declared.Settings.{Settings}
 use Rattle.lock.specs.rules.Records.{wordAt}
-use Rattle.lock.specs.rules.Table.{State, recordAt, openingNumber, opened, opening}
+use Rattle.lock.specs.rules.Table.{State, clockAt, openingNumber, opened, opening}
+use Rattle.lock.specs.rules.History.{Event}
+use Rattle.lock.specs.laws.Active.{Settled}
 use Rattle.lock.specs.laws.Accepted.{opened-accepted}
 use Rattle.lock.specs.claim.Owned.{owns, ownsUnit, ownsNotice}
 use Rattle.lock.specs.claim.Fit.{Fit, idle-fit}
-use Rattle.lock.specs.claim.Stage.{idle-stage}
 use Rattle.lock.specs.claim.InnerWords.{nobody, ticketOf, InnerWord}
+use Rattle.lock.specs.claim.Parts.{partsOf, records-fresh}
 use Rattle.lock.specs.claim.Timed.{Timed}
+use Rattle.lock.specs.claim.Onward.{Unclaimed, unclaimed-first}
 use Rattle.lock.specs.claim.Invariant.{Invariant}
+use Rattle.lock.specs.claim.Moments.{Noted, Timing, timed-none}
 use Rattle.lock.specs.claim.Forward.{Empty, empty-owns, empty-unit, empty-notice, fresh-empty}
 
 zero-words : (count n : ℕ) → wordAt (replicate count 0) n ≡ 0
@@ -43,31 +48,55 @@ module _ (s : Settings) where
     notices = ap (λ (m : ℕ). (0 + m) % 65536) (none (ownsNotice s n) k (empty-notice s nobody nobody-empty n));
   }
 
-  idle-timed : (last : ℕ) → Timed s nobody nobody last
-  idle-timed last = record {
-    claims = λ a _ _. absurd (omega arith);
-    waits = λ i a _ _. absurd (omega (arith, idle-stage 0 i));
-    checks = λ i j k l a b _ _ _. absurd (omega (arith, idle-stage 0 j));
-  }
-
-  pub opened-invariant : (st : State) → openingNumber s (length (st .words)) (length (st .records)) ≡ 0 → Invariant s (opened st)
-  unfolding opened recordAt
-  opened-invariant st e =
-      let a = opened-accepted s st e in
-      let k = length (st .records) in
-      let free : (c : ℕ) → nobody ≡ getD (replicate k nobody) c nobody = λ c. sym (getD-fresh k c nobody) in
-      let word : (n : ℕ) → 0 ≡ wordAt (replicate (length (st .words)) 0) n = λ n. sym (zero-words (length (st .words)) n) in
+  fresh-invariant : (count clients : ℕ) (clock : ℕ → ℕ) → Settled s → count ≡ wordCount (s .levels) → clients ≤ 32767
+      → Invariant s (record { words = replicate count 0; records = replicate clients nobody; clock = clock })
+  fresh-invariant count clients clock g whole few =
+      let free : (c : ℕ) → nobody ≡ getD (replicate clients nobody) c nobody = λ c. sym (getD-fresh clients c nobody) in
+      let word : (n : ℕ) → 0 ≡ wordAt (replicate count 0) n = λ n. sym (zero-words count n) in
       record {
-        settled = a .0;
-        count = length-replicate (length (st .words)) 0 ∙ a .1;
-        few = rw (length-replicate k nobody) (a .2);
-        fit = λ c. subst (λ x. Fit s x 0) (free c) (idle-fit s 0 0 (omega arith));
-        inner = λ n _ _. subst (λ (w : ℕ). InnerWord s (replicate k nobody) n w) (word n) (zero-kept n k);
+        settled = g;
+        count = length-replicate count 0 ∙ whole;
+        few = rw (length-replicate clients nobody) few;
+        fit = λ c. subst (λ x. Fit s x (clock c)) (free c) (idle-fit s 0 (clock c) (omega arith));
+        inner = λ n _ _. subst (λ (w : ℕ). InnerWord s (replicate clients nobody) n w) (word n) (zero-kept n clients);
         small = λ n _ _. omega (arith, word n);
-        bits = λ u _. sym (ap (bit (u % 64)) (word (leaf (s .levels) u))) ∙ bit-zero (u % 64) ∙ sym (none (ownsUnit s u) k (empty-unit s nobody nobody-empty u));
-        timed = λ c d _. subst (λ x. Timed s x (getD (replicate k nobody) d nobody) 0) (free c) (subst (λ y. Timed s nobody y 0) (free d) (idle-timed 0));
+        bits = λ u _. sym (ap (bit (u % 64)) (word (leaf (s .levels) u))) ∙ bit-zero (u % 64) ∙ sym (none (ownsUnit s u) clients (empty-unit s nobody nobody-empty u));
       }
 
-pub opening-invariant : (s : Settings) (lent : State) → opening s lent .number ≡ 0 → Invariant s (opening s lent .state)
+  -- nothing is noted yet, so that nothing need be known of moments
+  nobody-unclaimed : Unclaimed nobody
+  nobody-unclaimed = unclaimed-first nobody refl (omega arith) (λ _. refl)
+
+  fresh-timing : (words : List ℕ) (clients : ℕ) (clock : ℕ → ℕ) (rest : List Event) (found touch reading : ℕ → ℕ)
+      → Timing s (record { words = words; records = replicate clients nobody; clock = clock }) rest found touch reading
+  fresh-timing words clients clock rest found touch reading =
+      let free : (c : ℕ) → nobody ≡ getD (replicate clients nobody) c nobody = λ c. sym (getD-fresh clients c nobody) in
+      record {
+        claim = λ _. 0;
+        parent = λ _. 0;
+        present = 0;
+        later = λ j d u a. omega arith;
+        noted = λ c. subst (λ x. Noted s x 0 0 0 rest found reading c) (free c)
+            (record { past = λ n. omega arith; not-slow = λ n. absurd (n (nobody-unclaimed .none)); not-fast = λ a. absurd (omega arith) });
+        timed = λ c d _. subst (λ x. Timed s x (getD (replicate clients nobody) d nobody) 0 0 0) (free c) (timed-none s nobody nobody-unclaimed _ 0 0 0);
+      }
+
+  module _ (st : State) where
+    pub opened-invariant : openingNumber s (length (st .words)) (length (st .clients)) ≡ 0 → Invariant s (partsOf (opened st))
+    unfolding opened
+    opened-invariant e =
+        let a = opened-accepted s st e in
+        let k = length (st .clients) in
+        subst (λ (rs : List Record). Invariant s (record { words = replicate (length (st .words)) 0; records = rs; clock = clockAt (opened st) })) (sym (records-fresh k))
+        (fresh-invariant (length (st .words)) k (clockAt (opened st)) (a .0) (a .1) (a .2))
+
+    pub opened-timing : (rest : List Event) (found touch reading : ℕ → ℕ) → Timing s (partsOf (opened st)) rest found touch reading
+    unfolding opened
+    opened-timing rest found touch reading =
+        let k = length (st .clients) in
+        subst (λ (rs : List Record). Timing s (record { words = replicate (length (st .words)) 0; records = rs; clock = clockAt (opened st) }) rest found touch reading) (sym (records-fresh k))
+        (fresh-timing (replicate (length (st .words)) 0) k (clockAt (opened st)) rest found touch reading)
+
+pub opening-invariant : (s : Settings) (lent : State) → opening s lent .number ≡ 0 → Invariant s (partsOf (opening s lent .state))
 unfolding opening
-opening-invariant s lent e = subst (Invariant s) (sym (choose-eq (opening s lent .number) 0 (opened lent) lent e)) (opened-invariant s lent e)
+opening-invariant s lent e = subst (λ (st : State). Invariant s (partsOf st)) (sym (choose-eq (opening s lent .number) 0 (opened lent) lent e)) (opened-invariant s lent e)

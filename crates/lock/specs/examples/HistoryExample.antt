@@ -1,14 +1,13 @@
 -- Examples, closed by computing: from an accepted opening a history after which two clients hold two windows, and a longer one after which both are idle and
--- the words are clean. So neither half of demand 3 speaks of nothing. Assumes nothing.
+-- the words are clean. Their clocks have different offsets and rates: DriftExample.antt has the true moments. So neither half of demand 3 speaks of nothing. Assumes nothing.
 use mathlib.Core.Path.{_≡_, refl, sym, subst}
 use mathlib.Core.Logic.{inl, inr}
-use mathlib.Core.Bool.{Bool, true, false, not}
 use mathlib.Core.List.{List, [], _∷_, _++_}
 use Prim.Native.Nat.{ℕ, zero, suc, _+_, _*_, _<_}
 use native.Mathlib.Omega.{arith}
-use lib.Dec.{T, eqb, eqb-refl, T-not}
+use lib.Dec.{T}
 use lib.ListN.{take, drop, replicate}
-use Rattle.base.specs.laws.Every.{both, both-l, both-r}
+use Rattle.base.specs.laws.Every.{both}
 use Rattle.base.specs.rules.Choice.{choose}
 use Rattle.base.specs.laws.Sum.{getD-fresh}
 use Rattle.word.specs.rules.Word.{field, putField, addField, matches, replaced, maskedSwap, leafBits, wantedBits, takeBits, giveBits, returnOcc}
@@ -17,114 +16,58 @@ use Rattle.tree.specs.rules.Lists.{upward, ancestors, ancestor, notifies, notif
 use Rattle.cover.specs.rules.Cover.{part, over, total, rank}
 use Rattle.cover.specs.rules.Search.{before, lesser, behind, leastOf, rest, search, found, leastCover}
 use Rattle.cover.specs.rules.Answer.{levelsOutside, windowOutside}
-use Rattle.lock.specs.rules.Records.{phaseOf, pieces, pieceAt, isLeaf, gripOf, noticesOf, wordAt, written, idleWith}
+use Rattle.lock.specs.rules.Records.{phaseOf, pieces, pieceAt, isLeaf, gripOf, noticesOf, wordAt, written, idleWith, clientWith}
 use Rattle.lock.specs.rules.Unreadable.{numberTooLarge, idleFilled, notCovered, noCurrent, ticketTooLarge, fieldsWrong, listLength, placePast, noticesWrong, timeAhead, phaseElsewhere, heldEarly, outcomeWrong, lacksGrip, givingWrong, outOfPatienceFirst, takenFirst, unreadable}
-use Rattle.lock.specs.rules.Steps.{touchedIn, startPhase, begin, firstNoted, taken, ticketTaken, turnAwaited, goUp, climbed, unblocked, bitsClaimed, occClaimed, allNotified, noticeGiven, waited, checkPassed, pieceReturned, wordReturned, turnReturned, claimPiece, returnBits, returnInner, giveBack, movedIn, outOfPatience}
+use Rattle.lock.specs.rules.Steps.{touchedIn, startPhase, begin, firstNoted, taken, ticketTaken, turnAwaited, goUp, climbed, unblocked, bitsClaimed, occClaimed, late, allNotified, noticeGiven, waited, checkPassed, pieceReturned, wordReturned, turnReturned, claimPiece, returnBits, returnInner, giveBack, movedIn, outOfPatience}
 use Rattle.lock.specs.rules.Calls.{firstCause, settingsOutside, treeTests, clientsOutside, clientTests, requestTests, stepTests, releaseTests, cancelTests, requested, released, cancelled}
-use Rattle.lock.specs.rules.Table.{State, Call, request, step, release, cancel, clientOf, recordAt, ownTests, numberOf, after, call, openingNumber, opened, opening}
+use Rattle.lock.specs.rules.Table.{State, Call, request, step, release, cancel, clientOf, clientAt, ownTests, numberOf, after, call, openingNumber, opened, opening}
 use Rattle.lock.specs.declared.Settings.{Settings}
 use Rattle.lock.specs.rules.History.{run, Event, events, Some, CallOf, RequestOf, StepOf, ReleaseOf, Accepted, GaveBackIn, LastRequest, Holds, Idle, CleanInner, Clean}
+use Rattle.lock.specs.examples.Seen.{seen, isRequest, isRelease, is-request, is-release, noneOf, none, later}
 
 -- ---- the calls
 
--- H 3, m 1, T 5, P 20, two clients; what is lent to the opening is of the right size, and of any content
+-- H 3, m 1, T 20,000, P 20, two clients; what is lent to the opening is of the right size, and of any content
 abbrev pub settings : Settings
-settings = record { levels = 3; distance = 1; wait = 5; patience = 20 }
+settings = record { levels = 3; distance = 1; wait = 20000; patience = 20 }
 
 abbrev pub lent : State
-lent = record { words = replicate 21 7; records = replicate 2 (idleWith 3); clock = 9 }
+lent = record { words = replicate 21 7; clients = replicate 2 (clientWith 9 (idleWith 3)) }
 
 -- client 1 takes [300, 310), in the leaf 10, and client 0 [0, 256), the inner node 2; a second request of client 0 is refused by 8
 abbrev pub holding : List Call
 holding =
-    request 0 0 256 ∷ request 1 300 310 ∷ step 1 1 ∷ step 1 1 ∷ step 1 1 ∷ step 1 1 ∷ step 1 1
-    ∷ step 0 1 ∷ step 0 1 ∷ step 0 1 ∷ step 0 1 ∷ step 0 1 ∷ step 0 6 ∷ step 0 6 ∷ request 0 0 64 ∷ []
+    request 0 0 256 ∷ request 1 300 310 ∷ step 1 1000000 ∷ step 1 1000000 ∷ step 1 1000000 ∷ step 1 1000000 ∷ step 1 1010001
+    ∷ step 0 7 ∷ step 0 7 ∷ step 0 7 ∷ step 0 7 ∷ step 0 7 ∷ step 0 20007 ∷ step 0 20007 ∷ request 0 0 64 ∷ []
 
 -- both give back
 abbrev pub returned : List Call
-returned = holding ++ (release 0 ∷ step 0 7 ∷ step 0 7 ∷ release 1 ∷ step 1 7 ∷ step 1 7 ∷ step 1 7 ∷ [])
+returned = holding ++ (release 0 ∷ step 0 20008 ∷ step 0 20008 ∷ release 1 ∷ step 1 1040004 ∷ step 1 1040004 ∷ step 1 1040004 ∷ [])
 
 abbrev pub fresh : State
 fresh = opening settings lent .state
 
 -- ---- what is seen of them: the call, its number and the phase after
 
-abbrev seen : Call → ℕ → ℕ → Event
-seen k n p = record { made = k; number = n; phase = p }
-
-abbrev events-holding : List Event
+abbrev pub events-holding : List Event
 events-holding =
-    seen (request 0 0 256) 0 1 ∷ seen (request 1 300 310) 0 3 ∷ seen (step 1 1) 0 3 ∷ seen (step 1 1) 0 5 ∷ seen (step 1 1) 0 6 ∷ seen (step 1 1) 0 6
-    ∷ seen (step 1 1) 0 9 ∷ seen (step 0 1) 0 2 ∷ seen (step 0 1) 0 3 ∷ seen (step 0 1) 0 5 ∷ seen (step 0 1) 0 6 ∷ seen (step 0 1) 0 7 ∷ seen (step 0 6) 0 8
-    ∷ seen (step 0 6) 0 9 ∷ seen (request 0 0 64) 8 9 ∷ []
+    seen (request 0 0 256) 0 1 ∷ seen (request 1 300 310) 0 3 ∷ seen (step 1 1000000) 0 3 ∷ seen (step 1 1000000) 0 5 ∷ seen (step 1 1000000) 0 6
+    ∷ seen (step 1 1000000) 0 6 ∷ seen (step 1 1010001) 0 9 ∷ seen (step 0 7) 0 2 ∷ seen (step 0 7) 0 3 ∷ seen (step 0 7) 0 5 ∷ seen (step 0 7) 0 6
+    ∷ seen (step 0 7) 0 7 ∷ seen (step 0 20007) 0 8 ∷ seen (step 0 20007) 0 9 ∷ seen (request 0 0 64) 8 9 ∷ []
 
 abbrev events-returned : List Event
 events-returned =
-    events-holding ++ (seen (release 0) 0 10 ∷ seen (step 0 7) 0 10 ∷ seen (step 0 7) 0 0
-    ∷ seen (release 1) 0 10 ∷ seen (step 1 7) 0 10 ∷ seen (step 1 7) 0 10 ∷ seen (step 1 7) 0 0 ∷ [])
+    events-holding ++ (seen (release 0) 0 10 ∷ seen (step 0 20008) 0 10 ∷ seen (step 0 20008) 0 0
+    ∷ seen (release 1) 0 10 ∷ seen (step 1 1040004) 0 10 ∷ seen (step 1 1040004) 0 10 ∷ seen (step 1 1040004) 0 0 ∷ [])
 
 -- the leaves are 0; the root has two notices given and given back, node 2 one ticket, node 3 one notice
 abbrev words-returned : List ℕ
 words-returned = (2 * 65536 + 2) ∷ (140737488355328 + 4294967296) ∷ (65536 + 1) ∷ replicate 18 0
 
-computed : (opening settings lent .number ≡ 0) × (events settings fresh holding ≡ events-holding)
+pub computed : (opening settings lent .number ≡ 0) × (events settings fresh holding ≡ events-holding)
     × (events settings fresh returned ≡ events-returned) × (run settings fresh returned .words ≡ words-returned)
-unfolding run events call numberOf after ownTests recordAt clientOf opening openingNumber opened firstCause settingsOutside treeTests clientsOutside clientTests requestTests stepTests releaseTests cancelTests requested released cancelled touchedIn startPhase begin firstNoted taken ticketTaken turnAwaited goUp climbed unblocked bitsClaimed occClaimed allNotified noticeGiven waited checkPassed pieceReturned wordReturned turnReturned claimPiece returnBits returnInner giveBack movedIn numberTooLarge idleFilled notCovered noCurrent ticketTooLarge fieldsWrong listLength placePast noticesWrong timeAhead phaseElsewhere heldEarly outcomeWrong lacksGrip givingWrong outOfPatienceFirst takenFirst unreadable phaseOf pieces pieceAt isLeaf gripOf noticesOf wordAt written levelsOutside windowOutside lesser behind leastOf rest search found leastCover before part over total rank upward ancestors ancestor notifies notifiedFrom notifyLevels notifyList row descendants nearest checkList climb leftmost first level levelWithin size left units holder wordCount field putField addField matches replaced maskedSwap leafBits wantedBits takeBits giveBits returnOcc choose outOfPatience
+unfolding run events call numberOf after ownTests clientAt clientOf opening openingNumber opened firstCause settingsOutside treeTests clientsOutside clientTests requestTests stepTests releaseTests cancelTests requested released cancelled touchedIn startPhase begin firstNoted taken ticketTaken turnAwaited goUp climbed unblocked bitsClaimed occClaimed late allNotified noticeGiven waited checkPassed pieceReturned wordReturned turnReturned claimPiece returnBits returnInner giveBack movedIn numberTooLarge idleFilled notCovered noCurrent ticketTooLarge fieldsWrong listLength placePast noticesWrong timeAhead phaseElsewhere heldEarly outcomeWrong lacksGrip givingWrong outOfPatienceFirst takenFirst unreadable phaseOf pieces pieceAt isLeaf gripOf noticesOf wordAt written levelsOutside windowOutside lesser behind leastOf rest search found leastCover before part over total rank upward ancestors ancestor notifies notifiedFrom notifyLevels notifyList row descendants nearest checkList climb leftmost first level levelWithin size left units holder wordCount field putField addField matches replaced maskedSwap leafBits wantedBits takeBits giveBits returnOcc choose outOfPatience
 computed = (refl, refl, refl, refl)
-
--- ---- no accepted call of the list passes a test
-
-unfoldable isRequest : ℕ → Call → Bool
-isRequest c (request d l r) = eqb d c
-isRequest c (step d t) = false
-isRequest c (release d) = false
-isRequest c (cancel d) = false
-
-unfoldable isRelease : ℕ → Call → Bool
-isRelease c (request d l r) = false
-isRelease c (step d t) = false
-isRelease c (release d) = eqb d c
-isRelease c (cancel d) = false
-
-same : (m n : ℕ) → m ≡ n → T (eqb m n)
-same m n e = subst (λ (k : ℕ). T (eqb m k)) e (eqb-refl m)
-
-is-request : (c : ℕ) (k : Call) → RequestOf c k → T (isRequest c k)
-unfolding RequestOf isRequest
-is-request c (request d l r) e = same d c e
-is-request c (step d t) e = absurd e
-is-request c (release d) e = absurd e
-is-request c (cancel d) e = absurd e
-
-is-release : (c : ℕ) (k : Call) → ReleaseOf c k → T (isRelease c k)
-unfolding ReleaseOf isRelease
-is-release c (request d l r) e = absurd e
-is-release c (step d t) e = absurd e
-is-release c (release d) e = same d c e
-is-release c (cancel d) e = absurd e
-
-unfoldable noneOf : (Call → Bool) → List Event → Bool
-noneOf f [] = true
-noneOf f (e ∷ es) = both (not (both (f (e .made)) (eqb (e .number) 0))) (noneOf f es)
-
-both-true : (a b : Bool) → T a → T b → T (both a b)
-unfolding both
-both-true true b s t = t
-both-true false b s t = absurd s
-
-none : (K : Call → Type 0) (f : Call → Bool) → ((k : Call) → K k → T (f k)) → (es : List Event) → T (noneOf f es) → Some (Accepted K) es → ⊥
-unfolding noneOf Some
-none K f g [] t x = x
-none K f g (e ∷ es) t (inl x) =
-    T-not (both (f (e .made)) (eqb (e .number) 0)) (both-l _ _ t) (both-true (f (e .made)) (eqb (e .number) 0) (g (e .made) (x .1)) (same (e .number) 0 (x .0)))
-none K f g (e ∷ es) t (inr x) = none K f g es (both-r _ _ t) x
-
--- some event behind the first n
-later : (P : Event → Type 0) (n : ℕ) (es : List Event) → Some P (drop n es) → Some P es
-unfolding Some
-later P zero es x = x
-later P (suc n) [] x = x
-later P (suc n) (e ∷ es) x = inr (later P n es x)
 
 -- ---- both hold
 

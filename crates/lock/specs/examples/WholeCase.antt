@@ -13,11 +13,11 @@ use Rattle.cover.specs.rules.Search.{before, lesser, behind, leastOf, rest, sea
 use Rattle.cover.specs.rules.Answer.{levelsOutside, windowOutside}
 use Rattle.lock.specs.declared.Record.{Record}
 use Rattle.lock.specs.declared.Settings.{Settings}
-use Rattle.lock.specs.rules.Records.{phaseOf, pieces, pieceAt, isLeaf, gripOf, noticesOf, wordAt, written, idleWith}
+use Rattle.lock.specs.rules.Records.{phaseOf, pieces, pieceAt, isLeaf, gripOf, noticesOf, wordAt, written, idleWith, clientWith}
 use Rattle.lock.specs.rules.Unreadable.{numberTooLarge, idleFilled, notCovered, noCurrent, ticketTooLarge, fieldsWrong, listLength, placePast, noticesWrong, timeAhead, phaseElsewhere, heldEarly, outcomeWrong, lacksGrip, givingWrong, outOfPatienceFirst, takenFirst, unreadable}
-use Rattle.lock.specs.rules.Steps.{touchedIn, startPhase, begin, firstNoted, taken, ticketTaken, turnAwaited, goUp, climbed, unblocked, bitsClaimed, occClaimed, allNotified, noticeGiven, waited, checkPassed, pieceReturned, wordReturned, turnReturned, claimPiece, returnBits, returnInner, giveBack, movedIn, outOfPatience}
+use Rattle.lock.specs.rules.Steps.{touchedIn, startPhase, begin, firstNoted, taken, ticketTaken, turnAwaited, goUp, climbed, unblocked, bitsClaimed, occClaimed, late, allNotified, noticeGiven, waited, checkPassed, pieceReturned, wordReturned, turnReturned, claimPiece, returnBits, returnInner, giveBack, movedIn, outOfPatience}
 use Rattle.lock.specs.rules.Calls.{firstCause, settingsOutside, treeTests, clientsOutside, clientTests, requestTests, stepTests, releaseTests, cancelTests, requested, released, cancelled}
-use Rattle.lock.specs.rules.Table.{State, Call, request, step, release, clientOf, recordAt, ownTests, numberOf, after, call, openingNumber, opened, opening}
+use Rattle.lock.specs.rules.Table.{State, Call, request, step, release, clientOf, clientAt, recordAt, ownTests, numberOf, after, call, openingNumber, opened, opening}
 
 -- a line of the log without its call: number, phase after, left and right edge after
 abbrev pub line : ℕ → Record → List ℕ
@@ -33,7 +33,7 @@ settings = record { levels = 2; distance = 1; wait = 5; patience = 20 }
 
 -- what is lent to the opening is of the right size, and of any content
 abbrev pub lent : State
-lent = record { words = replicate 5 7; records = replicate 2 (idleWith 3); clock = 9 }
+lent = record { words = replicate 5 7; clients = replicate 2 (clientWith 9 (idleWith 3)) }
 
 -- the calls, the clock of call 7 given
 abbrev pub calls : ℕ → List Call
@@ -46,5 +46,5 @@ pub whole-case : (log settings (opening settings lent .state) (calls 5) ≡
     ∷ (0 ∷ 7 ∷ 0 ∷ 256 ∷ []) ∷ (0 ∷ 6 ∷ 10 ∷ 20 ∷ []) ∷ (0 ∷ 9 ∷ 10 ∷ 20 ∷ []) ∷ (0 ∷ 8 ∷ 0 ∷ 256 ∷ []) ∷ (0 ∷ 8 ∷ 0 ∷ 256 ∷ [])
     ∷ (0 ∷ 10 ∷ 10 ∷ 20 ∷ []) ∷ (0 ∷ 10 ∷ 10 ∷ 20 ∷ []) ∷ (0 ∷ 0 ∷ 0 ∷ 0 ∷ []) ∷ (0 ∷ 9 ∷ 0 ∷ 256 ∷ []) ∷ [])
     × (getD (log settings (opening settings lent .state) (calls 6)) 7 [] ≡ 0 ∷ 10 ∷ 10 ∷ 20 ∷ [])
-unfolding log call numberOf after ownTests recordAt clientOf opening openingNumber opened firstCause settingsOutside treeTests clientsOutside clientTests requestTests stepTests releaseTests cancelTests requested released cancelled touchedIn startPhase begin firstNoted taken ticketTaken turnAwaited goUp climbed unblocked bitsClaimed occClaimed allNotified noticeGiven waited checkPassed pieceReturned wordReturned turnReturned claimPiece returnBits returnInner giveBack movedIn numberTooLarge idleFilled notCovered noCurrent ticketTooLarge fieldsWrong listLength placePast noticesWrong timeAhead phaseElsewhere heldEarly outcomeWrong lacksGrip givingWrong outOfPatienceFirst takenFirst unreadable phaseOf pieces pieceAt isLeaf gripOf noticesOf wordAt written levelsOutside windowOutside lesser behind leastOf rest search found leastCover before part over total rank upward ancestors ancestor notifies notifiedFrom notifyLevels notifyList row descendants nearest checkList climb leftmost first level levelWithin size left units holder wordCount field putField addField matches replaced maskedSwap leafBits wantedBits takeBits giveBits returnOcc choose outOfPatience
+unfolding log call numberOf after ownTests clientAt clientOf opening openingNumber opened firstCause settingsOutside treeTests clientsOutside clientTests requestTests stepTests releaseTests cancelTests requested released cancelled touchedIn startPhase begin firstNoted taken ticketTaken turnAwaited goUp climbed unblocked bitsClaimed occClaimed late allNotified noticeGiven waited checkPassed pieceReturned wordReturned turnReturned claimPiece returnBits returnInner giveBack movedIn numberTooLarge idleFilled notCovered noCurrent ticketTooLarge fieldsWrong listLength placePast noticesWrong timeAhead phaseElsewhere heldEarly outcomeWrong lacksGrip givingWrong outOfPatienceFirst takenFirst unreadable phaseOf pieces pieceAt isLeaf gripOf noticesOf wordAt written levelsOutside windowOutside lesser behind leastOf rest search found leastCover before part over total rank upward ancestors ancestor notifies notifiedFrom notifyLevels notifyList row descendants nearest checkList climb leftmost first level levelWithin size left units holder wordCount field putField addField matches replaced maskedSwap leafBits wantedBits takeBits giveBits returnOcc choose outOfPatience
 whole-case = (refl, refl)

@@ -16,7 +16,7 @@ use Rattle.lock.specs.rules.Records.{wordAt}
 use Rattle.lock.specs.rules.Unreadable.{differ, unreadable}
 use Rattle.lock.specs.rules.Steps.{touched, moved}
 use Rattle.lock.specs.rules.Calls.{Tests, firstCause, settingsOutside, treeTests, clientsOutside, clientTests, requestTests, stepTests, releaseTests, cancelTests}
-use Rattle.lock.specs.rules.Table.{State, Call, request, step, release, cancel, clientOf, recordAt, ownTests, numberOf, openingNumber}
+use Rattle.lock.specs.rules.Table.{State, Call, request, step, release, cancel, clientOf, recordAt, clockAt, ownTests, numberOf, openingNumber}
 use Rattle.lock.specs.laws.Active.{Settled}
 use Rattle.lock.specs.laws.ReadableLaws.{same-number}
 use Rattle.base.specs.laws.TestLaws.{both-false}
@@ -45,37 +45,37 @@ few-clients count e = ltb-false 32767 count (both-false (eqb count 0) (ltb 32767
 pub record Tested (s : Settings) (st : State) (k : Call) : Type 0 where
   pub settled : Settled s
   pub count : length (st .words) ≡ wordCount (s .levels)
-  pub few : length (st .records) ≤ 32767
-  pub client : clientOf k < length (st .records)
+  pub few : length (st .clients) ≤ 32767
+  pub client : clientOf k < length (st .clients)
   pub own : firstCause (ownTests s st k) ≡ 0
 
 pub accepted : (s : Settings) (st : State) (k : Call) → numberOf s st k ≡ 0 → Tested s st k
 unfolding numberOf clientTests
 accepted s st k e =
     let rest = ownTests s st k in
-    let a = tree-tested s (length (st .words)) (clientTests (length (st .records)) (clientOf k) ++ rest) e in
-    let b = test-passed (clientsOutside (length (st .records))) 3 ((leb (length (st .records)) (clientOf k), 4) ∷ rest) (omega arith) (a .2) in
-    let c = test-passed (leb (length (st .records)) (clientOf k)) 4 rest (omega arith) (b .1) in
+    let a = tree-tested s (length (st .words)) (clientTests (length (st .clients)) (clientOf k) ++ rest) e in
+    let b = test-passed (clientsOutside (length (st .clients))) 3 ((leb (length (st .clients)) (clientOf k), 4) ∷ rest) (omega arith) (a .2) in
+    let c = test-passed (leb (length (st .clients)) (clientOf k)) 4 rest (omega arith) (b .1) in
     record {
       settled = settled s (a .0);
       count = a .1;
-      few = few-clients (length (st .records)) (b .0);
-      client = leb-false (length (st .records)) (clientOf k) (c .0);
+      few = few-clients (length (st .clients)) (b .0);
+      client = leb-false (length (st .clients)) (clientOf k) (c .0);
       own = c .1;
     }
 
 -- what an accepted opening has tested
-pub opening-tested : (s : Settings) (words records : ℕ) → openingNumber s words records ≡ 0 → (settingsOutside s ≡ false) × (words ≡ wordCount (s .levels)) × (clientsOutside records ≡ false)
+pub opening-tested : (s : Settings) (words clients : ℕ) → openingNumber s words clients ≡ 0 → (settingsOutside s ≡ false) × (words ≡ wordCount (s .levels)) × (clientsOutside clients ≡ false)
 unfolding openingNumber
-opening-tested s words records e =
-    let a = tree-tested s words ((clientsOutside records, 3) ∷ []) e in
-    (a .0, a .1, test-passed (clientsOutside records) 3 [] (omega arith) (a .2) .0)
+opening-tested s words clients e =
+    let a = tree-tested s words ((clientsOutside clients, 3) ∷ []) e in
+    (a .0, a .1, test-passed (clientsOutside clients) 3 [] (omega arith) (a .2) .0)
 
-pub opened-accepted : (s : Settings) (st : State) → openingNumber s (length (st .words)) (length (st .records)) ≡ 0
-    → Settled s × (length (st .words) ≡ wordCount (s .levels)) × (length (st .records) ≤ 32767)
+pub opened-accepted : (s : Settings) (st : State) → openingNumber s (length (st .words)) (length (st .clients)) ≡ 0
+    → Settled s × (length (st .words) ≡ wordCount (s .levels)) × (length (st .clients) ≤ 32767)
 opened-accepted s st e =
-    let a = opening-tested s (length (st .words)) (length (st .records)) e in
-    (settled s (a .0), a .1, few-clients (length (st .records)) (a .2))
+    let a = opening-tested s (length (st .words)) (length (st .clients)) e in
+    (settled s (a .0), a .1, few-clients (length (st .clients)) (a .2))
 
 -- ---- 5 to 9, by the kind of call
 
@@ -84,11 +84,11 @@ module _ (s : Settings) (st : State) (c : ℕ) where
   r = recordAt st c
 
   -- 6, readable, and the tests behind it
-  readable : (ts : Tests) → firstCause ((unreadable s r (st .clock), 6) ∷ ts) ≡ 0 → (unreadable s r (st .clock) ≡ false) × (firstCause ts ≡ 0)
-  readable ts e = test-passed (unreadable s r (st .clock)) 6 ts (omega arith) e
+  readable : (ts : Tests) → firstCause ((unreadable s r (clockAt st c), 6) ∷ ts) ≡ 0 → (unreadable s r (clockAt st c) ≡ false) × (firstCause ts ≡ 0)
+  readable ts e = test-passed (unreadable s r (clockAt st c)) 6 ts (omega arith) e
 
   pub request-tested : (a b : ℕ) → firstCause (ownTests s st (request c a b)) ≡ 0
-      → (unreadable s (recordAt st c) (st .clock) ≡ false) × (windowOutside (s .levels) a b ≡ false) × (recordAt st c .phase ≡ 0)
+      → (unreadable s (recordAt st c) (clockAt st c) ≡ false) × (windowOutside (s .levels) a b ≡ false) × (recordAt st c .phase ≡ 0)
   unfolding ownTests requestTests
   request-tested a b e =
       let u = readable _ e in
@@ -96,23 +96,23 @@ module _ (s : Settings) (st : State) (c : ℕ) where
       (u .0, w .0, same-number (r .phase) 0 (test-passed (differ (r .phase) 0) 8 [] (omega arith) (w .1) .0))
 
   pub step-tested : (t : ℕ) → firstCause (ownTests s st (step c t)) ≡ 0
-      → (st .clock ≤ t) × (unreadable s (recordAt st c) (st .clock) ≡ false)
+      → (clockAt st c ≤ t) × (unreadable s (recordAt st c) (clockAt st c) ≡ false)
       × (moved s (recordAt st c) (wordAt (st .words) (touched s (recordAt st c) t)) t .number ≡ 0)
   unfolding ownTests stepTests
   step-tested t e =
       let n = moved s r (wordAt (st .words) (touched s r t)) t .number in
-      let b = test-passed (ltb t (st .clock)) 5 ((unreadable s r (st .clock), 6) ∷ (differ n 0, 9) ∷ []) (omega arith) e in
+      let b = test-passed (ltb t (clockAt st c)) 5 ((unreadable s r (clockAt st c), 6) ∷ (differ n 0, 9) ∷ []) (omega arith) e in
       let u = readable ((differ n 0, 9) ∷ []) (b .1) in
-      (ltb-false t (st .clock) (b .0), u .0, same-number n 0 (test-passed (differ n 0) 9 [] (omega arith) (u .1) .0))
+      (ltb-false t (clockAt st c) (b .0), u .0, same-number n 0 (test-passed (differ n 0) 9 [] (omega arith) (u .1) .0))
 
-  pub release-tested : firstCause (ownTests s st (release c)) ≡ 0 → (unreadable s (recordAt st c) (st .clock) ≡ false) × (recordAt st c .phase ≡ 9)
+  pub release-tested : firstCause (ownTests s st (release c)) ≡ 0 → (unreadable s (recordAt st c) (clockAt st c) ≡ false) × (recordAt st c .phase ≡ 9)
   unfolding ownTests releaseTests
   release-tested e =
       let u = readable ((differ (r .phase) 9, 8) ∷ []) e in
       (u .0, same-number (r .phase) 9 (test-passed (differ (r .phase) 9) 8 [] (omega arith) (u .1) .0))
 
   pub cancel-tested : firstCause (ownTests s st (cancel c)) ≡ 0
-      → (unreadable s (recordAt st c) (st .clock) ≡ false) × (recordAt st c .phase ≡ 0 → ⊥) × (recordAt st c .phase ≡ 9 → ⊥) × (recordAt st c .phase ≡ 10 → ⊥)
+      → (unreadable s (recordAt st c) (clockAt st c) ≡ false) × (recordAt st c .phase ≡ 0 → ⊥) × (recordAt st c .phase ≡ 9 → ⊥) × (recordAt st c .phase ≡ 10 → ⊥)
   unfolding ownTests cancelTests
   cancel-tested e =
       let u = readable ((eqb (r .phase) 0 || eqb (r .phase) 9 || eqb (r .phase) 10, 8) ∷ []) e in

@@ -12,11 +12,12 @@ use Rattle.base.specs.laws.ChoiceLaws.{choose-eq, choose-ne, by-eq, on-choose}
 use Rattle.tree.specs.rules.Tree.{wordCount}
 use Rattle.cover.specs.rules.Answer.{windowOutside}
 use Rattle.lock.specs.declared.Call.{Call as Asked}
+use Rattle.lock.specs.declared.Client.{Client}
 use Rattle.lock.specs.declared.Record.{Record}
 use Rattle.lock.specs.declared.Settings.{Settings}
 use Rattle.lock.specs.declared.Moved.{Moved}
 use Rattle.lock.specs.declared.Stepped.{Stepped}
-use Rattle.lock.specs.rules.Records.{wordAt, written, sentBack}
+use Rattle.lock.specs.rules.Records.{wordAt, written, sentBack, clientWith}
 use Rattle.lock.specs.rules.Unreadable.{differ, unreadable}
 use Rattle.lock.specs.rules.Steps.{leaves, ownTouched, ownMoved, outOfPatience, touched, moved}
 use Rattle.lock.specs.rules.Calls.{Tests, firstCause, treeTests, requestTests, stepTests, releaseTests, cancelTests, requested, released, cancelled, answered, requestNumber, requestAnswer, releaseAnswer, cancelAnswer, stepNumber, stepAnswer, stepWords}
@@ -77,7 +78,13 @@ clearBit s r words clock = firstCause ((differ (moved s r (wordAt words (touched
 abbrev pub leftBy : Settings → Record → List ℕ → ℕ → List ℕ
 leftBy s r words clock = choose (eqb (clearBit s r words clock) 0) (written words (touched s r clock) (moved s r (wordAt words (touched s r clock)) clock .word)) words
 
-module _ (s : Settings) (r : Record) (words : List ℕ) (last : ℕ) where
+module _ (s : Settings) (own : Client) (words : List ℕ) where
+  abbrev r : Record
+  r = own .«record»
+
+  abbrev last : ℕ
+  last = own .clock
+
   -- what a kind tests itself, behind 1, 2, 5 and 6
   unfoldable pub restOf : Call → Tests
   restOf (request c a b) = (windowOutside (s .levels) a b, 7) ∷ (differ (r .phase) 0, 8) ∷ []
@@ -90,26 +97,20 @@ module _ (s : Settings) (r : Record) (words : List ℕ) (last : ℕ) where
   numberBy k = firstCause (treeTests s (length words) ++ ((backOf last k, 5) ∷ (unreadable s r last, 6) ∷ restOf k))
 
   -- a call that is refused, and one that is not
-  pub refused-call : (k : Call) (n : ℕ) (x : Stepped) → numberBy k ≡ n → (n ≡ 0 → ⊥) → x ≡ record { number = n; clock = last; next = r }
-      → (x ≡ answerTo s r words last k) × (words ≡ wordsAfter s r words last k)
+  pub refused-call : (k : Call) (n : ℕ) (x : Stepped) → numberBy k ≡ n → (n ≡ 0 → ⊥) → x ≡ record { number = n; next = own }
+      → (x ≡ answerTo s own words k) × (words ≡ wordsAfter s own words k)
   unfolding treeTests firstCause choose backOf restOf answerTo wordsAfter requestTests stepTests releaseTests cancelTests requestNumber requestAnswer releaseAnswer cancelAnswer stepNumber stepAnswer stepWords
-  refused-call (request c a b) n x e d q = (q ∙ refused-by _ n r last (requested s a b) last e d, refl)
-  refused-call (step c t) n x e d q = (q ∙ refused-by _ n r last _ t e d, sym (choose-ne (stepNumber s r words last t) 0 _ words (λ z. d (sym e ∙ z))))
-  refused-call (release c) n x e d q = (q ∙ refused-by _ n r last (released r) last e d, refl)
-  refused-call (cancel c) n x e d q = (q ∙ refused-by _ n r last (cancelled r) last e d, refl)
+  refused-call (request c a b) n x e d q = (q ∙ refused-by _ own _ n e d, refl)
+  refused-call (step c t) n x e d q = (q ∙ refused-by _ own _ n e d, sym (choose-ne (stepNumber s own words t) 0 _ words (λ z. d (sym e ∙ z))))
+  refused-call (release c) n x e d q = (q ∙ refused-by _ own _ n e d, refl)
+  refused-call (cancel c) n x e d q = (q ∙ refused-by _ own _ n e d, refl)
 
-  -- the record, the clock and the words that an accepted call leaves, where the word that it finds has no clear bit
-  unfoldable pub nextBy : Call → Record
-  nextBy (request c a b) = requested s a b
-  nextBy (step c t) = moved s r (wordAt words (touched s r t)) t .next
-  nextBy (release c) = released r
-  nextBy (cancel c) = cancelled r
-
-  unfoldable pub clockBy : Call → ℕ
-  clockBy (request c a b) = last
-  clockBy (step c t) = t
-  clockBy (release c) = last
-  clockBy (cancel c) = last
+  -- the client and the words that an accepted call leaves, where the word that it finds has no clear bit
+  unfoldable pub nextBy : Call → Client
+  nextBy (request c a b) = clientWith last (requested s a b)
+  nextBy (step c t) = clientWith t (moved s r (wordAt words (touched s r t)) t .next)
+  nextBy (release c) = clientWith last (released r)
+  nextBy (cancel c) = clientWith last (cancelled r)
 
   unfoldable pub wordsBy : Call → List ℕ
   wordsBy (request c a b) = words
@@ -118,31 +119,34 @@ module _ (s : Settings) (r : Record) (words : List ℕ) (last : ℕ) where
   wordsBy (cancel c) = words
 
   -- where the first tests pass, what is left of the call decides
-  left-call : (k : Call) (x : Stepped) (vs : List ℕ) → numberBy k ≡ firstCause (restOf k) → x ≡ answered (firstCause (restOf k)) r last (nextBy k) (clockBy k) → vs ≡ wordsBy k
-      → (x ≡ answerTo s r words last k) × (vs ≡ wordsAfter s r words last k)
-  unfolding treeTests firstCause choose backOf restOf nextBy clockBy wordsBy answerTo wordsAfter requestTests stepTests releaseTests cancelTests requestNumber requestAnswer releaseAnswer cancelAnswer stepNumber stepAnswer stepWords
-  left-call (request c a b) x vs e q w = (q ∙ ap (λ (m : ℕ). answered m r last (requested s a b) last) (sym e), w)
+  left-call : (k : Call) (x : Stepped) (vs : List ℕ) → numberBy k ≡ firstCause (restOf k) → x ≡ answered (firstCause (restOf k)) own (nextBy k) → vs ≡ wordsBy k
+      → (x ≡ answerTo s own words k) × (vs ≡ wordsAfter s own words k)
+  unfolding treeTests firstCause choose backOf restOf nextBy wordsBy answerTo wordsAfter requestTests stepTests releaseTests cancelTests requestNumber requestAnswer releaseAnswer cancelAnswer stepNumber stepAnswer stepWords
+  left-call (request c a b) x vs e q w = (q ∙ ap (λ (m : ℕ). answered m own (nextBy (request c a b))) (sym e), w)
   left-call (step c t) x vs e q w =
-      (q ∙ ap (λ (m : ℕ). answered m r last (nextBy (step c t)) t) (sym e), w ∙ ap (λ (m : ℕ). choose (eqb m 0) (written words (touched s r t) (moved s r (wordAt words (touched s r t)) t .word)) words) (sym e))
-  left-call (release c) x vs e q w = (q ∙ ap (λ (m : ℕ). answered m r last (released r) last) (sym e), w)
-  left-call (cancel c) x vs e q w = (q ∙ ap (λ (m : ℕ). answered m r last (cancelled r) last) (sym e), w)
+      (q ∙ ap (λ (m : ℕ). answered m own (nextBy (step c t))) (sym e), w ∙ ap (λ (m : ℕ). choose (eqb m 0) (written words (touched s r t) (moved s r (wordAt words (touched s r t)) t .word)) words) (sym e))
+  left-call (release c) x vs e q w = (q ∙ ap (λ (m : ℕ). answered m own (nextBy (release c))) (sym e), w)
+  left-call (cancel c) x vs e q w = (q ∙ ap (λ (m : ℕ). answered m own (nextBy (cancel c))) (sym e), w)
 
 -- a call in code: `n` is what the tests of 1 and 2 give
-module _ (s : Settings) (r : Record) (words : List ℕ) (c : Asked) (kind n : ℕ) (t : n ≡ firstCause (treeTests s (length words))) where
+module _ (s : Settings) (own : Client) (words : List ℕ) (c : Asked) (kind n : ℕ) (t : n ≡ firstCause (treeTests s (length words))) where
   abbrev k : Call
   k = callOf kind (c .client) (c .a) (c .b)
 
   abbrev Gives : Stepped → List ℕ → Type 0
-  Gives x vs = (x ≡ answerTo s r words (c .last) k) × (vs ≡ wordsAfter s r words (c .last) k)
+  Gives x vs = (x ≡ answerTo s own words k) × (vs ≡ wordsAfter s own words k)
 
   abbrev back : Bool
-  back = eqb kind 1 && ltb (c .a) (c .last)
+  back = eqb kind 1 && ltb (c .a) (own .clock)
+
+  abbrev unread : Bool
+  unread = unreadable s (own .«record») (own .clock)
 
   tested : TreeTested s (length words) n
   tested = cause-tested s (length words) n t
 
-  pub refuses-tree : {x : Stepped} → (n ≡ 0 → ⊥) → x ≡ record { number = n; clock = c .last; next = r } → Gives x words
-  refuses-tree d q = refused-call s r words (c .last) k n _ (tested .refused d _) d q
+  pub refuses-tree : {x : Stepped} → (n ≡ 0 → ⊥) → x ≡ record { number = n; next = own } → Gives x words
+  refuses-tree d q = refused-call s own words k n _ (tested .refused d _) d q
 
   module _ (z : n ≡ 0) where
     pub settles : Settled s
@@ -151,57 +155,60 @@ module _ (s : Settings) (r : Record) (words : List ℕ) (c : Asked) (kind n : �
     pub counts : length words ≡ wordCount (s .levels)
     counts = tested .count-right z
 
-    behind-tree : numberBy s r words (c .last) k ≡ firstCause ((back, 5) ∷ (unreadable s r (c .last), 6) ∷ restOf s r words (c .last) k)
+    behind-tree : numberBy s own words k ≡ firstCause ((back, 5) ∷ (unread, 6) ∷ restOf s own words k)
     behind-tree =
         tree-passed s (length words) _ (tested .settings z) counts
-        ∙ ap (λ (x : Bool). firstCause ((x, 5) ∷ (unreadable s r (c .last), 6) ∷ restOf s r words (c .last) k)) (sym (back-of-kind kind (c .client) (c .a) (c .b) (c .last)))
+        ∙ ap (λ (x : Bool). firstCause ((x, 5) ∷ (unread, 6) ∷ restOf s own words k)) (sym (back-of-kind kind (c .client) (c .a) (c .b) (own .clock)))
 
-    pub refuses-back : {x : Stepped} → back ≡ true → x ≡ record { number = 5; clock = c .last; next = r } → Gives x words
-    refuses-back e q = refused-call s r words (c .last) k 5 _ (behind-tree ∙ cause-hit back 5 _ e) (λ f. omega arith) q
+    pub refuses-back : {x : Stepped} → back ≡ true → x ≡ record { number = 5; next = own } → Gives x words
+    refuses-back e q = refused-call s own words k 5 _ (behind-tree ∙ cause-hit back 5 _ e) (λ f. omega arith) q
 
     module _ (b : back ≡ false) where
-      pub refuses-unreadable : {x : Stepped} → unreadable s r (c .last) ≡ true → x ≡ record { number = 6; clock = c .last; next = r } → Gives x words
-      refuses-unreadable e q = refused-call s r words (c .last) k 6 _ (behind-tree ∙ cause-skip back 5 _ b ∙ cause-hit (unreadable s r (c .last)) 6 _ e) (λ f. omega arith) q
+      pub refuses-unreadable : {x : Stepped} → unread ≡ true → x ≡ record { number = 6; next = own } → Gives x words
+      refuses-unreadable e q = refused-call s own words k 6 _ (behind-tree ∙ cause-skip back 5 _ b ∙ cause-hit unread 6 _ e) (λ f. omega arith) q
 
-      pub gives : {x : Stepped} {vs : List ℕ} (j : Call) → unreadable s r (c .last) ≡ false → k ≡ j
-          → x ≡ answered (firstCause (restOf s r words (c .last) j)) r (c .last) (nextBy s r words (c .last) j) (clockBy s r words (c .last) j) → vs ≡ wordsBy s r words (c .last) j → Gives x vs
+      pub gives : {x : Stepped} {vs : List ℕ} (j : Call) → unread ≡ false → k ≡ j → x ≡ answered (firstCause (restOf s own words j)) own (nextBy s own words j)
+          → vs ≡ wordsBy s own words j → Gives x vs
       gives j u i q w =
-          let rest = behind-tree ∙ cause-skip back 5 _ b ∙ cause-skip (unreadable s r (c .last)) 6 _ u in
-          let a = left-call s r words (c .last) j _ _ (ap (numberBy s r words (c .last)) (sym i) ∙ rest ∙ ap (λ (m : Call). firstCause (restOf s r words (c .last) m)) i) q w in
-          (a .0 ∙ ap (answerTo s r words (c .last)) (sym i), a .1 ∙ ap (wordsAfter s r words (c .last)) (sym i))
+          let rest = behind-tree ∙ cause-skip back 5 _ b ∙ cause-skip unread 6 _ u in
+          let a = left-call s own words j _ _ (ap (numberBy s own words) (sym i) ∙ rest ∙ ap (λ (m : Call). firstCause (restOf s own words m)) i) q w in
+          (a .0 ∙ ap (answerTo s own words) (sym i), a .1 ∙ ap (wordsAfter s own words) (sym i))
 
 -- ---- what is left of a step
 
-module _ (s : Settings) (r : Record) (words : List ℕ) (last clock : ℕ) (m : Moved) (e : m ≡ moved s r (wordAt words (touched s r clock)) clock) where
+module _ (s : Settings) (own : Client) (words : List ℕ) (clock : ℕ) where
+  abbrev before : Record
+  before = own .«record»
+
   abbrev made : Moved
-  made = moved s r (wordAt words (touched s r clock)) clock
+  made = moved s before (wordAt words (touched s before clock)) clock
 
-  pub step-refused : (x : Stepped) → (m .number ≡ 0 → ⊥) → x ≡ record { number = 9; clock = last; next = r }
-      → (x ≡ answered (clearBit s r words clock) r last (made .next) clock) × (words ≡ leftBy s r words clock)
-  step-refused x d q =
-      let nine : clearBit s r words clock ≡ 9 = cause-hit _ 9 [] (ap not (ne-eqb (made .number) 0 (λ z. d (ap (λ y. y .number) e ∙ z)))) in
-      (q ∙ refused-by _ 9 r last (made .next) clock nine (λ z. omega arith), sym (choose-ne (clearBit s r words clock) 0 _ words (λ z. omega arith)))
+  abbrev StepGives : Stepped → List ℕ → Type 0
+  StepGives x vs = (x ≡ answered (clearBit s before words clock) own (clientWith clock (made .next))) × (vs ≡ leftBy s before words clock)
 
-  pub step-taken : (vs : List ℕ) → m .number ≡ 0 → vs ≡ written words (touched s r clock) (m .word)
-      → (record { number = 0; clock = clock; next = m .next } ≡ answered (clearBit s r words clock) r last (made .next) clock) × (vs ≡ leftBy s r words clock)
-  unfolding firstCause
-  step-taken vs z q =
-      let none : clearBit s r words clock ≡ 0 = cause-skip _ 9 [] (ap not (eq-eqb (made .number) 0 (sym (ap (λ y. y .number) e) ∙ z))) in (
-        ap (λ (y : Record). record { number = 0; clock = clock; next = y }) (ap (λ y. y .next) e) ∙ sym (answer-accepted _ r last (made .next) clock none),
-        q ∙ ap (λ (y : ℕ). written words (touched s r clock) y) (ap (λ y. y .word) e) ∙ sym (choose-eq (clearBit s r words clock) 0 _ words none),
-      )
+  module _ (m : Moved) (e : m ≡ made) where
+    pub step-refused : (x : Stepped) → (m .number ≡ 0 → ⊥) → x ≡ record { number = 9; next = own } → StepGives x words
+    step-refused x d q =
+        let nine : clearBit s before words clock ≡ 9 = cause-hit _ 9 [] (ap not (ne-eqb (made .number) 0 (λ z. d (ap (λ y. y .number) e ∙ z)))) in
+        (q ∙ refused-by _ own _ 9 nine (λ z. omega arith), sym (choose-ne (clearBit s before words clock) 0 _ words (λ z. omega arith)))
+
+    pub step-taken : (vs : List ℕ) → m .number ≡ 0 → vs ≡ written words (touched s before clock) (m .word) → StepGives (record { number = 0; next = clientWith clock (m .next) }) vs
+    unfolding firstCause
+    step-taken vs z q =
+        let none : clearBit s before words clock ≡ 0 = cause-skip _ 9 [] (ap not (eq-eqb (made .number) 0 (sym (ap (λ y. y .number) e) ∙ z))) in (
+          ap (λ (y : Record). record { number = 0; next = clientWith clock y }) (ap (λ y. y .next) e) ∙ sym (answer-accepted _ own _ none),
+          q ∙ ap (λ (y : ℕ). written words (touched s before clock) y) (ap (λ y. y .word) e) ∙ sym (choose-eq (clearBit s before words clock) 0 _ words none),
+        )
+
+  -- patience has run out
+  pub step-sent-back : outOfPatience s before clock ≡ true → (q : Record) → q ≡ sentBack 4 before → StepGives (record { number = 0; next = clientWith clock q }) words
+  unfolding written
+  step-sent-back e q f =
+      let w = wordAt words (touched s before clock) in
+      step-taken (leaves w q) (ap (leaves w) f ∙ sym (sent-back-moved s before clock e w)) words refl (sym (ap (λ (n : ℕ). written words n w) (sent-back-touched s before clock e)))
 
 -- the work of the phase, where patience has not run out: on the node n, where `found` is
 pub step-work : (s : Settings) (r : Record) (words : List ℕ) (clock : ℕ) → outOfPatience s r clock ≡ false → (n found : ℕ) (m : Moved) → n ≡ ownTouched s r → found ≡ wordAt words n
     → m ≡ ownMoved s r found clock → m ≡ moved s r (wordAt words (touched s r clock)) clock
 step-work s r words clock e n found m i j k =
     k ∙ ap (λ (x : ℕ). ownMoved s r x clock) (j ∙ ap (wordAt words) (i ∙ sym (own-touched s r clock e))) ∙ sym (own-moved s r clock e _)
-
--- patience has run out
-pub step-sent-back : (s : Settings) (r : Record) (words : List ℕ) (last clock : ℕ) → outOfPatience s r clock ≡ true → (q : Record) → q ≡ sentBack 4 r
-    → (record { number = 0; clock = clock; next = q } ≡ answered (clearBit s r words clock) r last (moved s r (wordAt words (touched s r clock)) clock .next) clock)
-    × (words ≡ leftBy s r words clock)
-unfolding written
-step-sent-back s r words last clock e q f =
-    let w = wordAt words (touched s r clock) in
-    step-taken s r words last clock (leaves w q) (ap (leaves w) f ∙ sym (sent-back-moved s r clock e w)) words refl (sym (ap (λ (n : ℕ). written words n w) (sent-back-touched s r clock e)))

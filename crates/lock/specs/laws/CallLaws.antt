@@ -10,7 +10,7 @@ use lib.Dec.{T}
 use Rattle.base.specs.rules.Choice.{choose}
 use Rattle.base.specs.laws.ChoiceLaws.{on-choose, choose-eq, choose-ne}
 use Rattle.tree.specs.rules.Tree.{wordCount}
-use Rattle.lock.specs.declared.Record.{Record}
+use Rattle.lock.specs.declared.Client.{Client}
 use Rattle.lock.specs.declared.Settings.{Settings}
 use Rattle.lock.specs.rules.Unreadable.{differ}
 use Rattle.lock.specs.rules.Calls.{Tests, firstCause, settingsOutside, treeTests, answered}
@@ -76,15 +76,15 @@ module _ (s : Settings) (count : ℕ) where
 
 -- ---- the answer
 
-pub answer-refused : (number : ℕ) (r : Record) (last : ℕ) (next : Record) (clock : ℕ) → (number ≡ 0 → ⊥) → answered number r last next clock ≡ record { number = number; clock = last; next = r }
-unfolding answered
-answer-refused number r last next clock d = choose-ne number 0 _ _ d
+module _ (number : ℕ) (c next : Client) where
+  pub answer-refused : (number ≡ 0 → ⊥) → answered number c next ≡ record { number = number; next = c }
+  unfolding answered
+  answer-refused d = choose-ne number 0 _ _ d
 
-pub answer-accepted : (number : ℕ) (r : Record) (last : ℕ) (next : Record) (clock : ℕ) → number ≡ 0 → answered number r last next clock ≡ record { number = 0; clock = clock; next = next }
-unfolding answered
-answer-accepted number r last next clock e = choose-eq number 0 _ _ e
+  pub answer-accepted : number ≡ 0 → answered number c next ≡ record { number = 0; next = next }
+  unfolding answered
+  answer-accepted e = choose-eq number 0 _ _ e
 
--- refused by the cause k, where the chain says so
-pub refused-by : (number k : ℕ) (r : Record) (last : ℕ) (next : Record) (clock : ℕ) → number ≡ k → (k ≡ 0 → ⊥) → record { number = k; clock = last; next = r } ≡ answered number r last next clock
-refused-by number k r last next clock e d =
-    sym (answer-refused number r last next clock (λ z. d (sym e ∙ z)) ∙ ap (λ (x : ℕ). record { number = x; clock = last; next = r }) e)
+  -- refused by the cause k, where the chain says so
+  pub refused-by : (k : ℕ) → number ≡ k → (k ≡ 0 → ⊥) → record { number = k; next = c } ≡ answered number c next
+  refused-by k e d = sym (answer-refused (λ z. d (sym e ∙ z)) ∙ ap (λ (x : ℕ). record { number = x; next = c }) e)

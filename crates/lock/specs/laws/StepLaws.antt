@@ -18,7 +18,7 @@ use Rattle.tree.specs.laws.Closed.{first-small}
 use Rattle.lock.specs.declared.Record.{Record}
 use Rattle.lock.specs.declared.Settings.{Settings}
 use Rattle.lock.specs.rules.Records.{pieces, pieceAt, currentPiece, isLeaf, change, toPhase, toBlocked, withGrip, withPlace, withNotices, withT1, withT0, sentBack}
-use Rattle.lock.specs.rules.Steps.{startPhase, begin, firstNoted, taken, turnAwaited, goUp, climbed, unblocked, bitsClaimed, occClaimed, allNotified, noticeGiven, waited, checkPassed}
+use Rattle.lock.specs.rules.Steps.{startPhase, begin, firstNoted, taken, turnAwaited, goUp, climbed, unblocked, bitsClaimed, occClaimed, late, allNotified, noticeGiven, waited, checkPassed}
 use Rattle.lock.specs.laws.Placed.{Pieced}
 
 -- the ancestor n that a climbing record reads
@@ -150,17 +150,23 @@ module _ (s : Settings) where
 
     -- ---- 6 notify
 
-    pub notified-late : (t : ℕ) → s .wait ≤ t - r .t1 → allNotified s r t ≡ sentBack 2 r
-    unfolding allNotified
-    notified-late t b = choose-le (s .wait) (t - r .t1) _ _ b
-
-    pub notified-leaf : (t : ℕ) → t - r .t1 < s .wait → isLeaf s (currentPiece r) ≡ true → allNotified s r t ≡ taken s r t
+    pub notified-late : (t : ℕ) → late s r t ≡ true → allNotified s r t ≡ sentBack 2 r
     unfolding allNotified choose
-    notified-leaf t b e = choose-gt (s .wait) (t - r .t1) _ _ b ∙ ap (λ (x : Bool). choose x (taken s r t) (toPhase 7 r)) e
+    notified-late t e = ap (λ (x : Bool). choose x (sentBack 2 r) (choose (isLeaf s (currentPiece r)) (taken s r t) (toPhase 7 r))) e
 
-    pub notified-inner : (t : ℕ) → t - r .t1 < s .wait → isLeaf s (currentPiece r) ≡ false → allNotified s r t ≡ toPhase 7 r
+    -- in time
+    notified-by : (t : ℕ) → late s r t ≡ false → (leaf : Bool) → isLeaf s (currentPiece r) ≡ leaf → allNotified s r t ≡ choose leaf (taken s r t) (toPhase 7 r)
     unfolding allNotified choose
-    notified-inner t b e = choose-gt (s .wait) (t - r .t1) _ _ b ∙ ap (λ (x : Bool). choose x (taken s r t) (toPhase 7 r)) e
+    notified-by t e leaf f =
+        ap (λ (x : Bool). choose x (sentBack 2 r) (choose (isLeaf s (currentPiece r)) (taken s r t) (toPhase 7 r))) e ∙ ap (λ (x : Bool). choose x (taken s r t) (toPhase 7 r)) f
+
+    pub notified-leaf : (t : ℕ) → late s r t ≡ false → isLeaf s (currentPiece r) ≡ true → allNotified s r t ≡ taken s r t
+    unfolding choose
+    notified-leaf t e f = notified-by t e true f
+
+    pub notified-inner : (t : ℕ) → late s r t ≡ false → isLeaf s (currentPiece r) ≡ false → allNotified s r t ≡ toPhase 7 r
+    unfolding choose
+    notified-inner t e f = notified-by t e false f
 
     pub notice-more : (t : ℕ) → r .place + 1 < length (notifyList (s .distance) (currentPiece r))
         → noticeGiven s r t ≡ withPlace (r .place + 1) (withNotices (r .place + 1) r)

@@ -47,18 +47,18 @@ use denote.Triple.Clauses.{ensured, lasts}
 use denote.Triple.Table.{entered, cited}
 use denote.Triple.Walked.{Stays, stay-none, gave-slice, walkOf, goes-none, goes-gave-slice, Walks, ends-at, walked, walk-meets}
 use denote.Exit.{yes}
-use Rattle.lock.specs.declared.Record.{Record}
+use Rattle.lock.specs.declared.Client.{Client}
 use Rattle.lock.specs.declared.Settings.{Settings}
-use Rattle.lock.specs.rules.Records.{idleWith}
+use Rattle.lock.specs.rules.Records.{idleClient}
 use Rattle.lock.specs.rules.Table as Table
-use Rattle.lock.proofs.Record as Rec
-use Rattle.lock.proofs.Record.Laws as Rec′
+use Rattle.lock.proofs.Client as Cl
+use Rattle.lock.proofs.Client.Laws as Cl′
 use Rattle.lock.proofs.Settings as G
 use Rattle.lock.proofs.Settings.Laws as G′
-use Rattle.lock.proofs.Record.idle_with as idle-with
-use Rattle.lock.proofs.Record.idle_with.Symbol as idle-with-def
-use Rattle.lock.proofs.Record.idle_with.Symbol.{name as #idle-with}
-use Rattle.lock.proofs.Record.idle_with.Met as idle-with-thm
+use Rattle.lock.proofs.Client.idle as idle
+use Rattle.lock.proofs.Client.idle.Symbol as idle-def
+use Rattle.lock.proofs.Client.idle.Symbol.{name as #idle}
+use Rattle.lock.proofs.Client.idle.Met as idle-thm
 use Rattle.table.specs.rules.Lent.{lent, result}
 use Rattle.table.specs.laws.OpeningLaws.{opening-refuses, opening-takes}
 use Rattle.table.proofs.Filled.{filled, filled-length, filled-none, filled-next, filled-all}
@@ -84,25 +84,25 @@ abbrev stayed : Stays (this.ended .signature .params) (this.ended .kept)
 stayed = (gave-slice (0 ∷ []) tt (plain (λ _. R)), (gave-slice (1 ∷ []) tt (plain (λ _. u64)), (stay-none (λ _. RG) yes, tt)))
 
 -- what an accepted opening leaves
-abbrev blanks : List Record → List Record
-blanks ys = replicate (length ys) (idleWith 0)
+abbrev blanks : List Client → List Client
+blanks ys = replicate (length ys) idleClient
 
 abbrev zeros : List ℕ → List ℕ
 zeros ws = replicate (length ws) 0
 
-blanks-length : (ys : List Record) → length (blanks ys) ≡ length ys
-blanks-length ys = ap length (sym (filled-all (idleWith 0) ys)) ∙ filled-length (idleWith 0) ys (length ys)
+blanks-length : (ys : List Client) → length (blanks ys) ≡ length ys
+blanks-length ys = ap length (sym (filled-all idleClient ys)) ∙ filled-length idleClient ys (length ys)
 
 -- what the contract says of the result and the two last lists
-abbrev Said : List Record → List ℕ → Settings → ℕ → List Record → List ℕ → Type 0
-Said ys ws st n zs vs = result n zs vs 0 ≡ Table.opening st (lent ys ws 0)
+abbrev Said : List Client → List ℕ → Settings → ℕ → List Client → List ℕ → Type 0
+Said ys ws st n zs vs = result n zs vs ≡ Table.opening st (lent ys ws)
 
-refused : (ys : List Record) (ws : List ℕ) (st : Settings) (e : ℕ) → e ≡ Table.openingNumber st (length ws) (length ys) → T (ltb 0 e) → Said ys ws st e ys ws
-refused ys ws st e ge h = opening-refuses st ys ws 0 e ge (some-found e h)
+refused : (ys : List Client) (ws : List ℕ) (st : Settings) (e : ℕ) → e ≡ Table.openingNumber st (length ws) (length ys) → T (ltb 0 e) → Said ys ws st e ys ws
+refused ys ws st e ge h = opening-refuses st ys ws e ge (some-found e h)
 
-taken : (ys : List Record) (ws : List ℕ) (st : Settings) (e : ℕ) → e ≡ Table.openingNumber st (length ws) (length ys) → T (not (ltb 0 e))
+taken : (ys : List Client) (ws : List ℕ) (st : Settings) (e : ℕ) → e ≡ Table.openingNumber st (length ws) (length ys) → T (not (ltb 0 e))
     → Said ys ws st e (blanks ys) (zeros ws)
-taken ys ws st e ge h = opening-takes st ys ws 0 e ge (none-found e h)
+taken ys ws st e ge h = opening-takes st ys ws e ge (none-found e h)
 
 -- the body of the loop, and what runs after it
 abbrev turn : Body
@@ -111,9 +111,9 @@ turn = inside (inside (first-of (after (after (after (after (after (after (after
 abbrev rest : Body
 rest = after (after (after (after (after (after (after (after (after (after (after (code.function .body)))))))))))
 
--- the idle record that is made, as a machine value
-made-of : (d : Record) (vs : List Val) → Is R d vs → d ≡ idleWith 0 → Is R (idleWith 0) (Rec′.lowered (idleWith 0) ∷ [])
-made-of d vs is e = subst (λ (z : Record). Is R z (LL.vals Rec.the-type Rec′.the-laws z)) e (subst (Is R d) (LL.tells Rec.the-type Rec′.the-laws d vs is) is)
+-- the idle client that is made, as a machine value
+made-of : (d : Client) (vs : List Val) → Is R d vs → d ≡ idleClient → Is R idleClient (Cl′.lowered idleClient ∷ [])
+made-of d vs is e = subst (λ (z : Client). Is R z (LL.vals Cl.the-type Cl′.the-laws z)) e (subst (Is R d) (LL.tells Cl.the-type Cl′.the-laws d vs is) is)
 
 module _ {M : Type 1} (𝓤 : URA M) (H : Heap 𝓤) (A : Atoms 𝓤) (mem : Memory → SProp 𝓤) (run : Routine → Fun 𝓤) where
   -- the contracts that the proof cites
@@ -124,10 +124,10 @@ module _ {M : Type 1} (𝓤 : URA M) (H : Heap 𝓤) (A : Atoms 𝓤) (mem : Mem
   Zero = tripleOf 𝓤 H A zero-words.signature (zero-words.spec 𝓤 H A mem run)
 
   abbrev Idle : Contract 𝓤
-  Idle = tripleOf 𝓤 H A idle-with.signature (idle-with.spec 𝓤 H A mem run)
+  Idle = tripleOf 𝓤 H A idle.signature (idle.spec 𝓤 H A mem run)
 
-module _ {M : Type 1} (𝓤 : URA M) (H : Heap 𝓤) (A : Atoms 𝓤) (W : Given 𝓤 H A) (mem : Memory → SProp 𝓤) (run : Routine → Fun 𝓤) (κ κ′ : Lft) (q q′ : Share) (x : RefT (List Record)) (u : RefT (List ℕ)) (st : Settings) (gs : Is RG st (G′.lowered st ∷ [])) (room : Room R (length (x .now))) (room′ : Room u64 (length (u .now))) where
-  abbrev ys : List Record
+module _ {M : Type 1} (𝓤 : URA M) (H : Heap 𝓤) (A : Atoms 𝓤) (W : Given 𝓤 H A) (mem : Memory → SProp 𝓤) (run : Routine → Fun 𝓤) (κ κ′ : Lft) (q q′ : Share) (x : RefT (List Client)) (u : RefT (List ℕ)) (st : Settings) (gs : Is RG st (G′.lowered st ∷ [])) (room : Room R (length (x .now))) (room′ : Room u64 (length (u .now))) where
+  abbrev ys : List Client
   ys = x .now
 
   abbrev ws : List ℕ
@@ -149,7 +149,7 @@ module _ {M : Type 1} (𝓤 : URA M) (H : Heap 𝓤) (A : Atoms 𝓤) (W : Given
   s′ = sliceVal (u .ptr) (length ws)
 
   abbrev Arg : Type 0
-  Arg = RefT (List Record) × (RefT (List ℕ) × (Settings × Unit {0}))
+  Arg = RefT (List Client) × (RefT (List ℕ) × (Settings × Unit {0}))
 
   abbrev a : Arg
   a = (x, (u, (st, tt)))
@@ -160,7 +160,7 @@ module _ {M : Type 1} (𝓤 : URA M) (H : Heap 𝓤) (A : Atoms 𝓤) (W : Given
   abbrev Post : Val → SProp 𝓤
   Post = walkOf 𝓤 H A this.ended stayed (this.clauses 𝓤 H A mem run) .post (((κ, (κ′, tt)), (q, (q′, tt)), tt, a, vals), tt)
 
-  exits : (k : ℕ) (zs : List Record) (vs : List ℕ) → k < 2 ^ 64 → length zs ≡ length ys → length vs ≡ length ws → Said ys ws st k zs vs
+  exits : (k : ℕ) (zs : List Client) (vs : List ℕ) → k < 2 ^ 64 → length zs ≡ length ys → length vs ≡ length ws → Said ys ws st k zs vs
       → ent 𝓤 (⋆ 𝓤 H A ((‵ (flft κ q) ⊛ (‵ (flft κ′ q′) ⊛ ‵ ftrue)) ∷ ‵ (finally R (x .name) zs) ∷ ‵ (finally u64 (u .name) vs) ∷ [])) (Post (vint w64 k))
   exits k zs vs k-fits long long′ e =
       qed W ((‵ (flft κ q) ⊛ (‵ (flft κ′ q′) ⊛ ‵ ftrue)) ∷ ‵ (finally R (x .name) zs) ∷ ‵ (finally u64 (u .name) vs) ∷ []) ∵
@@ -187,14 +187,13 @@ module _ {M : Type 1} (𝓤 : URA M) (H : Heap 𝓤) (A : Atoms 𝓤) (W : Given
   cause-of e = exE 𝓤 _ (λ vs. snd∗ 𝓤 (sem 𝓤 H A (lasts opening-cause.ended tt tested vs)) (fact 𝓤 (e ≡ Table.openingNumber st (length ws) (length ys))))
 
   abbrev wanted : Idle 𝓤 H A mem run .Ghost
-  wanted = ((tt, tt, tt, (0, tt), (vint w64 0 ∷ [], tt)), tt)
+  wanted = ((tt, tt, tt, tt, tt), tt)
 
   goes-idle : ent 𝓤 (emp 𝓤) (Idle 𝓤 H A mem run .pre wanted)
-  goes-idle = qed W [] ∵ nothing ! $ owned ! u64 (Is u64) (uint-makes 𝓤 H A W w64) 0 _ (refl, lit< tt) $ fjoin ! $ nothing ! $ join ! $ nothing ! $ move ! (1 ∷ 0 ∷ []) $
-      done !
+  goes-idle = qed W [] ∵ nothing ! $ nothing ! $ join ! $ nothing ! $ move ! (1 ∷ 0 ∷ []) $ done !
 
-  idle-of : (d : Record) → ent 𝓤 (ensured 𝓤 H A idle-with.ended (idle-with.clauses 𝓤 H A mem run) tt (0, tt) tt d) (fact 𝓤 (d ≡ idleWith 0))
-  idle-of d = exE 𝓤 _ (λ vs. snd∗ 𝓤 (sem 𝓤 H A (lasts idle-with.ended tt (0, tt) vs)) (fact 𝓤 (d ≡ idleWith 0)))
+  idle-of : (d : Client) → ent 𝓤 (ensured 𝓤 H A idle.ended (idle.clauses 𝓤 H A mem run) tt tt tt d) (fact 𝓤 (d ≡ idleClient))
+  idle-of d = exE 𝓤 _ (λ vs. snd∗ 𝓤 (sem 𝓤 H A (lasts idle.ended tt tt vs)) (fact 𝓤 (d ≡ idleClient)))
 
   abbrev to : Zero 𝓤 H A mem run .Ghost
   to = (((κ′, tt), (q′, tt), tt, (u, tt), (s′ ∷ [], tt)), tt)
@@ -207,14 +206,14 @@ module _ {M : Type 1} (𝓤 : URA M) (H : Heap 𝓤) (A : Atoms 𝓤) (W : Given
     module _ (e : ℕ) (e-fits : e < 2 ^ 64) (ge : e ≡ Table.openingNumber st (length ws) (length ys)) (below : T (not (ltb 0 e))) (long′ : length (zeros ws) ≡ length ws) (l₀ l₁ l₂ l₃ l₄ l₅ l₆ l₇ l₈ l₉ l₁₀ l₁₁ l₁₂ l₁₃ l₁₄ l₁₅ : ℕ) where
       -- the invariant: the open borrow, the row at `filled ys i`, the words' last list, and the locals
       abbrev At : Upto n → List (Item 𝓤)
-      At i = ‵ (row R fullShare (filled (idleWith 0) ys (i .0)) b o) ∷ ‵ (fobor κ q (Held R n b o (x .name))) ∷ ‵ (fobs (x .name) (codedHoleys R .code (heres R ys)))
+      At i = ‵ (row R fullShare (filled idleClient ys (i .0)) b o) ∷ ‵ (fobor κ q (Held R n b o (x .name))) ∷ ‵ (fobs (x .name) (codedHoleys R .code (heres R ys)))
           ∷ ‵ (fauth (x .name) (codedHoleys R .code (heres R ys))) ∷ (‵ (flft κ′ q′) ⊛ ‵ ftrue) ∷ ‵ (finally u64 (u .name) (zeros ws)) ∷ ‵ (froom tyPtr l₁₅ 0)
           ∷ ‵ (fdies tyPtr l₁₅)
           ∷ ‵ (froom tyBool l₁₄ 0) ∷ ‵ (fdies tyBool l₁₄) ∷ ‵ (froom word l₁₃ 0) ∷ ‵ (fdies word l₁₃) ∷ ‵ (froom (sliceTy (tyRef erased mut word)) l₁₂ 0)
           ∷ ‵ (fdies (sliceTy (tyRef erased mut word)) l₁₂) ∷ ‵ (froom (tyRef erased mut word) l₁₁ 0) ∷ ‵ (fdies (tyRef erased mut word) l₁₁)
           ∷ ‵ (froom tyUnit l₁₀ 0) ∷ ‵ (fdies tyUnit l₁₀) ∷ ‵ (froom tyBool l₉ 0) ∷ ‵ (fdies tyBool l₉) ∷ ‵ (froom word l₈ 0) ∷ ‵ (fdies word l₈) ∷ ‵ (froom word l₇ 0)
           ∷ ‵ (fdies word l₇)
-          ∷ ‵ (fat fullShare word l₆ 0 (vint w64 (i .0))) ∷ ‵ (fdies word l₆) ∷ ‵ (fat fullShare Rec′.mir l₅ 0 (Rec′.lowered (idleWith 0))) ∷ ‵ (fdies Rec′.mir l₅)
+          ∷ ‵ (fat fullShare word l₆ 0 (vint w64 (i .0))) ∷ ‵ (fdies word l₆) ∷ ‵ (fat fullShare Cl′.mir l₅ 0 (Cl′.lowered idleClient)) ∷ ‵ (fdies Cl′.mir l₅)
           ∷ ‵ (fat fullShare word l₄ 0 (vint w64 e)) ∷ ‵ (fdies word l₄) ∷ ‵ (froom G′.mir l₃ 0) ∷ ‵ (fdies G′.mir l₃)
           ∷ ‵ (froom (sliceTy (tyRef (named 1) mut word)) l₂ 0) ∷ ‵ (fdies (sliceTy (tyRef (named 1) mut word)) l₂) ∷ ‵ (fat fullShare slice l₁ 0 s) ∷ ‵ (fdies slice l₁)
           ∷ ‵ (froom word l₀ 0) ∷ ‵ (fdies word l₀) ∷ []
@@ -222,26 +221,26 @@ module _ {M : Type 1} (𝓤 : URA M) (H : Heap 𝓤) (A : Atoms 𝓤) (W : Given
       abbrev En : Env 𝓤 H
       En = env (code.function .locals) (l₀ ∷ l₁ ∷ l₂ ∷ l₃ ∷ l₄ ∷ l₅ ∷ l₆ ∷ l₇ ∷ l₈ ∷ l₉ ∷ l₁₀ ∷ l₁₁ ∷ l₁₂ ∷ l₁₃ ∷ l₁₄ ∷ l₁₅ ∷ [])
 
-      turns : Is R (idleWith 0) (Rec′.lowered (idleWith 0) ∷ []) → (i : Upto n) → Sq W (At i) (runs (𝓣 .C) (𝓣 .Λ) En turn (Turned 𝓤 H (𝓣 .C) (𝓣 .Λ) En (atRet En Post) (Below 𝓤 H A (Nearer n) At i) rest))
+      turns : Is R idleClient (Cl′.lowered idleClient ∷ []) → (i : Upto n) → Sq W (At i) (runs (𝓣 .C) (𝓣 .Λ) En turn (Turned 𝓤 H (𝓣 .C) (𝓣 .Λ) En (atRet En Post) (Below 𝓤 H A (Nearer n) At i) rest))
       unfolding afterTurn
       turns made i =
           assigns ! (of-opd ! (load ! (from ! (fld ! refl (stop !))) (look-in ! 34 (sub ! 1 refl (whole !))))) (from ! (stop !)) (init ! 10 refl (tt, record { fits = room .0 })) $
           assigns ! (bin ! (load ! (from ! (stop !)) (look ! 24 refl)) (load ! (from ! (stop !)) (look ! 10 refl)) tt) (from ! (stop !)) (init ! 8 refl (tt, tt)) $
           tests ! (Below 𝓤 H A (Nearer n) At i) rest (atRet En Post) (load ! (from ! (stop !)) (look ! 8 refl))
           -- a turn that sets one record
-          (λ less. let small = ltb→lt (i .0) n less in let fits = fits-index bytes (i .0) n small (room .1) in let within = subst (λ (m : ℕ). i .0 < m) (sym (filled-length (idleWith 0) ys (i .0))) small in
+          (λ less. let small = ltb→lt (i .0) n less in let fits = fits-index bytes (i .0) n small (room .1) in let within = subst (λ (m : ℕ). i .0 < m) (sym (filled-length idleClient ys (i .0))) small in
           assigns ! (bin ! (load ! (from ! (stop !)) (look ! 24 refl)) (lit ! tt) (record { fits = fits })) (from ! (stop !)) (store ! 10 refl (tt, record { fits = fits })) $
           assigns ! (bin ! (load ! (from ! (fld ! refl (stop !))) (look-in ! 34 (sub ! 0 refl (whole !)))) (load ! (from ! (stop !)) (look ! 10 refl)) tt) (from ! (stop !)) (init ! 6 refl (tt, tt)) $
           rewrite ! 6 (λ (p : ℕ). ‵ (fat fullShare tyPtr l₁₅ 0 (vptr b p))) (sym (place-is bytes o (i .0))) refl $
-          elem-out ! R (Is R) (shows 𝓤 H A R) (LL.vals Rec.the-type Rec′.the-laws) (LL.tells Rec.the-type Rec′.the-laws) fullShare (filled (idleWith 0) ys (i .0)) (i .0) (idleWith 0) b o within (λ _.
-          assigns ! (of-opd ! (load ! (from ! (stop !)) (look ! 28 refl))) (from ! (hop ! (look ! 8 refl) (stop !))) (store-raw ! 0 refl (LL.lawful Rec.the-type Rec′.the-laws 𝓤 H A W .typed (idleWith 0) _ made .0)) $
-          move ! (1 ∷ []) $ drop ! $ owned ! R (Is R) ((LL.makes Rec.the-type Rec′.the-plain) 𝓤 H A) (idleWith 0) _ made $ move ! (1 ∷ 0 ∷ []) $
-          elem-put ! R fullShare (filled (idleWith 0) ys (i .0)) (i .0) (idleWith 0) (Rec′.lowered (idleWith 0) ∷ []) b o within $
-          rewrite ! 0 (λ (l : List Record). ‵ (row R fullShare l b o)) (filled-next (idleWith 0) ys (i .0) small) refl $
+          elem-out ! R (Is R) (shows 𝓤 H A R) (LL.vals Cl.the-type Cl′.the-laws) (LL.tells Cl.the-type Cl′.the-laws) fullShare (filled idleClient ys (i .0)) (i .0) idleClient b o within (λ _.
+          assigns ! (of-opd ! (load ! (from ! (stop !)) (look ! 28 refl))) (from ! (hop ! (look ! 8 refl) (stop !))) (store-raw ! 0 refl (LL.lawful Cl.the-type Cl′.the-laws 𝓤 H A W .typed idleClient _ made .0)) $
+          move ! (1 ∷ []) $ drop ! $ owned ! R (Is R) ((LL.makes Cl.the-type Cl′.the-plain) 𝓤 H A) idleClient _ made $ move ! (1 ∷ 0 ∷ []) $
+          elem-put ! R fullShare (filled idleClient ys (i .0)) (i .0) idleClient (Cl′.lowered idleClient ∷ []) b o within $
+          rewrite ! 0 (λ (l : List Client). ‵ (row R fullShare l b o)) (filled-next idleClient ys (i .0) small) refl $
           assigns-last ! (bin ! (load ! (from ! (stop !)) (look ! 24 refl)) (lit ! tt) (record { fits = lt-of-le-of-lt (add-one-le small) (room .0) })) (from ! (stop !)) (store ! 24 refl (tt, record { fits = lt-of-le-of-lt (add-one-le small) (room .0) })) $
           forget ! 6 refl $ forget ! 8 refl $ forget ! 10 refl $ again ! (Nearer n) At i (i .0 + 1, add-one-le small) (add-one-dec n (i .0) small)))
           -- the loop is left: the borrow is closed
-          (λ over. rewrite ! 0 (λ (l : List Record). ‵ (row R fullShare l b o)) (ap (filled (idleWith 0) ys) (le-antisymm (i .1) (nltb→le (i .0) n over)) ∙ filled-all (idleWith 0) ys) refl $
+          (λ over. rewrite ! 0 (λ (l : List Client). ‵ (row R fullShare l b o)) (ap (filled idleClient ys) (le-antisymm (i .1) (nltb→le (i .0) n over)) ∙ filled-all idleClient ys) refl $
           closes-slice ! tt R ys (blanks ys) (blanks-length ys) b o $
           assigns ! (of-opd ! (load ! (from ! (stop !)) (look ! 27 refl))) (from ! (stop !)) (init ! 35 refl (tt, record { fits = e-fits })) $
           returns ! (look ! 35 refl) $ forget ! 7 refl $ forget ! 9 refl $ forget ! 23 refl $ forget ! 25 refl $ forget ! 27 refl $ forget ! 33 refl $ forget ! 35 refl $
@@ -252,7 +251,7 @@ module _ {M : Type 1} (𝓤 : URA M) (H : Heap 𝓤) (A : Atoms 𝓤) (W : Given
           use1 W (‵ (finally R (x .name) (blanks ys))) (gives-up 𝓤 H A W R κ (x .name) (blanks ys)) $ move ! (2 ∷ 3 ∷ []) $ join ! $ keep ! (0 ∷ 1 ∷ 3 ∷ []) $
           by ! (exits e (blanks ys) (zeros ws) e-fits (blanks-length ys) long′ (taken ys ws st e ge below)))
 
-    module _ (sure : Triple 𝓤 (𝓣 .C #opening-cause) (Cause 𝓤 H A mem run)) (known : Triple 𝓤 (𝓣 .C #zero-words) (Zero 𝓤 H A mem run)) (idles : Triple 𝓤 (𝓣 .C #idle-with) (Idle 𝓤 H A mem run)) where
+    module _ (sure : Triple 𝓤 (𝓣 .C #opening-cause) (Cause 𝓤 H A mem run)) (known : Triple 𝓤 (𝓣 .C #zero-words) (Zero 𝓤 H A mem run)) (idles : Triple 𝓤 (𝓣 .C #idle) (Idle 𝓤 H A mem run)) where
       walk : ent 𝓤 (onEntry 𝓤 H A this.signature (κ, (κ′, tt)) (q, (q′, tt)) a vals) (WpFn 𝓤 H (𝓣 .C) (𝓣 .Λ) code.function (s ∷ s′ ∷ G′.lowered st ∷ []) Post)
       walk =
           let fm = fmOf 𝓤 H (W .laws) 𝓣 in
@@ -299,23 +298,23 @@ module _ {M : Type 1} (𝓤 : URA M) (H : Heap 𝓤) (A : Atoms 𝓤) (W : Given
           rewrite ! 0 (λ (z : List ℕ). ‵ (finally u64 (u .name) z)) g′ refl $ move ! (1 ∷ []) $ split ! $ move ! (1 ∷ []) $
           peeks ! Nothing (Is Nothing) (shows 𝓤 H A Nothing) r (w ∷ []) (λ is. land ! (from ! (stop !)) (init ! 16 refl (nothing-lawful 𝓤 H A W .typed r _ is .0)) $
           drop ! $
-          -- the idle record
+          -- the idle client
           use0 W (raw (Idle 𝓤 H A mem run .pre wanted)) goes-idle $
-          calls-at ! fm (Idle 𝓤 H A mem run) idles wanted (and-then ! (lit ! tt) (no-more !)) (λ v′.
-          use1 W (later (some (λ (d : Record). (‵ ftrue ⊛ ‵ (R .own d (v′ ∷ []))) ⊛ raw (ensured 𝓤 H A idle-with.ended (idle-with.clauses 𝓤 H A mem run) tt (0, tt) tt d)))) (id⊢ 𝓤 _) $
+          calls-at ! fm (Idle 𝓤 H A mem run) idles wanted (no-more !) (λ v′.
+          use1 W (later (some (λ (d : Client). (‵ ftrue ⊛ ‵ (R .own d (v′ ∷ []))) ⊛ raw (ensured 𝓤 H A idle.ended (idle.clauses 𝓤 H A mem run) tt tt tt d)))) (id⊢ 𝓤 _) $
           await ! tt $ pick ! (λ d.
-          split ! $ move ! (1 ∷ []) $ use1 W (raw (fact 𝓤 (d ≡ idleWith 0))) (idle-of d) $ heard ! (d ≡ idleWith 0) (λ gd. split ! $ drop ! $
-          peeks ! R (Is R) (shows 𝓤 H A R) d (v′ ∷ []) (λ id. land ! (from ! (stop !)) (init ! 26 refl (LL.lawful Rec.the-type Rec′.the-laws 𝓤 H A W .typed d _ id .0)) $
-          rewrite ! 26 (λ (z : Val). ‵ (fat fullShare Rec′.mir l₅ 0 z)) (ap only (LL.tells Rec.the-type Rec′.the-laws d (v′ ∷ []) id)) refl $
-          rewrite ! 26 (λ (z : Record). ‵ (fat fullShare Rec′.mir l₅ 0 (Rec′.lowered z))) gd refl $ drop ! $
+          split ! $ move ! (1 ∷ []) $ use1 W (raw (fact 𝓤 (d ≡ idleClient))) (idle-of d) $ heard ! (d ≡ idleClient) (λ gd. split ! $ drop ! $
+          peeks ! R (Is R) (shows 𝓤 H A R) d (v′ ∷ []) (λ id. land ! (from ! (stop !)) (init ! 26 refl (LL.lawful Cl.the-type Cl′.the-laws 𝓤 H A W .typed d _ id .0)) $
+          rewrite ! 26 (λ (z : Val). ‵ (fat fullShare Cl′.mir l₅ 0 z)) (ap only (LL.tells Cl.the-type Cl′.the-laws d (v′ ∷ []) id)) refl $
+          rewrite ! 26 (λ (z : Client). ‵ (fat fullShare Cl′.mir l₅ 0 (Cl′.lowered z))) gd refl $ drop ! $
           assigns ! (of-opd ! (lit ! tt)) (from ! (stop !)) (init ! 23 refl (tt, record { fits = lit< tt })) $
-          move ! (2 ∷ 3 ∷ 4 ∷ []) $ opens-slice ! tt R ys b o $ rewrite ! 0 (λ (l : List Record). ‵ (row R fullShare l b o)) (sym (filled-none (idleWith 0) ys)) refl $
+          move ! (2 ∷ 3 ∷ 4 ∷ []) $ opens-slice ! tt R ys b o $ rewrite ! 0 (λ (l : List Client). ‵ (row R fullShare l b o)) (sym (filled-none idleClient ys)) refl $
           forget ! 12 refl $ forget ! 14 refl $ forget ! 16 refl $ forget ! 18 refl $ forget ! 20 refl $ forget ! 22 refl $ forget ! 30 refl $ forget ! 32 refl $
           keep ! (0 ∷ 1 ∷ 2 ∷ 3 ∷ 4 ∷ 5 ∷ 6 ∷ 7 ∷ 8 ∷ 9 ∷ 10 ∷ 11 ∷ 12 ∷ 13 ∷ 14 ∷ 15 ∷ 16 ∷ 17 ∷ 18 ∷ 19 ∷ 20 ∷ 21 ∷ 22 ∷ 23 ∷ 24 ∷ 25 ∷ 26 ∷ 27 ∷ 28 ∷ 29 ∷ 30 ∷ 31 ∷ 32 ∷ 33 ∷ 34 ∷ 35 ∷ 36 ∷ 37 ∷ []) $
           whiles ! 𝓣 (Nearer n) (Nearer-wf n) (At e (ie .1) ge below (subst (λ (z : List ℕ). length z ≡ length ws) g′ l) l₀ l₁ l₂ l₃ l₄ l₅ l₆ l₇ l₈ l₉ l₁₀ l₁₁ l₁₂ l₁₃ l₁₄ l₁₅) (turns e (ie .1) ge below (subst (λ (z : List ℕ). length z ≡ length ws) g′ l) l₀ l₁ l₂ l₃ l₄ l₅ l₆ l₇ l₈ l₉ l₁₀ l₁₁ l₁₂ l₁₃ l₁₄ l₁₅ (made-of d (v′ ∷ []) id gd)) (0, zero-le))))))))))))))))))))))))))))))))
 
 module _ {M : Type 1} (𝓤 : URA M) (H : Heap 𝓤) (A : Atoms 𝓤) (W : Given 𝓤 H A) (mem : Memory → SProp 𝓤) (run : Routine → Fun 𝓤) (𝓣 : Tables 𝓤 H)
-    (sure : Triple 𝓤 (𝓣 .C #opening-cause) (Cause 𝓤 H A mem run)) (known : Triple 𝓤 (𝓣 .C #zero-words) (Zero 𝓤 H A mem run)) (idles : Triple 𝓤 (𝓣 .C #idle-with) (Idle 𝓤 H A mem run)) where
+    (sure : Triple 𝓤 (𝓣 .C #opening-cause) (Cause 𝓤 H A mem run)) (known : Triple 𝓤 (𝓣 .C #zero-words) (Zero 𝓤 H A mem run)) (idles : Triple 𝓤 (𝓣 .C #idle) (Idle 𝓤 H A mem run)) where
   open-walks : Walks 𝓤 H A this.ended stayed (WpFn 𝓤 H (𝓣 .C) (𝓣 .Λ) code.function) (this.clauses 𝓤 H A mem run)
   open-walks = walked 𝓤 H A this.ended stayed (this.clauses 𝓤 H A mem run) (WpFn 𝓤 H (𝓣 .C) (𝓣 .Λ) code.function)
       (λ κs. (slice-vals, (slice-vals, (LL.vals G.the-type G′.the-laws, tt)))) (λ κs. (mut-slice-tells (named 0) (κs .0) R, (mut-slice-tells (named 1) (κs .1 .0) u64, (LL.tells G.the-type G′.the-laws, tt))))
@@ -334,4 +333,4 @@ nolthewyr-open-spec 𝓤 H 𝓜 𝓖 𝓡 =
     (open-meets 𝓤 H (𝓖 .A) (givenOf 𝓤 H 𝓜 𝓖) (𝓜 .mem) (𝓡 .run) (tablesOf 𝓤 H 𝓜 (tables 𝓤 H 𝓜 𝓡 code.env))
     (cited 𝓤 H (Cause 𝓤 H (𝓖 .A) (𝓜 .mem) (𝓡 .run)) 𝓜 𝓡 code.env #opening-cause opening-cause-def.routine code.calls-table·causes·opening-cause (opening-cause-thm.met 𝓤 H 𝓜 𝓖 𝓡))
     (cited 𝓤 H (Zero 𝓤 H (𝓖 .A) (𝓜 .mem) (𝓡 .run)) 𝓜 𝓡 code.env #zero-words zero-words-def.routine code.calls-table·zeroes·zero-words (zero-words-thm.met 𝓤 H 𝓜 𝓖 𝓡))
-    (cited 𝓤 H (Idle 𝓤 H (𝓖 .A) (𝓜 .mem) (𝓡 .run)) 𝓜 𝓡 code.env #idle-with idle-with-def.routine code.calls-lock·Record·idle-with (idle-with-thm.met 𝓤 H 𝓜 𝓖 𝓡)))
+    (cited 𝓤 H (Idle 𝓤 H (𝓖 .A) (𝓜 .mem) (𝓡 .run)) 𝓜 𝓡 code.env #idle idle-def.routine code.calls-lock·Client·idle (idle-thm.met 𝓤 H 𝓜 𝓖 𝓡)))

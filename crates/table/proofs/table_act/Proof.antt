@@ -43,34 +43,31 @@ use denote.Triple.Clauses.{ensured, lasts}
 use denote.Triple.Table.{entered, cited}
 use denote.Triple.Walked.{Stays, stay-none, gave-slice, walkOf, goes-none, goes-gave-slice, ends-at, walked, walk-meets}
 use denote.Exit.{yes}
-use Rattle.lock.specs.declared.Record.{Record}
+use Rattle.lock.specs.declared.Client.{Client}
 use Rattle.lock.specs.declared.Settings.{Settings}
 use Rattle.lock.specs.declared.Call.{Call}
 use Rattle.lock.specs.declared.Stepped.{Stepped}
-use Rattle.lock.specs.rules.Records.{idleWith}
+use Rattle.lock.specs.rules.Records.{idleClient}
 use Rattle.lock.specs.rules.Table as Table
 use Rattle.lock.specs.rules.ByValue.{callOf, answerTo, wordsAfter}
 use Rattle.lock.specs.laws.ByKind.{client-of-kind}
-use Rattle.lock.proofs.Record as Rec
-use Rattle.lock.proofs.Record.Laws as Rec′
+use Rattle.lock.proofs.Client as Cl
+use Rattle.lock.proofs.Client.Laws as Cl′
 use Rattle.lock.proofs.Stepped as S
 use Rattle.lock.proofs.Stepped.Laws as S′
 use Rattle.lock.proofs.Settings as G
 use Rattle.lock.proofs.Settings.Laws as G′
 use Rattle.lock.proofs.Call as K
 use Rattle.lock.proofs.Call.Laws as K′
-use Rattle.lock.proofs.Record.act as callee
-use Rattle.lock.proofs.Record.act.Symbol as callee-def
-use Rattle.lock.proofs.Record.act.Symbol.{name as #callee}
-use Rattle.lock.proofs.Record.act.Met as callee-thm
-use Rattle.table.specs.declared.Answer.{Answer}
+use Rattle.lock.proofs.Client.act as callee
+use Rattle.lock.proofs.Client.act.Symbol as callee-def
+use Rattle.lock.proofs.Client.act.Symbol.{name as #callee}
+use Rattle.lock.proofs.Client.act.Met as callee-thm
 use Rattle.table.specs.rules.Lent.{lent, result}
 use Rattle.table.specs.laws.Causes.{tableCause}
 use Rattle.table.specs.laws.CauseLaws.{client-below}
-use Rattle.table.specs.laws.CallLaws.{Same, numbered, answeredOf, table-refuses, table-takes}
-use Rattle.table.proofs.Answer as An
-use Rattle.table.proofs.Answer.Laws as An′
-use Rattle.table.proofs.Rows.{R, RG, RK, RA, word, bytes}
+use Rattle.table.specs.laws.CallLaws.{Same, table-refuses, table-takes}
+use Rattle.table.proofs.Rows.{R, RG, RK, word, bytes}
 use Rattle.table.proofs.Walk.{gives-up, goes-on, shows-that, fits-index, none-found, some-found}
 use Rattle.table.proofs.causes.table_cause as cause
 use Rattle.table.proofs.causes.table_cause.Symbol as cause-def
@@ -94,9 +91,9 @@ Checked 𝓤 H A mem run = tripleOf 𝓤 H A cause.signature (cause.spec 𝓤 H 
 abbrev Callee : {M : Type 1} (𝓤 : URA M) (H : Heap 𝓤) (A : Atoms 𝓤) (mem : Memory → SProp 𝓤) (run : Routine → Fun 𝓤) → Contract 𝓤
 Callee 𝓤 H A mem run = tripleOf 𝓤 H A callee.signature (callee.spec 𝓤 H A mem run)
 
-module _ {M : Type 1} (𝓤 : URA M) (H : Heap 𝓤) (A : Atoms 𝓤) (W : Given 𝓤 H A) (mem : Memory → SProp 𝓤) (run : Routine → Fun 𝓤) (κ κ′ : Lft) (q q′ : Share) (x : RefT (List Record)) (u : RefT (List ℕ)) (st : Settings) (ca : Call) (kind : ℕ)
+module _ {M : Type 1} (𝓤 : URA M) (H : Heap 𝓤) (A : Atoms 𝓤) (W : Given 𝓤 H A) (mem : Memory → SProp 𝓤) (run : Routine → Fun 𝓤) (κ κ′ : Lft) (q q′ : Share) (x : RefT (List Client)) (u : RefT (List ℕ)) (st : Settings) (ca : Call) (kind : ℕ)
     (gs : Is RG st (G′.lowered st ∷ [])) (gc : Is RK ca (K′.lowered ca ∷ [])) (kind-fits : kind < 2 ^ 64) (room : Room R (length (x .now))) (room′ : Room u64 (length (u .now))) where
-  abbrev ys : List Record
+  abbrev ys : List Client
   ys = x .now
 
   abbrev ws : List ℕ
@@ -111,21 +108,21 @@ module _ {M : Type 1} (𝓤 : URA M) (H : Heap 𝓤) (A : Atoms 𝓤) (W : Given
   abbrev i : ℕ
   i = ca .client
 
-  abbrev elem : Record
-  elem = getD ys i (idleWith 0)
+  abbrev elem : Client
+  elem = getD ys i idleClient
 
   -- the call that the kind names; what it gives by value; and the call over the table
   abbrev its : Table.Call
   its = callOf kind i (ca .a) (ca .b)
 
   abbrev next : Stepped
-  next = answerTo st elem ws (ca .last) its
+  next = answerTo st elem ws its
 
   abbrev after : List ℕ
-  after = wordsAfter st elem ws (ca .last) its
+  after = wordsAfter st elem ws its
 
   abbrev made-of : Table.Out
-  made-of = Table.call st (lent ys ws (ca .last)) its
+  made-of = Table.call st (lent ys ws) its
 
   -- the cause that `table_cause` finds
   abbrev refusal : ℕ
@@ -134,14 +131,14 @@ module _ {M : Type 1} (𝓤 : URA M) (H : Heap 𝓤) (A : Atoms 𝓤) (W : Given
   allowed : (e : ℕ) → e ≡ refusal → T (not (ltb 0 e)) → i < length ys
   allowed e ge h = client-below st (length ws) (length ys) i (sym ge ∙ none-found e h)
 
-  refused : (e : ℕ) → e ≡ refusal → T (ltb 0 e) → Same made-of (numbered e (ca .last)) ys ws
-  refused e ge h = table-refuses st ys ws (ca .last) its e (ge ∙ ap (tableCause st (length ws) (length ys)) (sym (client-of-kind kind i (ca .a) (ca .b)))) (some-found e h)
+  refused : (e : ℕ) → e ≡ refusal → T (ltb 0 e) → Same made-of e ys ws
+  refused e ge h = table-refuses st ys ws its e (ge ∙ ap (tableCause st (length ws) (length ys)) (sym (client-of-kind kind i (ca .a) (ca .b)))) (some-found e h)
 
-  taken : (e : ℕ) (r : Stepped) (vs : List ℕ) → e ≡ refusal → T (not (ltb 0 e)) → r ≡ next → vs ≡ after → Same made-of (answeredOf r) (set ys i (r .next)) vs
-  unfolding Table.recordAt
+  taken : (e : ℕ) (r : Stepped) (vs : List ℕ) → e ≡ refusal → T (not (ltb 0 e)) → r ≡ next → vs ≡ after → Same made-of (r .number) (set ys i (r .next)) vs
+  unfolding Table.clientAt
   taken e r vs ge h g g′ =
-      let t = table-takes st ys ws (ca .last) its i (client-of-kind kind i (ca .a) (ca .b)) (sym ge ∙ none-found e h) in
-      (λ j. result (g j .number) (set ys i (g j .next)) (g′ j) (g j .clock)) ∙ t
+      let t = table-takes st ys ws its i (client-of-kind kind i (ca .a) (ca .b)) (sym ge ∙ none-found e h) in
+      (λ j. result (g j .number) (set ys i (g j .next)) (g′ j)) ∙ t
 
   -- the machine values of the two slices
   abbrev s : Val
@@ -150,7 +147,7 @@ module _ {M : Type 1} (𝓤 : URA M) (H : Heap 𝓤) (A : Atoms 𝓤) (W : Given
   abbrev s′ : Val
   s′ = sliceVal (u .ptr) (length ws)
 
-  abbrev a : RefT (List Record) × (RefT (List ℕ) × (Settings × (Call × (ℕ × Unit {0}))))
+  abbrev a : RefT (List Client) × (RefT (List ℕ) × (Settings × (Call × (ℕ × Unit {0}))))
   a = (x, (u, (st, (ca, (kind, tt)))))
 
   abbrev vals : List Val × (List Val × (List Val × (List Val × (List Val × Unit {0}))))
@@ -177,30 +174,30 @@ module _ {M : Type 1} (𝓤 : URA M) (H : Heap 𝓤) (A : Atoms 𝓤) (W : Given
   check-of e = exE 𝓤 _ (λ vs. snd∗ 𝓤 (sem 𝓤 H A (lasts cause.ended tt tested vs)) (fact 𝓤 (e ≡ refusal)))
 
   -- what the call by value is passed: the words at their own lifetime, share and name
-  abbrev given-to : Record × (RefT (List ℕ) × (Settings × (Call × (ℕ × Unit {0}))))
+  abbrev given-to : Client × (RefT (List ℕ) × (Settings × (Call × (ℕ × Unit {0}))))
   given-to = (elem, (u, (st, (ca, (kind, tt)))))
 
   abbrev to : Callee 𝓤 H A mem run .Ghost
-  to = (((κ′, tt), (q′, tt), tt, given-to, (Rec′.lowered elem ∷ [], (s′ ∷ [], (G′.lowered st ∷ [], (K′.lowered ca ∷ [], (vint w64 kind ∷ [], tt)))))), tt)
+  to = (((κ′, tt), (q′, tt), tt, given-to, (Cl′.lowered elem ∷ [], (s′ ∷ [], (G′.lowered st ∷ [], (K′.lowered ca ∷ [], (vint w64 kind ∷ [], tt)))))), tt)
 
-  goes : Is R elem (Rec′.lowered elem ∷ [])
+  goes : Is R elem (Cl′.lowered elem ∷ [])
       → ent 𝓤 (sep 𝓤 (sep 𝓤 (A .lft κ′ q′) (sem 𝓤 H A ftrue)) (sem 𝓤 H A (MutSlice (named 0) κ′ u64 .own u (s′ ∷ [])))) (Callee 𝓤 H A mem run .pre to)
   goes g =
       qed W ((‵ (flft κ′ q′) ⊛ ‵ ftrue) ∷ ‵ (MutSlice (named 0) κ′ u64 .own u (s′ ∷ [])) ∷ []) ∵ nothing ! $
       owned ! u64 (Is u64) (uint-makes 𝓤 H A W w64) kind _ (refl, kind-fits) $ fjoin ! $ owned ! RK (Is RK) ((LL.makes K.the-type K′.the-plain) 𝓤 H A) ca _ gc $ fjoin ! $
       owned ! RG (Is RG) ((LL.makes G.the-type G′.the-plain) 𝓤 H A) st _ gs $ fjoin ! $
-      move ! (2 ∷ 0 ∷ []) $ fjoin ! $ owned ! R (Is R) ((LL.makes Rec.the-type Rec′.the-plain) 𝓤 H A) elem _ g $ fjoin ! $ move ! (1 ∷ 0 ∷ []) $ join ! $ nothing ! $
+      move ! (2 ∷ 0 ∷ []) $ fjoin ! $ owned ! R (Is R) ((LL.makes Cl.the-type Cl′.the-plain) 𝓤 H A) elem _ g $ fjoin ! $ move ! (1 ∷ 0 ∷ []) $ join ! $ nothing ! $
       move ! (1 ∷ 0 ∷ []) $ done !
 
-  exits : (n : Answer) (zs : List Record) (vs : List ℕ) → Is RA n (An′.lowered n ∷ []) → length zs ≡ length ys → length vs ≡ length ws → Same made-of n zs vs
-      → ent 𝓤 (⋆ 𝓤 H A ((‵ (flft κ q) ⊛ (‵ (flft κ′ q′) ⊛ ‵ ftrue)) ∷ ‵ (finally R (x .name) zs) ∷ ‵ (finally u64 (u .name) vs) ∷ [])) (Post (An′.lowered n))
+  exits : (n : ℕ) (zs : List Client) (vs : List ℕ) → Is u64 n (vint w64 n ∷ []) → length zs ≡ length ys → length vs ≡ length ws → Same made-of n zs vs
+      → ent 𝓤 (⋆ 𝓤 H A ((‵ (flft κ q) ⊛ (‵ (flft κ′ q′) ⊛ ‵ ftrue)) ∷ ‵ (finally R (x .name) zs) ∷ ‵ (finally u64 (u .name) vs) ∷ [])) (Post (vint w64 n))
   exits n zs vs is k l e =
       qed W ((‵ (flft κ q) ⊛ (‵ (flft κ′ q′) ⊛ ‵ ftrue)) ∷ ‵ (finally R (x .name) zs) ∷ ‵ (finally u64 (u .name) vs) ∷ []) ∵
-      suffices ! _ (ends-at 𝓤 H A this.ended stayed (this.clauses 𝓤 H A mem run) W (((κ, (κ′, tt)), (q, (q′, tt)), tt, a, vals), tt) (An′.lowered n) n (zs, (vs, (tt, (tt, (tt, tt))))) (k, (l, (tt, (tt, (tt, tt)))))) $
+      suffices ! _ (ends-at 𝓤 H A this.ended stayed (this.clauses 𝓤 H A mem run) W (((κ, (κ′, tt)), (q, (q′, tt)), tt, a, vals), tt) (vint w64 n) n (zs, (vs, (tt, (tt, (tt, tt))))) (k, (l, (tt, (tt, (tt, tt)))))) $
       shows-that ! (factI 𝓤 _ (emp 𝓤) e) $ frame ! $
       nothing ! $ owned ! u64 (Is u64) (uint-makes 𝓤 H A W w64) kind _ (refl, kind-fits) $ fjoin ! $ owned ! RK (Is RK) ((LL.makes K.the-type K′.the-plain) 𝓤 H A) ca _ gc $ fjoin ! $
       owned ! RG (Is RG) ((LL.makes G.the-type G′.the-plain) 𝓤 H A) st _ gs $ fjoin ! $
-      move ! (2 ∷ 0 ∷ []) $ fjoin ! $ move ! (1 ∷ 0 ∷ []) $ fjoin ! $ frame ! $ owned ! RA (Is RA) ((LL.makes An.the-type An′.the-plain) 𝓤 H A) n _ is $ done !
+      move ! (2 ∷ 0 ∷ []) $ fjoin ! $ move ! (1 ∷ 0 ∷ []) $ fjoin ! $ frame ! $ owned ! u64 (Is u64) (uint-makes 𝓤 H A W w64) n _ is $ done !
 
   module _ (C : Calls 𝓤 H) (Λ : Loops 𝓤 H) (fm : FmC 𝓤 H (W .laws) C) (sure : Triple 𝓤 (C #cause) (Checked 𝓤 H A mem run)) (known : Triple 𝓤 (C #callee) (Callee 𝓤 H A mem run)) where
     walk : ent 𝓤 (onEntry 𝓤 H A this.signature (κ, (κ′, tt)) (q, (q′, tt)) a vals) (WpFn 𝓤 H C Λ code.function (s ∷ s′ ∷ G′.lowered st ∷ K′.lowered ca ∷ vint w64 kind ∷ []) Post)
@@ -227,8 +224,8 @@ module _ {M : Type 1} (𝓤 : URA M) (H : Heap 𝓤) (A : Atoms 𝓤) (W : Given
         assigns ! (bin ! (lit ! tt) (load ! (from ! (stop !)) (look ! 27 refl)) tt) (from ! (stop !)) (init ! 15 refl (tt, tt)) $
         goes-on ! (load ! (from ! (stop !)) (look ! 15 refl))
         -- refused: both slices are given up as they are
-        (λ past. let ans : Answer = numbered e (ca .last) in let made = LL.owes An.the-type An′.the-laws ans ((refl, ie .1), ((refl, LL.owed K.the-type K′.the-laws ca _ gc .1 .1 .1 .1 .0 .1), tt)) in
-        assigns ! (agg ! (and-then ! (load ! (from ! (stop !)) (look ! 27 refl)) (and-then ! (load ! (from ! (fld ! refl (stop !))) (look-in ! 31 (sub ! 4 refl (whole !)))) (no-more !)))) (from ! (stop !)) (init ! 39 refl (LL.lawful An.the-type An′.the-laws 𝓤 H A W .typed ans _ made .0)) $
+        (λ past.
+        assigns ! (of-opd ! (load ! (from ! (stop !)) (look ! 27 refl))) (from ! (stop !)) (init ! 39 refl (tt, record { fits = ie .1 })) $
         returns-within ! Post refl (look ! 39 refl) $ forget ! 15 refl $ forget ! 17 refl $ forget ! 19 refl $ forget ! 27 refl $ forget ! 29 refl $ forget ! 31 refl $
         forget ! 33 refl $ forget ! 35 refl $ forget ! 37 refl $ forget ! 39 refl $ move ! (39 ∷ 40 ∷ []) $ free1 ! $ move ! (37 ∷ 38 ∷ []) $ free1 ! $
         move ! (35 ∷ 36 ∷ []) $ free1 ! $ move ! (33 ∷ 34 ∷ []) $ free1 ! $ move ! (31 ∷ 32 ∷ []) $ free1 ! $ move ! (29 ∷ 30 ∷ []) $ free1 ! $ move ! (27 ∷ 28 ∷ []) $
@@ -237,17 +234,17 @@ module _ {M : Type 1} (𝓤 : URA M) (H : Heap 𝓤) (A : Atoms 𝓤) (W : Given
         free1 ! $ move ! (7 ∷ 8 ∷ []) $ free1 ! $ move ! (5 ∷ 6 ∷ []) $ free1 ! $ free0 ! $
         use1 W (‵ (finally R (x .name) ys)) (gives-up 𝓤 H A W R κ (x .name) ys) $ move ! (4 ∷ []) $ fsplit ! $ drop ! $ fsplit ! $
         use1 W (‵ (finally u64 (u .name) ws)) (gives-up 𝓤 H A W u64 κ′ (u .name) ws) $ move ! (4 ∷ 5 ∷ []) $ join ! $ keep ! (0 ∷ 3 ∷ 1 ∷ []) $
-        by ! (exits ans ys ws made refl refl (refused e ge past)))
+        by ! (exits e ys ws (refl, ie .1) refl refl (refused e ge past)))
         -- not refused
         (λ below. let within = allowed e ge below in let fits = fits-index bytes i (length ys) within (room .1) in let i-fits = LL.owed K.the-type K′.the-laws ca _ gc .1 .0 .1 in
         assigns ! (of-opd ! (load ! (from ! (fld ! refl (stop !))) (look-in ! 31 (sub ! 1 refl (whole !))))) (from ! (stop !)) (init ! 25 refl (tt, record { fits = i-fits })) $
         assigns ! (bin ! (load ! (from ! (stop !)) (look ! 25 refl)) (lit ! tt) (record { fits = fits })) (from ! (stop !)) (store ! 19 refl (tt, record { fits = fits })) $
         assigns ! (bin ! (load ! (from ! (fld ! refl (stop !))) (look-in ! 37 (sub ! 0 refl (whole !)))) (load ! (from ! (stop !)) (look ! 19 refl)) tt) (from ! (stop !)) (init ! 13 refl (tt, tt)) $
         rewrite ! 13 (λ (p : ℕ). ‵ (fat fullShare tyPtr l₁₃ 0 (vptr b p))) (sym (place-is bytes o i)) refl $ opens-slice ! tt R ys b o $
-        elem-out ! R (Is R) (shows 𝓤 H A R) (LL.vals Rec.the-type Rec′.the-laws) (LL.tells Rec.the-type Rec′.the-laws) fullShare ys i (idleWith 0) b o within (λ g.
-        -- [records[i]; what it owns; the others; the open borrow; obs; auth; the words' token; what the words own; _17; …]
-        assigns ! (of-opd ! (load ! (from ! (hop ! (look ! 16 refl) (stop !))) (look-raw ! 0 refl))) (from ! (stop !)) (init ! 14 refl (LL.lawful Rec.the-type Rec′.the-laws 𝓤 H A W .typed elem _ g .0)) $
-        assigns ! (of-opd ! (load ! (from ! (stop !)) (look ! 14 refl))) (from ! (stop !)) (init ! 26 refl (LL.lawful Rec.the-type Rec′.the-laws 𝓤 H A W .typed elem _ g .0)) $
+        elem-out ! R (Is R) (shows 𝓤 H A R) (LL.vals Cl.the-type Cl′.the-laws) (LL.tells Cl.the-type Cl′.the-laws) fullShare ys i idleClient b o within (λ g.
+        -- [clients[i]; what it owns; the others; the open borrow; obs; auth; the words' token; what the words own; _17; …]
+        assigns ! (of-opd ! (load ! (from ! (hop ! (look ! 16 refl) (stop !))) (look-raw ! 0 refl))) (from ! (stop !)) (init ! 14 refl (LL.lawful Cl.the-type Cl′.the-laws 𝓤 H A W .typed elem _ g .0)) $
+        assigns ! (of-opd ! (load ! (from ! (stop !)) (look ! 14 refl))) (from ! (stop !)) (init ! 26 refl (LL.lawful Cl.the-type Cl′.the-laws 𝓤 H A W .typed elem _ g .0)) $
         assigns ! (addr ! (from ! (fld ! refl (hop ! (look-in ! 38 (sub ! 0 refl (whole !))) (stop !))))) (from ! (stop !)) (init ! 12 refl (tt, tt)) $
         assigns ! (agg ! (and-then ! (load ! (from ! (stop !)) (look ! 12 refl)) (and-then ! (load ! (from ! (fld ! refl (stop !))) (look-in ! 38 (sub ! 1 refl (whole !)))) (no-more !)))) (from ! (stop !)) (init ! 10 refl (tt, (tt, (record { fits = room′ .0 }, tt)))) $
         move ! (6 ∷ 7 ∷ []) $ use2 W (raw (Callee 𝓤 H A mem run .pre to)) (goes g) $
@@ -259,19 +256,18 @@ module _ {M : Type 1} (𝓤 : URA M) (H : Heap 𝓤) (A : Atoms 𝓤) (W : Given
         pick ! (λ vs.
         split ! $ move ! (1 ∷ []) $ split ! $ heard ! (r ≡ next) (λ h. heard ! (vs .1 .0 ≡ after) (λ h′. fsplit ! $ drop ! $ fsplit ! $ fsplit ! $ move ! (1 ∷ []) $
         feqL ! (λ l. move ! (1 ∷ []) $ drop ! $ move ! (1 ∷ []) $ split ! $ move ! (1 ∷ []) $
-        -- [the result; the words' token; the words' last list; records[i]; what it owns; the others; the open borrow; obs; auth; _17; …]
+        -- [the result; the words' token; the words' last list; clients[i]; what it owns; the others; the open borrow; obs; auth; _17; …]
         peeks ! RS (Is RS) (shows 𝓤 H A RS) r (w ∷ []) (λ is. let parts = LL.owed S.the-type S′.the-laws r _ is in
         land ! (from ! (stop !)) (init ! 25 refl (LL.lawful S.the-type S′.the-laws 𝓤 H A W .typed r _ is .0)) $
         rewrite ! 25 (λ (z : Val). ‵ (fat fullShare S′.mir l₉ 0 z)) (ap only (LL.tells S.the-type S′.the-laws r (w ∷ []) is)) refl $ drop ! $
         assigns ! (bin ! (load ! (from ! (stop !)) (look ! 28 refl)) (lit ! tt) (record { fits = fits })) (from ! (stop !)) (store ! 20 refl (tt, record { fits = fits })) $
         assigns ! (bin ! (load ! (from ! (fld ! refl (stop !))) (look-in ! 40 (sub ! 0 refl (whole !)))) (load ! (from ! (stop !)) (look ! 20 refl)) tt) (from ! (stop !)) (init ! 8 refl (tt, tt)) $
         rewrite ! 8 (λ (p : ℕ). ‵ (fat fullShare tyPtr l₁₇ 0 (vptr b p))) (sym (place-is bytes o i)) refl $
-        assigns ! (of-opd ! (load ! (from ! (fld ! refl (stop !))) (look-in ! 24 (sub ! 2 refl (whole !))))) (from ! (hop ! (look ! 8 refl) (stop !))) (store-raw ! 2 refl (LL.lawful Rec.the-type Rec′.the-laws 𝓤 H A W .typed (r .next) _ (parts .1 .1 .0) .0)) $
-        move ! (3 ∷ []) $ drop ! $ owned ! R (Is R) ((LL.makes Rec.the-type Rec′.the-plain) 𝓤 H A) (r .next) _ (parts .1 .1 .0) $ move ! (3 ∷ 0 ∷ 4 ∷ []) $
-        elem-put ! R fullShare ys i (r .next) (Rec′.lowered (r .next) ∷ []) b o within $ move ! (0 ∷ 3 ∷ 4 ∷ 5 ∷ []) $
+        assigns ! (of-opd ! (load ! (from ! (fld ! refl (stop !))) (look-in ! 24 (sub ! 1 refl (whole !))))) (from ! (hop ! (look ! 8 refl) (stop !))) (store-raw ! 2 refl (LL.lawful Cl.the-type Cl′.the-laws 𝓤 H A W .typed (r .next) _ (parts .1 .0) .0)) $
+        move ! (3 ∷ []) $ drop ! $ owned ! R (Is R) ((LL.makes Cl.the-type Cl′.the-plain) 𝓤 H A) (r .next) _ (parts .1 .0) $ move ! (3 ∷ 0 ∷ 4 ∷ []) $
+        elem-put ! R fullShare ys i (r .next) (Cl′.lowered (r .next) ∷ []) b o within $ move ! (0 ∷ 3 ∷ 4 ∷ 5 ∷ []) $
         closes-slice ! tt R ys (set ys i (r .next)) (length-set ys i (r .next)) b o $
-        let ans : Answer = answeredOf r in let made = LL.owes An.the-type An′.the-laws ans ((refl, parts .0 .1), ((refl, parts .1 .0 .1), tt)) in
-        assigns ! (agg ! (and-then ! (load ! (from ! (fld ! refl (stop !))) (look-in ! 21 (sub ! 0 refl (whole !)))) (and-then ! (load ! (from ! (fld ! refl (stop !))) (look-in ! 21 (sub ! 1 refl (whole !)))) (no-more !)))) (from ! (stop !)) (init ! 39 refl (LL.lawful An.the-type An′.the-laws 𝓤 H A W .typed ans _ made .0)) $
+        assigns ! (of-opd ! (load ! (from ! (fld ! refl (stop !))) (look-in ! 21 (sub ! 0 refl (whole !))))) (from ! (stop !)) (init ! 39 refl (tt, record { fits = parts .0 .1 })) $
         returns ! (look ! 39 refl) $ forget ! 5 refl $ forget ! 7 refl $ forget ! 9 refl $ forget ! 11 refl $ forget ! 13 refl $ forget ! 15 refl $ forget ! 17 refl $
         forget ! 19 refl $ forget ! 21 refl $ forget ! 23 refl $ forget ! 25 refl $ forget ! 27 refl $ forget ! 29 refl $ forget ! 31 refl $ forget ! 33 refl $
         forget ! 35 refl $ forget ! 37 refl $ forget ! 39 refl $ move ! (39 ∷ 40 ∷ []) $ free1 ! $ move ! (37 ∷ 38 ∷ []) $ free1 ! $ move ! (35 ∷ 36 ∷ []) $ free1 ! $
@@ -280,7 +276,7 @@ module _ {M : Type 1} (𝓤 : URA M) (H : Heap 𝓤) (A : Atoms 𝓤) (W : Given
         move ! (15 ∷ 16 ∷ []) $ free1 ! $ move ! (13 ∷ 14 ∷ []) $ free1 ! $ move ! (11 ∷ 12 ∷ []) $ free1 ! $ move ! (9 ∷ 10 ∷ []) $ free1 ! $ move ! (7 ∷ 8 ∷ []) $
         free1 ! $ move ! (5 ∷ 6 ∷ []) $ free1 ! $ free0 ! $
         use1 W (‵ (finally R (x .name) (set ys i (r .next)))) (gives-up 𝓤 H A W R κ (x .name) (set ys i (r .next))) $ move ! (2 ∷ 3 ∷ []) $ join ! $ keep ! (0 ∷ 1 ∷ 3 ∷ []) $
-        by ! (exits ans (set ys i (r .next)) (vs .1 .0) made (length-set ys i (r .next)) l (taken e r (vs .1 .0) ge below h h′)))))))))))))))))))))))))))))))))
+        by ! (exits (r .number) (set ys i (r .next)) (vs .1 .0) (refl, parts .0 .1) (length-set ys i (r .next)) l (taken e r (vs .1 .0) ge below h h′)))))))))))))))))))))))))))))))))
 
 table-act-meets : {M : Type 1} (𝓤 : URA M) (H : Heap 𝓤) (A : Atoms 𝓤) → Given 𝓤 H A → (mem : Memory → SProp 𝓤) (run : Routine → Fun 𝓤) (𝓣 : Tables 𝓤 H)
     → Triple 𝓤 (𝓣 .C #cause) (Checked 𝓤 H A mem run) → Triple 𝓤 (𝓣 .C #callee) (Callee 𝓤 H A mem run)
@@ -302,4 +298,4 @@ table-act-spec 𝓤 H 𝓜 𝓖 𝓡 =
     (tables 𝓤 H 𝓜 𝓡 code.env .C) (tables 𝓤 H 𝓜 𝓡 code.env .Λ) #this code.function (code.unfolded 𝓤 H 𝓜 𝓡)
     (table-act-meets 𝓤 H (𝓖 .A) (givenOf 𝓤 H 𝓜 𝓖) (𝓜 .mem) (𝓡 .run) (tablesOf 𝓤 H 𝓜 (tables 𝓤 H 𝓜 𝓡 code.env))
     (cited 𝓤 H (Checked 𝓤 H (𝓖 .A) (𝓜 .mem) (𝓡 .run)) 𝓜 𝓡 code.env #cause cause-def.routine code.calls-table·causes·table-cause (cause-thm.met 𝓤 H 𝓜 𝓖 𝓡))
-    (cited 𝓤 H (Callee 𝓤 H (𝓖 .A) (𝓜 .mem) (𝓡 .run)) 𝓜 𝓡 code.env #callee callee-def.routine code.calls-lock·Record·act (callee-thm.met 𝓤 H 𝓜 𝓖 𝓡)))
+    (cited 𝓤 H (Callee 𝓤 H (𝓖 .A) (𝓜 .mem) (𝓡 .run)) 𝓜 𝓡 code.env #callee callee-def.routine code.calls-lock·Client·act (callee-thm.met 𝓤 H 𝓜 𝓖 𝓡)))

@@ -55,55 +55,55 @@ both-none (t ∷ ts) us h = one-none (t .0) (t .1) (firstCause (ts ++ us)) (firs
 
 -- ---- causes 1 to 3
 
-module _ (s : Settings) (words records n : ℕ) (t : TreeTested s words n) where
-  pub opening-tree : (n ≡ 0 → ⊥) → n ≡ openingNumber s words records
+module _ (s : Settings) (words clients n : ℕ) (t : TreeTested s words n) where
+  pub opening-tree : (n ≡ 0 → ⊥) → n ≡ openingNumber s words clients
   unfolding openingNumber
   opening-tree d = sym (t .refused d _)
 
   module _ (z : n ≡ 0) where
-    pub opening-clients : clientsOutside records ≡ true → 3 ≡ openingNumber s words records
+    pub opening-clients : clientsOutside clients ≡ true → 3 ≡ openingNumber s words clients
     unfolding openingNumber
-    opening-clients e = sym (tree-passed s words _ (t .settings z) (t .count-right z) ∙ cause-hit (clientsOutside records) 3 [] e)
+    opening-clients e = sym (tree-passed s words _ (t .settings z) (t .count-right z) ∙ cause-hit (clientsOutside clients) 3 [] e)
 
-    pub opening-passed : clientsOutside records ≡ false → 0 ≡ openingNumber s words records
+    pub opening-passed : clientsOutside clients ≡ false → 0 ≡ openingNumber s words clients
     unfolding openingNumber firstCause
-    opening-passed e = sym (tree-passed s words _ (t .settings z) (t .count-right z) ∙ cause-skip (clientsOutside records) 3 [] e)
+    opening-passed e = sym (tree-passed s words _ (t .settings z) (t .count-right z) ∙ cause-skip (clientsOutside clients) 3 [] e)
 
 -- ---- causes 1 to 4
 
-module _ (s : Settings) (words records client : ℕ) where
+module _ (s : Settings) (words clients client : ℕ) where
   -- the chain of 1 to 3, and the test of 4 behind it
   abbrev opening-tests : Tests
-  opening-tests = treeTests s words ++ ((clientsOutside records, 3) ∷ [])
+  opening-tests = treeTests s words ++ ((clientsOutside clients, 3) ∷ [])
 
   abbrev client-test : Tests
-  client-test = (leb records client, 4) ∷ []
+  client-test = (leb clients client, 4) ∷ []
 
-  pub table-opening : (openingNumber s words records ≡ 0 → ⊥) → openingNumber s words records ≡ tableCause s words records client
+  pub table-opening : (openingNumber s words clients ≡ 0 → ⊥) → openingNumber s words clients ≡ tableCause s words clients client
   unfolding openingNumber tableCause treeTests clientTests
   table-opening d = sym (first-hits opening-tests client-test d)
 
-  behind-opening : openingNumber s words records ≡ 0 → tableCause s words records client ≡ firstCause client-test
+  behind-opening : openingNumber s words clients ≡ 0 → tableCause s words clients client ≡ firstCause client-test
   unfolding openingNumber tableCause treeTests clientTests
   behind-opening z = first-passes opening-tests client-test ((λ e. omega (arith, e)), ((λ e. omega (arith, e)), ((λ e. omega (arith, e)), tt))) z
 
-  pub table-client : openingNumber s words records ≡ 0 → records ≤ client → 4 ≡ tableCause s words records client
+  pub table-client : openingNumber s words clients ≡ 0 → clients ≤ client → 4 ≡ tableCause s words clients client
   unfolding firstCause
-  table-client z h = sym (behind-opening z ∙ choose-le records client 4 0 h)
+  table-client z h = sym (behind-opening z ∙ choose-le clients client 4 0 h)
 
-  pub table-passed : openingNumber s words records ≡ 0 → client < records → 0 ≡ tableCause s words records client
+  pub table-passed : openingNumber s words clients ≡ 0 → client < clients → 0 ≡ tableCause s words clients client
   unfolding firstCause
-  table-passed z h = sym (behind-opening z ∙ choose-gt records client 4 0 h)
+  table-passed z h = sym (behind-opening z ∙ choose-gt clients client 4 0 h)
 
   four-none : (b : Bool) → firstCause ((b, 4) ∷ []) ≡ 0 → T (not b)
   unfolding firstCause choose
   four-none true h = absurd (omega (arith, h))
   four-none false h = tt
 
-  opening-none-of : tableCause s words records client ≡ 0 → openingNumber s words records ≡ 0
+  opening-none-of : tableCause s words clients client ≡ 0 → openingNumber s words clients ≡ 0
   unfolding openingNumber tableCause treeTests clientTests
   opening-none-of z = both-none opening-tests client-test z
 
   -- a client that passed
-  pub client-below : tableCause s words records client ≡ 0 → client < records
-  client-below z = nleb→lt records client (four-none (leb records client) (sym (behind-opening (opening-none-of z)) ∙ z))
+  pub client-below : tableCause s words clients client ≡ 0 → client < clients
+  client-below z = nleb→lt clients client (four-none (leb clients client) (sym (behind-opening (opening-none-of z)) ∙ z))

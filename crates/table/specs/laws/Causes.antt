@@ -5,4 +5,4 @@ use Rattle.lock.specs.declared.Settings.{Settings}
 use Rattle.lock.specs.rules.Calls.{firstCause, treeTests, clientTests}
 
 unfoldable pub tableCause : Settings → ℕ → ℕ → ℕ → ℕ
-tableCause s words records client = firstCause (treeTests s words ++ clientTests records client)
+tableCause s words clients client = firstCause (treeTests s words ++ clientTests clients client)

@@ -46,7 +46,7 @@ all-notified-requires c κs =
     let q = c .before .before .before .before .pre in
     let v = q .1 .nodes (a .self .current) (q .1 .exists) in
     let m = a .settings .distance in
-    (pieced-kept (a .self) _ (q .1) refl refl refl, q .3)
+    (q .0, pieced-kept (a .self) _ (q .1) refl refl refl, q .3)
 
 returns-2 : tie.Need-returns-2
 returns-2 c =

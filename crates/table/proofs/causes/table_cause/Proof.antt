@@ -12,19 +12,19 @@ returns : tie.Need-returns
 returns c =
     let a = c .before .before .args in
     let e = c .before .opening-cause .ensures in
-    e ∙ table-opening (a .settings) (a .words) (a .records) (a .client) (λ z. c .if1 .taken (e ∙ z))
+    e ∙ table-opening (a .settings) (a .words) (a .clients) (a .client) (λ z. c .if1 .taken (e ∙ z))
 
 returns-2 : tie.Need-returns-2
 returns-2 c =
     let a = c .before .before .before .args in
     let e = c .before .before .opening-cause .ensures in
-    table-client (a .settings) (a .words) (a .records) (a .client) (sym e ∙ c .before .if1 .left) (c .if2 .taken)
+    table-client (a .settings) (a .words) (a .clients) (a .client) (sym e ∙ c .before .if1 .left) (c .if2 .taken)
 
 returns-3 : tie.Need-returns-3
 returns-3 c =
     let a = c .before .before .before .args in
     let e = c .before .before .opening-cause .ensures in
-    table-passed (a .settings) (a .words) (a .records) (a .client) (sym e ∙ c .before .if1 .left) (c .if2 .left)
+    table-passed (a .settings) (a .words) (a .clients) (a .client) (sym e ∙ c .before .if1 .left) (c .if2 .left)
 
 pub table-cause-spec : {M : Type 1} → statement M
 table-cause-spec = tie.close (tie.spec opening-cause-requires returns returns-2 returns-3)

@@ -1,0 +1,221 @@
+-- What is known beside a state of moments: those at which the clients' noted times were read, and what is supposed of the rest of the history; and that every call keeps it so.
+-- Only this part of the invariant rests on a supposition. Assumes nothing.
+use mathlib.Core.Path.{_≡_, refl, sym, ap, subst, _∙_}
+use mathlib.Core.Logic.{_≢_, _⊎_, inl, ⊎-elim}
+use mathlib.Core.List.{List, _∷_}
+use Prim.Native.Nat.{ℕ, suc, _≤_, _<_}
+use native.Mathlib.Omega.{arith}
+use lib.Dec.{eqb}
+use lib.ListN.{length, getD, set}
+use Rattle.base.specs.rules.Choice.{choose}
+use Rattle.base.specs.laws.ChoiceLaws.{choose-eq, choose-ne}
+use Rattle.base.specs.laws.Sum.{on-set}
+use Rattle.tree.specs.rules.Tree.{level}
+use Rattle.lock.specs.declared.Record.{Record}
+use Rattle.lock.specs.declared.Settings.{Settings}
+use Rattle.lock.specs.rules.Records.{currentPiece}
+use Rattle.lock.specs.rules.Table.{step}
+use Rattle.lock.specs.rules.History.{Event, StepAt}
+use Rattle.lock.specs.rules.Readings.{NotSlow, NotFast}
+use Rattle.lock.specs.claim.InnerWords.{nobody}
+use Rattle.lock.specs.claim.Parts.{Parts, recordIn}
+use Rattle.lock.specs.claim.Stage.{passing, checked-stage}
+use Rattle.lock.specs.claim.Timed.{Timed, Timely, Read, timed-later, parentRead, claimRead, parent-kept, claim-kept, claim-now, timed-above, timed-below}
+use Rattle.lock.specs.claim.Onward.{Unclaimed}
+use Rattle.lock.specs.claim.Invariant.{Invariant}
+
+-- of the client c with the record r, whose t0 was read at the moment m0 and whose t1 at m1, where it has noted them, and of its steps in the rest of the history
+pub record Noted (s : Settings) (r : Record) (m0 m1 present : ℕ) (rest : List Event) (found reading : ℕ → ℕ) (c : ℕ) : Type 0 where
+  pub past : passing r ≢ 0 → m1 ≤ present
+  pub not-slow : passing r ≢ 0 → (j u : ℕ) → StepAt rest j c u → found j ≡ 6 → NotSlow (s .wait) (r .t1) u m1 (reading j)
+  pub not-fast : 6 ≤ r .phase → r .phase ≤ 7 → level (currentPiece r) ≢ s .levels → (j u : ℕ) → StepAt rest j c u → found j ≡ 7 → NotFast (s .wait) (r .t0) u m0 (reading j)
+
+-- `found j` is the phase in which the call at place j of the rest finds its client's record
+pub record Timing (s : Settings) (st : Parts) (rest : List Event) (found touch reading : ℕ → ℕ) : Type 0 where
+  -- the moments at which each client's t0 and t1 were read, and that of the last touch
+  pub claim : ℕ → ℕ
+  pub parent : ℕ → ℕ
+  pub present : ℕ
+  pub later : (j d u : ℕ) → StepAt rest j d u → present ≤ touch j
+  pub noted : (c : ℕ) → Noted s (recordIn st c) (claim c) (parent c) present rest found reading c
+  pub timed : (c d : ℕ) → c ≢ d → Timed s (recordIn st c) (recordIn st d) (claim c) (parent d) present
+
+-- a record that has claimed nothing is above nobody
+pub timed-none : (s : Settings) (q : Record) → Unclaimed q → (b : Record) (m0 m1 present : ℕ) → Timed s q b m0 m1 present
+timed-none s q none b m0 m1 present = record {
+  claims = λ x y. absurd (omega (arith, none .phase x));
+  waits = λ i x y. absurd (omega (arith, none .stage i (omega arith)));
+  checks = λ i j k l x. let z = checked-stage s q i (omega arith) in absurd (omega (arith, z .0, z .1, none .stage i (omega (arith, z .0))));
+}
+
+-- ---- a number for each client, of which one changes
+
+unfoldable changed : ℕ → ℕ → (ℕ → ℕ) → ℕ → ℕ
+changed c x f d = choose (eqb d c) x (f d)
+
+changed-own : (c x : ℕ) (f : ℕ → ℕ) (d : ℕ) → d ≡ c → changed c x f d ≡ x
+unfolding changed
+changed-own c x f d e = choose-eq d c x (f d) e
+
+changed-other : (c x : ℕ) (f : ℕ → ℕ) (d : ℕ) → d ≢ c → changed c x f d ≡ f d
+unfolding changed
+changed-other c x f d n = choose-ne d c x (f d) n
+
+-- ---- the rest of a history after its first event
+
+module _ (s : Settings) (e : Event) (rest : List Event) (found touch reading : ℕ → ℕ) where
+  abbrev found′ : ℕ → ℕ
+  found′ i = found (suc i)
+
+  abbrev touch′ : ℕ → ℕ
+  touch′ i = touch (suc i)
+
+  abbrev reading′ : ℕ → ℕ
+  reading′ i = reading (suc i)
+
+  noted-later : (r : Record) (m0 m1 present now c : ℕ) → present ≤ now → Noted s r m0 m1 present (e ∷ rest) found reading c → Noted s r m0 m1 now rest found′ reading′ c
+  unfolding StepAt
+  noted-later r m0 m1 present now c l v = record {
+    past = λ d. omega (arith, v .past d);
+    not-slow = λ d j. v .not-slow d (suc j);
+    not-fast = λ a b d j. v .not-fast a b d (suc j);
+  }
+
+  module _ (st : Parts) (v : Timing s st (e ∷ rest) found touch reading) where
+    -- a refused call
+    pub timing-refused : Timing s st rest found′ touch′ reading′
+    unfolding StepAt
+    timing-refused = record {
+      claim = v .claim;
+      parent = v .parent;
+      present = v .present;
+      later = λ j. v .later (suc j);
+      noted = λ c. noted-later (recordIn st c) (v .claim c) (v .parent c) (v .present) (v .present) c (omega arith) (v .noted c);
+      timed = v .timed;
+    }
+
+    module _ (c : ℕ) (client : c < length (st .records)) (q : Record) (words : List ℕ) (clock : ℕ → ℕ) where
+      abbrev rs : List Record
+      rs = st .records
+
+      abbrev r : Record
+      r = recordIn st c
+
+      abbrev after : Parts
+      after = record { words = words; records = set rs c q; clock = clock }
+
+      -- ---- a call after which nothing is claimed and no ancestor passed: a request, a release or a cancel
+
+      module _ (none : Unclaimed q) where
+        below-none : (a : Record) (m0 m1 present : ℕ) → Timed s a q m0 m1 present
+        below-none a m0 m1 present = record {
+          claims = λ x y p. absurd (omega (arith, none .none, p .clear, p .above .higher));
+          waits = λ i x y p. absurd (omega (arith, none .none, p .clear, p .above .higher));
+          checks = λ i j k l x y z. absurd (omega (arith, none .stage j (omega arith)));
+        }
+
+        pub timing-unclaimed : Timing s after rest found′ touch′ reading′
+        timing-unclaimed =
+            let w = timing-refused in
+            record {
+              claim = w .claim;
+              parent = w .parent;
+              present = w .present;
+              later = w .later;
+              noted = λ d. on-set (λ y. Noted s y (w .claim d) (w .parent d) (w .present) rest found′ reading′ d) rs c d q nobody client
+                  (λ i. record {
+                    past = λ n. absurd (n (none .none));
+                    not-slow = λ n. absurd (n (none .none));
+                    not-fast = λ a b. absurd (omega (arith, none .phase a));
+                  }) (λ i. w .noted d);
+              timed = λ a b n.
+                  on-set (λ y. Timed s y (getD (set rs c q) b nobody) (w .claim a) (w .parent b) (w .present)) rs c a q nobody client
+                  (λ i. timed-none s q none (getD (set rs c q) b nobody) (w .claim a) (w .parent b) (w .present))
+                  (λ i. on-set (λ y. Timed s (getD rs a nobody) y (w .claim a) (w .parent b) (w .present)) rs c b q nobody client
+                  (λ j. below-none (getD rs a nobody) (w .claim a) (w .parent b) (w .present)) (λ j. w .timed a b n));
+            }
+
+      -- ---- a step
+
+      module _ (inv : Invariant s st) (now : ℕ) (time : Timely s rs nobody r q now) (at : (e .number ≡ 0) × (e .made ≡ step c now))
+          (order : (j d u : ℕ) → StepAt rest j d u → touch 0 ≤ touch (suc j)) (is : found 0 ≡ r .phase)
+          (not-slow : (j u : ℕ) → StepAt rest j c u → r .phase ≡ 3 → found (suc j) ≡ 6 → NotSlow (s .wait) now u (reading 0) (reading (suc j)))
+          (not-fast : (j u : ℕ) → StepAt rest j c u → r .phase ≡ 5 → found (suc j) ≡ 7 → NotFast (s .wait) now u (reading 0) (reading (suc j)))
+          (read-first : (r .phase ≡ 3) ⊎ (r .phase ≡ 7) → reading 0 ≤ touch 0) (touched-first : (r .phase ≡ 5) ⊎ (r .phase ≡ 6) → touch 0 ≤ reading 0) where
+        abbrev m0 : ℕ
+        m0 = v .claim c
+
+        abbrev m1 : ℕ
+        m1 = v .parent c
+
+        onward : v .present ≤ touch 0
+        unfolding StepAt
+        onward = v .later 0 c now at
+
+        read : Read s r now m0 m1 (touch 0) (reading 0)
+        unfolding StepAt
+        read = record {
+          read-first = read-first;
+          touched-first = touched-first;
+          not-slow = λ d p. v .noted c .not-slow d 0 now at (is ∙ p);
+          not-fast = λ inner p. v .noted c .not-fast (omega arith) (omega arith) inner 0 now at (is ∙ p);
+        }
+
+        abbrev claim′ : ℕ → ℕ
+        claim′ = changed c (claimRead r m0 (reading 0)) (v .claim)
+
+        abbrev parent′ : ℕ → ℕ
+        parent′ = changed c (parentRead r m1 (reading 0)) (v .parent)
+
+        -- what the client has noted, before the step or at it
+        own-noted : Noted s q (claimRead r m0 (reading 0)) (parentRead r m1 (reading 0)) (touch 0) rest found′ reading′ c
+        unfolding StepAt
+        own-noted =
+            let kept : passing r ≢ 0 → parentRead r m1 (reading 0) ≡ m1 = parent-kept r m1 (reading 0) in
+            let old = v .noted c in
+            let was : passing q ≢ 0 → passing q ≤ passing r → passing r ≢ 0 = λ n b z. n (omega arith) in
+            let on-parent : (P : ℕ → ℕ → Type 0) → passing q ≢ 0 → (passing r ≢ 0 → P (r .t1) m1) → (r .phase ≡ 3 → P now (reading 0)) → P (q .t1) (parentRead r m1 (reading 0)) = λ P n f g.
+            ⊎-elim
+            (λ z. absurd (n z))
+            (λ k. ⊎-elim
+            (λ o. let d = was n (o .0) in rw (o .1, kept d) (f d))
+            (λ o. ⊎-elim
+            (λ z. rw (z .1, kept (z .0)) (f (z .0)))
+            (λ z. rw (z .2, choose-eq (passing r) 0 (reading 0) m1 (z .0)) (g (z .1))) (o .1)) (k .1))
+            (time .passes) in
+            record {
+              past = λ n. on-parent (λ t m. m ≤ touch 0) n (λ d. omega (arith, old .past d, onward)) (λ z. read-first (inl z));
+              not-slow = λ n j u a f. on-parent (λ t m. NotSlow (s .wait) t u m (reading (suc j))) n (λ d. old .not-slow d (suc j) u a f) (λ z. not-slow j u a z f);
+              not-fast = λ a b inner j u z f. ⊎-elim
+                  (λ o. rw (o .2, claim-kept r m0 (reading 0) (o .0) (o .1)) (old .not-fast (o .0) (o .1) (λ l. inner (ap level (o .3) ∙ l)) (suc j) u z f))
+                  (λ o. ⊎-elim (λ y. rw (y .1, claim-now r m0 (reading 0) (y .0)) (not-fast j u z (y .0) f)) (λ l. absurd (inner l)) o) (time .claims a b);
+            }
+
+        two-timed : (a b : ℕ) → a ≢ b → Timed s (getD (set rs c q) a nobody) (getD (set rs c q) b nobody) (claim′ a) (parent′ b) (touch 0)
+        two-timed a b n =
+            on-set (λ y. Timed s y (getD (set rs c q) b nobody) (claim′ a) (parent′ b) (touch 0)) rs c a q nobody client
+            (λ i. on-set (λ y. Timed s q y (claim′ a) (parent′ b) (touch 0)) rs c b q nobody client
+            (λ j. absurd (n (i ∙ sym j)))
+            (λ j. rw (changed-own c (claimRead r m0 (reading 0)) (v .claim) a i, changed-other c (parentRead r m1 (reading 0)) (v .parent) b j)
+            (timed-above s (inv .settled) rs nobody r q now m0 m1 (v .present) (touch 0) (reading 0) onward time read (recordIn st b) (st .clock b) (v .parent b) (inv .fit b) (v .noted b .past)
+            (λ x z. z b) (v .timed c b (λ k. j (sym k))))))
+            (λ i. on-set (λ y. Timed s (getD rs a nobody) y (claim′ a) (parent′ b) (touch 0)) rs c b q nobody client
+            (λ j. rw (changed-other c (claimRead r m0 (reading 0)) (v .claim) a i, changed-own c (parentRead r m1 (reading 0)) (v .parent) b j)
+            (timed-below s (inv .settled) rs nobody r q now m0 m1 (v .present) (touch 0) (reading 0) onward time read (recordIn st a) (st .clock a) (v .claim a) (inv .fit a) (λ x z. z a)
+            (v .timed a c i)))
+            (λ j. rw (changed-other c (claimRead r m0 (reading 0)) (v .claim) a i, changed-other c (parentRead r m1 (reading 0)) (v .parent) b j)
+            (timed-later s (recordIn st a) (recordIn st b) (v .claim a) (v .parent b) (v .present) (touch 0) onward (v .timed a b n))))
+
+        pub timing-stepped : Timing s after rest found′ touch′ reading′
+        timing-stepped = record {
+          claim = claim′;
+          parent = parent′;
+          present = touch 0;
+          later = order;
+          noted = λ d. on-set (λ y. Noted s y (claim′ d) (parent′ d) (touch 0) rest found′ reading′ d) rs c d q nobody client
+              (λ i. subst (λ (x : ℕ). Noted s q (claim′ x) (parent′ x) (touch 0) rest found′ reading′ x) (sym i)
+              (rw (changed-own c (claimRead r m0 (reading 0)) (v .claim) c refl, changed-own c (parentRead r m1 (reading 0)) (v .parent) c refl) own-noted))
+              (λ i. rw (changed-other c (claimRead r m0 (reading 0)) (v .claim) d i, changed-other c (parentRead r m1 (reading 0)) (v .parent) d i)
+              (noted-later (recordIn st d) (v .claim d) (v .parent d) (v .present) (touch 0) d onward (v .noted d)));
+          timed = two-timed;
+        }
