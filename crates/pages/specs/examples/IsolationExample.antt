@@ -1,5 +1,6 @@
--- Examples, closed by computing: tables of readable records, each left by a history of two clients. In two of them the other client has another window and another phase, the run's record
--- and the number of clients in phase 9 are the same, and so is the run's page. In the third the other client holds too: that number differs, and so does the page. Assumes nothing.
+-- Examples, closed by computing: tables of readable records, each left by a history of two clients. In two of them the other client has another window, another phase and another clock, the
+-- run's clock and record and the number of clients in phase 9 are the same, and so is the run's page. In the third the other client holds too: that number differs, and so does the page.
+-- Assumes nothing.
 use mathlib.Core.Path.{_≡_, refl, sym, ap, _∙_}
 use mathlib.Core.Bool.{false}
 use mathlib.Core.List.{List, [], _∷_, _++_}
@@ -13,16 +14,16 @@ use Rattle.tree.specs.rules.Lists.{upward, ancestors, ancestor, notifies, notif
 use Rattle.cover.specs.rules.Cover.{part, over, total, rank}
 use Rattle.cover.specs.rules.Search.{before, lesser, behind, leastOf, rest, search, found, leastCover}
 use Rattle.cover.specs.rules.Answer.{levelsOutside, windowOutside}
-use Rattle.lock.specs.rules.Records.{phaseOf, pieces, pieceAt, isLeaf, gripOf, noticesOf, wordAt, written, idleWith}
+use Rattle.lock.specs.rules.Records.{phaseOf, pieces, pieceAt, isLeaf, gripOf, noticesOf, wordAt, written, idleClient}
 use Rattle.lock.specs.rules.Unreadable.{numberTooLarge, idleFilled, notCovered, noCurrent, ticketTooLarge, fieldsWrong, listLength, placePast, noticesWrong, timeAhead, phaseElsewhere, heldEarly, outcomeWrong, lacksGrip, givingWrong, outOfPatienceFirst, takenFirst, unreadable}
-use Rattle.lock.specs.rules.Steps.{touchedIn, startPhase, begin, firstNoted, taken, ticketTaken, turnAwaited, goUp, climbed, unblocked, bitsClaimed, occClaimed, allNotified, noticeGiven, waited, checkPassed, pieceReturned, wordReturned, turnReturned, claimPiece, returnBits, returnInner, giveBack, movedIn, outOfPatience}
+use Rattle.lock.specs.rules.Steps.{touchedIn, startPhase, begin, firstNoted, taken, ticketTaken, turnAwaited, goUp, climbed, unblocked, bitsClaimed, occClaimed, late, allNotified, noticeGiven, waited, checkPassed, pieceReturned, wordReturned, turnReturned, claimPiece, returnBits, returnInner, giveBack, movedIn, outOfPatience}
 use Rattle.lock.specs.rules.Calls.{firstCause, settingsOutside, treeTests, clientsOutside, clientTests, requestTests, stepTests, releaseTests, cancelTests, requested, released, cancelled}
-use Rattle.lock.specs.rules.Table.{Call, request, step, clientOf, recordAt, ownTests, numberOf, after, call, openingNumber, opened, opening}
-use Rattle.lock.specs.declared.Record.{Record}
+use Rattle.lock.specs.rules.Table.{Call, request, step, clientOf, clientAt, ownTests, numberOf, after, call, openingNumber, opened, opening}
+use Rattle.lock.specs.declared.Client.{Client}
 use Rattle.lock.specs.rules.History.{run}
 use Rattle.lock.specs.examples.HistoryExample.{settings, fresh}
 use Rattle.pages.specs.declared.RunPage.{RunPage}
-use Rattle.pages.specs.rules.Pages.{anyUnreadable, inPhase9, heldCount, ownRecord, runTests, runNumber, runPage}
+use Rattle.pages.specs.rules.Pages.{anyUnreadable, inPhase9, heldCount, ownClient, runTests, runNumber, runPage}
 use Rattle.pages.specs.laws.Isolation.{isolation}
 
 -- ---- the histories, with H 3, m 1, T 5, P 20 and two clients
@@ -31,48 +32,48 @@ use Rattle.pages.specs.laws.Isolation.{isolation}
 abbrev taking : List Call
 taking = request 0 0 64 ∷ step 0 1 ∷ step 0 1 ∷ step 0 1 ∷ step 0 1 ∷ step 0 1 ∷ []
 
--- client 1 climbs from the leaf 10; it has a ticket of the inner node 4; it holds the leaf 10
+-- client 1 climbs from the leaf 10; it has a ticket of the inner node 4, by a clock that is far ahead; it holds the leaf 10
 abbrev climbing : List Call
 climbing = taking ++ (request 1 300 310 ∷ step 1 1 ∷ [])
 
 abbrev ticketed : List Call
-ticketed = taking ++ (request 1 512 768 ∷ step 1 1 ∷ [])
+ticketed = taking ++ (request 1 512 768 ∷ step 1 900 ∷ [])
 
 abbrev holding : List Call
 holding = climbing ++ (step 1 1 ∷ step 1 1 ∷ step 1 1 ∷ step 1 1 ∷ [])
 
--- the records that a history leaves; its last clock is 1
-abbrev pub table : List Call → List Record
-table calls = run settings fresh calls .records
+-- the clients that a history leaves
+abbrev pub table : List Call → List Client
+table calls = run settings fresh calls .clients
 
 -- the run's page of them
 abbrev pub seen : List Call → RunPage
-seen calls = runPage settings (table calls) 1 0
+seen calls = runPage settings (table calls) 0
 
--- phase and window of the other client
-abbrev pub other : List Record → List ℕ
-other records = let r = getD records 1 (idleWith 0) in r .phase ∷ r .left ∷ r .right ∷ []
+-- clock, phase and window of the other client
+abbrev pub other : List Client → List ℕ
+other clients = let c = getD clients 1 idleClient in let r = c .«record» in c .clock ∷ r .phase ∷ r .left ∷ r .right ∷ []
 
 -- ---- what comes out of them
 
 computed :
-    (anyUnreadable settings (table climbing) 1 ≡ false) × (anyUnreadable settings (table ticketed) 1 ≡ false) × (anyUnreadable settings (table holding) 1 ≡ false)
-    × (other (table climbing) ≡ 3 ∷ 300 ∷ 310 ∷ []) × (other (table ticketed) ≡ 2 ∷ 512 ∷ 768 ∷ []) × (other (table holding) ≡ 9 ∷ 300 ∷ 310 ∷ [])
-    × (length (table climbing) ≡ length (table ticketed)) × (ownRecord (table climbing) 0 ≡ ownRecord (table ticketed) 0) × (heldCount (table climbing) ≡ heldCount (table ticketed))
-    × (ownRecord (table climbing) 0 ≡ ownRecord (table holding) 0)
+    (anyUnreadable settings (table climbing) ≡ false) × (anyUnreadable settings (table ticketed) ≡ false) × (anyUnreadable settings (table holding) ≡ false)
+    × (other (table climbing) ≡ 1 ∷ 3 ∷ 300 ∷ 310 ∷ []) × (other (table ticketed) ≡ 900 ∷ 2 ∷ 512 ∷ 768 ∷ []) × (other (table holding) ≡ 1 ∷ 9 ∷ 300 ∷ 310 ∷ [])
+    × (length (table climbing) ≡ length (table ticketed)) × (ownClient (table climbing) 0 ≡ ownClient (table ticketed) 0) × (heldCount (table climbing) ≡ heldCount (table ticketed))
+    × (ownClient (table climbing) 0 ≡ ownClient (table holding) 0)
     × (seen climbing .number ≡ 0) × (seen climbing .held ≡ 1) × (seen holding .number ≡ 0) × (seen holding .held ≡ 2)
-    × (run settings fresh climbing .clock ≡ 1) × (run settings fresh ticketed .clock ≡ 1) × (run settings fresh holding .clock ≡ 1)
-unfolding run call numberOf after ownTests recordAt clientOf opening openingNumber opened firstCause settingsOutside treeTests clientsOutside clientTests requestTests stepTests releaseTests cancelTests requested released cancelled touchedIn startPhase begin firstNoted taken ticketTaken turnAwaited goUp climbed unblocked bitsClaimed occClaimed allNotified noticeGiven waited checkPassed pieceReturned wordReturned turnReturned claimPiece returnBits returnInner giveBack movedIn numberTooLarge idleFilled notCovered noCurrent ticketTooLarge fieldsWrong listLength placePast noticesWrong timeAhead phaseElsewhere heldEarly outcomeWrong lacksGrip givingWrong outOfPatienceFirst takenFirst unreadable phaseOf pieces pieceAt isLeaf gripOf noticesOf wordAt written levelsOutside windowOutside lesser behind leastOf rest search found leastCover before part over total rank upward ancestors ancestor notifies notifiedFrom notifyLevels notifyList row descendants nearest checkList climb leftmost first level levelWithin size left units holder wordCount field putField addField matches replaced maskedSwap leafBits wantedBits takeBits giveBits returnOcc choose anyUnreadable inPhase9 heldCount runTests runNumber runPage outOfPatience
-computed = (refl, refl, refl, refl, refl, refl, refl, refl, refl, refl, refl, refl, refl, refl, refl, refl, refl)
+    × (ownClient (table climbing) 0 .clock ≡ 1)
+unfolding run call numberOf after ownTests clientAt clientOf opening openingNumber opened firstCause settingsOutside treeTests clientsOutside clientTests requestTests stepTests releaseTests cancelTests requested released cancelled touchedIn startPhase begin firstNoted taken ticketTaken turnAwaited goUp climbed unblocked bitsClaimed occClaimed late allNotified noticeGiven waited checkPassed pieceReturned wordReturned turnReturned claimPiece returnBits returnInner giveBack movedIn numberTooLarge idleFilled notCovered noCurrent ticketTooLarge fieldsWrong listLength placePast noticesWrong timeAhead phaseElsewhere heldEarly outcomeWrong lacksGrip givingWrong outOfPatienceFirst takenFirst unreadable phaseOf pieces pieceAt isLeaf gripOf noticesOf wordAt written levelsOutside windowOutside lesser behind leastOf rest search found leastCover before part over total rank upward ancestors ancestor notifies notifiedFrom notifyLevels notifyList row descendants nearest checkList climb leftmost first level levelWithin size left units holder wordCount field putField addField matches replaced maskedSwap leafBits wantedBits takeBits giveBits returnOcc choose anyUnreadable inPhase9 heldCount runTests runNumber runPage outOfPatience
+computed = (refl, refl, refl, refl, refl, refl, refl, refl, refl, refl, refl, refl, refl, refl, refl)
 
 -- ---- the same page of tables that differ, and pages that differ
 
 pub same-page : (seen climbing .number ≡ 0) × (seen climbing ≡ seen ticketed) × (table climbing ≡ table ticketed → ⊥)
 same-page = (
   computed .10,
-  isolation settings (table climbing) (table ticketed) 1 0 (computed .6) (computed .7) (computed .8),
+  isolation settings (table climbing) (table ticketed) 0 (computed .6) (ap (λ (c : Client). c .clock) (computed .7)) (ap (λ (c : Client). c .«record») (computed .7)) (computed .8),
   λ e. omega (arith, ap (λ (l : List ℕ). getD l 0 0) (sym (computed .3) ∙ ap other e ∙ computed .4)),
 )
 
-pub other-page : (seen holding .number ≡ 0) × (ownRecord (table climbing) 0 ≡ ownRecord (table holding) 0) × (seen climbing ≡ seen holding → ⊥)
+pub other-page : (seen holding .number ≡ 0) × (ownClient (table climbing) 0 ≡ ownClient (table holding) 0) × (seen climbing ≡ seen holding → ⊥)
 other-page = (computed .12, computed .9, λ e. omega (arith, sym (computed .11) ∙ ap (λ (p : RunPage). p .held) e ∙ computed .13))

@@ -13,14 +13,14 @@ use Rattle.cover.specs.rules.Search.{before, lesser, behind, leastOf, rest, sea
 use Rattle.cover.specs.rules.Answer.{levelsOutside, windowOutside}
 use Rattle.lock.specs.rules.Records.{phaseOf, pieces, pieceAt, isLeaf, gripOf, noticesOf, wordAt, written}
 use Rattle.lock.specs.rules.Unreadable.{numberTooLarge, idleFilled, notCovered, noCurrent, ticketTooLarge, fieldsWrong, listLength, placePast, noticesWrong, timeAhead, phaseElsewhere, heldEarly, outcomeWrong, lacksGrip, givingWrong, outOfPatienceFirst, takenFirst, unreadable}
-use Rattle.lock.specs.rules.Steps.{touchedIn, startPhase, firstNoted, taken, ticketTaken, turnAwaited, goUp, climbed, bitsClaimed, occClaimed, allNotified, noticeGiven, claimPiece, movedIn, outOfPatience}
+use Rattle.lock.specs.rules.Steps.{touchedIn, startPhase, firstNoted, taken, ticketTaken, turnAwaited, goUp, climbed, bitsClaimed, occClaimed, late, allNotified, noticeGiven, claimPiece, movedIn, outOfPatience}
 use Rattle.lock.specs.rules.Calls.{firstCause, settingsOutside, treeTests, clientsOutside, clientTests, requestTests, stepTests, requested}
-use Rattle.lock.specs.rules.Table.{State, clientOf, recordAt, ownTests, numberOf, after, call, openingNumber, opened, opening}
+use Rattle.lock.specs.rules.Table.{State, clientOf, clientAt, ownTests, numberOf, after, call, openingNumber, opened, opening}
 use Rattle.lock.specs.rules.History.{run}
 use Rattle.lock.specs.examples.HistoryExample.{settings as wide}
 use Rattle.lock.specs.examples.WholeCase.{settings, lent, calls}
 use Rattle.pages.specs.declared.Row.{Row}
-use Rattle.pages.specs.rules.Pages.{rowOf, anyUnreadable, plannersTests, plannersNumber, page, plannersPage}
+use Rattle.pages.specs.rules.Pages.{rowOf, rowsOf, anyUnreadable, plannersTests, plannersNumber, page, plannersPage}
 
 -- after call 7: client 0 holds [10, 20), and client 1 waits for [0, 256)
 abbrev moment : State
@@ -33,9 +33,9 @@ row-with p l r f c o = record { phase = p; left = l; right = r; first = f; secon
 abbrev old : Row
 old = row-with 11 12 13 14 15 16
 
-pub planners-whole-case : (plannersPage settings (moment .records) (moment .clock) (old ∷ old ∷ []) ≡ page 0 (row-with 9 10 20 2 0 0 ∷ row-with 7 0 256 1 0 0 ∷ []))
-    × (plannersPage settings (moment .records) (moment .clock) (old ∷ []) ≡ page 2 (old ∷ []))
-unfolding plannersPage plannersNumber plannersTests anyUnreadable rowOf run call numberOf after ownTests recordAt clientOf opening openingNumber opened firstCause settingsOutside treeTests clientsOutside clientTests requestTests stepTests requested touchedIn startPhase firstNoted taken ticketTaken turnAwaited goUp climbed bitsClaimed occClaimed allNotified noticeGiven claimPiece movedIn numberTooLarge idleFilled notCovered noCurrent ticketTooLarge fieldsWrong listLength placePast noticesWrong timeAhead phaseElsewhere heldEarly outcomeWrong lacksGrip givingWrong outOfPatienceFirst takenFirst unreadable phaseOf pieces pieceAt isLeaf gripOf noticesOf wordAt written levelsOutside windowOutside lesser behind leastOf rest search found leastCover before part over total rank upward ancestors ancestor notifies notifiedFrom notifyLevels notifyList climb leftmost first level levelWithin size left units holder wordCount field putField addField matches replaced maskedSwap leafBits wantedBits takeBits choose outOfPatience
+pub planners-whole-case : (plannersPage settings (moment .clients) (old ∷ old ∷ []) ≡ page 0 (row-with 9 10 20 2 0 0 ∷ row-with 7 0 256 1 0 0 ∷ []))
+    × (plannersPage settings (moment .clients) (old ∷ []) ≡ page 2 (old ∷ []))
+unfolding plannersPage plannersNumber plannersTests anyUnreadable rowsOf rowOf run call numberOf after ownTests clientAt clientOf opening openingNumber opened firstCause settingsOutside treeTests clientsOutside clientTests requestTests stepTests requested touchedIn startPhase firstNoted taken ticketTaken turnAwaited goUp climbed bitsClaimed occClaimed late allNotified noticeGiven claimPiece movedIn numberTooLarge idleFilled notCovered noCurrent ticketTooLarge fieldsWrong listLength placePast noticesWrong timeAhead phaseElsewhere heldEarly outcomeWrong lacksGrip givingWrong outOfPatienceFirst takenFirst unreadable phaseOf pieces pieceAt isLeaf gripOf noticesOf wordAt written levelsOutside windowOutside lesser behind leastOf rest search found leastCover before part over total rank upward ancestors ancestor notifies notifiedFrom notifyLevels notifyList climb leftmost first level levelWithin size left units holder wordCount field putField addField matches replaced maskedSwap leafBits wantedBits takeBits choose outOfPatience
 planners-whole-case = (refl, refl)
 
 -- "H = 3 for covers": "[0, 129) node 2, over-cover 127"

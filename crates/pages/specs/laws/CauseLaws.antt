@@ -18,65 +18,65 @@ use Rattle.pages.specs.laws.Causes.{plannersCause, runCause}
 
 -- ---- planners: 1, 2, 3
 
-module _ (s : Settings) (rows records : ℕ) where
-  pub planners-settings : settingsOutside s ≡ true → 1 ≡ plannersCause s rows records
+module _ (s : Settings) (rows clients : ℕ) where
+  pub planners-settings : settingsOutside s ≡ true → 1 ≡ plannersCause s rows clients
   unfolding plannersCause
   planners-settings e = sym (cause-hit (settingsOutside s) 1 _ e)
 
   module _ (e : settingsOutside s ≡ false) where
-    pub planners-rows : (rows ≡ records → ⊥) → 2 ≡ plannersCause s rows records
+    pub planners-rows : (rows ≡ clients → ⊥) → 2 ≡ plannersCause s rows clients
     unfolding plannersCause
-    planners-rows d = sym (cause-skip (settingsOutside s) 1 _ e ∙ cause-hit (differ rows records) 2 _ (ap not (ne-eqb rows records d)))
+    planners-rows d = sym (cause-skip (settingsOutside s) 1 _ e ∙ cause-hit (differ rows clients) 2 _ (ap not (ne-eqb rows clients d)))
 
-    module _ (f : rows ≡ records) where
-      behind-rows : plannersCause s rows records ≡ firstCause ((clientsOutside records, 3) ∷ [])
+    module _ (f : rows ≡ clients) where
+      behind-rows : plannersCause s rows clients ≡ firstCause ((clientsOutside clients, 3) ∷ [])
       unfolding plannersCause
-      behind-rows = cause-skip (settingsOutside s) 1 _ e ∙ cause-skip (differ rows records) 2 _ (ap not (eq-eqb rows records f))
+      behind-rows = cause-skip (settingsOutside s) 1 _ e ∙ cause-skip (differ rows clients) 2 _ (ap not (eq-eqb rows clients f))
 
-      pub planners-clients : clientsOutside records ≡ true → 3 ≡ plannersCause s rows records
-      planners-clients g = sym (behind-rows ∙ cause-hit (clientsOutside records) 3 [] g)
+      pub planners-clients : clientsOutside clients ≡ true → 3 ≡ plannersCause s rows clients
+      planners-clients g = sym (behind-rows ∙ cause-hit (clientsOutside clients) 3 [] g)
 
-      pub planners-passed : clientsOutside records ≡ false → 0 ≡ plannersCause s rows records
+      pub planners-passed : clientsOutside clients ≡ false → 0 ≡ plannersCause s rows clients
       unfolding firstCause
-      planners-passed g = sym (behind-rows ∙ cause-skip (clientsOutside records) 3 [] g)
+      planners-passed g = sym (behind-rows ∙ cause-skip (clientsOutside clients) 3 [] g)
 
   -- none of them: the settings are within their ranges, and there is a row for each client
-  pub planners-tested : plannersCause s rows records ≡ 0 → Settled s × (rows ≡ records)
+  pub planners-tested : plannersCause s rows clients ≡ 0 → Settled s × (rows ≡ clients)
   unfolding plannersCause
   planners-tested z =
-      let a = test-passed (settingsOutside s) 1 ((differ rows records, 2) ∷ (clientsOutside records, 3) ∷ []) (omega arith) z in
-      let b = test-passed (differ rows records) 2 ((clientsOutside records, 3) ∷ []) (omega arith) (a .1) in
-      (settled s (a .0), same-number rows records (b .0))
+      let a = test-passed (settingsOutside s) 1 ((differ rows clients, 2) ∷ (clientsOutside clients, 3) ∷ []) (omega arith) z in
+      let b = test-passed (differ rows clients) 2 ((clientsOutside clients, 3) ∷ []) (omega arith) (a .1) in
+      (settled s (a .0), same-number rows clients (b .0))
 
 -- ---- a run: 1, 3, 4
 
-module _ (s : Settings) (records client : ℕ) where
-  pub run-settings : settingsOutside s ≡ true → 1 ≡ runCause s records client
+module _ (s : Settings) (clients client : ℕ) where
+  pub run-settings : settingsOutside s ≡ true → 1 ≡ runCause s clients client
   unfolding runCause
   run-settings e = sym (cause-hit (settingsOutside s) 1 _ e)
 
   module _ (e : settingsOutside s ≡ false) where
-    pub run-clients : clientsOutside records ≡ true → 3 ≡ runCause s records client
+    pub run-clients : clientsOutside clients ≡ true → 3 ≡ runCause s clients client
     unfolding runCause clientTests
-    run-clients f = sym (cause-skip (settingsOutside s) 1 _ e ∙ cause-hit (clientsOutside records) 3 _ f)
+    run-clients f = sym (cause-skip (settingsOutside s) 1 _ e ∙ cause-hit (clientsOutside clients) 3 _ f)
 
-    module _ (f : clientsOutside records ≡ false) where
-      behind-clients : runCause s records client ≡ firstCause ((leb records client, 4) ∷ [])
+    module _ (f : clientsOutside clients ≡ false) where
+      behind-clients : runCause s clients client ≡ firstCause ((leb clients client, 4) ∷ [])
       unfolding runCause clientTests
-      behind-clients = cause-skip (settingsOutside s) 1 _ e ∙ cause-skip (clientsOutside records) 3 _ f
+      behind-clients = cause-skip (settingsOutside s) 1 _ e ∙ cause-skip (clientsOutside clients) 3 _ f
 
-      pub run-client : records ≤ client → 4 ≡ runCause s records client
-      run-client h = sym (behind-clients ∙ cause-hit (leb records client) 4 [] (le-leb records client h))
+      pub run-client : clients ≤ client → 4 ≡ runCause s clients client
+      run-client h = sym (behind-clients ∙ cause-hit (leb clients client) 4 [] (le-leb clients client h))
 
-      pub run-passed : client < records → 0 ≡ runCause s records client
+      pub run-passed : client < clients → 0 ≡ runCause s clients client
       unfolding firstCause
-      run-passed h = sym (behind-clients ∙ cause-skip (leb records client) 4 [] (lt-leb records client h))
+      run-passed h = sym (behind-clients ∙ cause-skip (leb clients client) 4 [] (lt-leb clients client h))
 
   -- none of them: the settings are within their ranges, and the client is in the table
-  pub run-tested : runCause s records client ≡ 0 → Settled s × (client < records)
+  pub run-tested : runCause s clients client ≡ 0 → Settled s × (client < clients)
   unfolding runCause clientTests
   run-tested z =
-      let a = test-passed (settingsOutside s) 1 ((clientsOutside records, 3) ∷ (leb records client, 4) ∷ []) (omega arith) z in
-      let b = test-passed (clientsOutside records) 3 ((leb records client, 4) ∷ []) (omega arith) (a .1) in
-      let c = test-passed (leb records client) 4 [] (omega arith) (b .1) in
-      (settled s (a .0), leb-false records client (c .0))
+      let a = test-passed (settingsOutside s) 1 ((clientsOutside clients, 3) ∷ (leb clients client, 4) ∷ []) (omega arith) z in
+      let b = test-passed (clientsOutside clients) 3 ((leb clients client, 4) ∷ []) (omega arith) (a .1) in
+      let c = test-passed (leb clients client) 4 [] (omega arith) (b .1) in
+      (settled s (a .0), leb-false clients client (c .0))

@@ -6,7 +6,7 @@ use Rattle.lock.specs.rules.Unreadable.{differ}
 use Rattle.lock.specs.rules.Calls.{firstCause, settingsOutside, clientsOutside, clientTests}
 
 unfoldable pub plannersCause : Settings → ℕ → ℕ → ℕ
-plannersCause s rows records = firstCause ((settingsOutside s, 1) ∷ (differ rows records, 2) ∷ (clientsOutside records, 3) ∷ [])
+plannersCause s rows clients = firstCause ((settingsOutside s, 1) ∷ (differ rows clients, 2) ∷ (clientsOutside clients, 3) ∷ [])
 
 unfoldable pub runCause : Settings → ℕ → ℕ → ℕ
-runCause s records client = firstCause ((settingsOutside s, 1) ∷ clientTests records client)
+runCause s clients client = firstCause ((settingsOutside s, 1) ∷ clientTests clients client)

@@ -11,6 +11,7 @@ use Rattle.cover.specs.declared.Answer.{Answer}
 use Rattle.cover.specs.rules.Cover.{total}
 use Rattle.cover.specs.rules.Answer.{accepted, answer}
 use Rattle.cover.specs.laws.Code.{window-covered, levels-right, window-right}
+use Rattle.lock.specs.declared.Client.{Client}
 use Rattle.lock.specs.declared.Record.{Record}
 use Rattle.lock.specs.declared.Settings.{Settings}
 use Rattle.lock.specs.rules.Records.{pieces}
@@ -41,10 +42,11 @@ module _ (s : Settings) (r : Record) (last : ℕ) (v : Settled s) (u : unreadabl
       ap (λ (n : ℕ). record { phase = r .phase; left = r .left; right = r .right; first = r .first; second = r .second; over = n }) (ap (λ (x : Answer). x .over) e ∙ over-is)
       ∙ sym (choose-ne (r .phase) 0 _ _ d)
 
--- ---- none of the records is unreadable
+-- ---- none of the clients' records is unreadable
 
-pub each-readable : (s : Settings) (rs : List Record) (last : ℕ) → anyUnreadable s rs last ≡ false → (i : ℕ) (d : Record) → i < length rs → unreadable s (getD rs i d) last ≡ false
+pub each-readable : (s : Settings) (cs : List Client) → anyUnreadable s cs ≡ false → (i : ℕ) (d : Client) → i < length cs
+    → unreadable s (getD cs i d .«record») (getD cs i d .clock) ≡ false
 unfolding anyUnreadable
-each-readable s [] last e i d b = absurd (not-suc-le-zero b)
-each-readable s (r ∷ rs) last e zero d b = both-false (unreadable s r last) _ e .0
-each-readable s (r ∷ rs) last e (suc i) d b = each-readable s rs last (both-false (unreadable s r last) _ e .1) i d (le-of-suc-le-suc b)
+each-readable s [] e i d b = absurd (not-suc-le-zero b)
+each-readable s (c ∷ cs) e zero d b = both-false (unreadable s (c .«record») (c .clock)) _ e .0
+each-readable s (c ∷ cs) e (suc i) d b = each-readable s cs (both-false (unreadable s (c .«record») (c .clock)) _ e .1) i d (le-of-suc-le-suc b)

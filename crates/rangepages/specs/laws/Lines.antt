@@ -1,4 +1,4 @@
--- Laws: lines written one after another, a line for each record of a list. Assumes nothing.
+-- Laws: lines written one after another, a line for each client of a list. Assumes nothing.
 use mathlib.Core.Path.{_≡_, sym, ap, _∙_}
 use mathlib.Core.List.{List, [], _∷_, _++_, append-assoc, append-nil}
 use Prim.Native.Nat.{ℕ, zero, suc, _+_, _≤_, _<_}
@@ -6,6 +6,7 @@ use native.Mathlib.Numerals.{add-one}
 use native.Mathlib.Omega.{arith}
 use lib.ListN.{length, getD, take}
 use lib.Seq.{take-all}
+use Rattle.lock.specs.declared.Client.{Client}
 use Rattle.lock.specs.declared.Record.{Record}
 use Rattle.schedule.specs.rules.Text.{text, spaced}
 use Rattle.schedule.specs.laws.Appended.{Appended, nothing, joined, restated}
@@ -23,31 +24,31 @@ currentText r held =
 -- ---- line after line
 
 module _ (line : ℕ → Record → List ℕ) where
-  pub line-suc : (c i : ℕ) (rs : List Record) (d : Record) → i < length rs → lineEach line c (take i rs) ++ line (c + i) (getD rs i d) ≡ lineEach line c (take (suc i) rs)
+  pub line-suc : (n i : ℕ) (cs : List Client) (d : Client) → i < length cs → lineEach line n (take i cs) ++ line (n + i) (getD cs i d .«record») ≡ lineEach line n (take (suc i) cs)
   unfolding lineEach
-  line-suc c i [] d b = absurd (omega arith)
-  line-suc c zero (r ∷ rs) d b = ap (λ (n : ℕ). line n r) (let e : c + 0 ≡ c = omega arith in e) ∙ sym (append-nil (line c r))
-  line-suc c (suc i) (r ∷ rs) d b =
-      append-assoc (line c r) (lineEach line (suc c) (take i rs)) _
-      ∙ ap (λ (n : ℕ). line c r ++ (lineEach line (suc c) (take i rs) ++ line n (getD rs i d))) (let e : c + suc i ≡ suc c + i = omega arith in e)
-      ∙ ap (λ (l : List ℕ). line c r ++ l) (line-suc (suc c) i rs d (omega arith))
+  line-suc n i [] d b = absurd (omega arith)
+  line-suc n zero (c ∷ cs) d b = ap (λ (m : ℕ). line m (c .«record»)) (let e : n + 0 ≡ n = omega arith in e) ∙ sym (append-nil (line n (c .«record»)))
+  line-suc n (suc i) (c ∷ cs) d b =
+      append-assoc (line n (c .«record»)) (lineEach line (suc n) (take i cs)) _
+      ∙ ap (λ (m : ℕ). line n (c .«record») ++ (lineEach line (suc n) (take i cs) ++ line m (getD cs i d .«record»))) (let e : n + suc i ≡ suc n + i = omega arith in e)
+      ∙ ap (λ (l : List ℕ). line n (c .«record») ++ l) (line-suc (suc n) i cs d (omega arith))
 
-  module _ (rs : List Record) (old : List ℕ) (at : ℕ) where
+  module _ (cs : List Client) (old : List ℕ) (at : ℕ) where
     -- the lines of the first clients are written
     abbrev pub Lined : List ℕ → ℕ → ℕ → Type 0
-    Lined out end client = Appended old at out end (lineEach line 0 (take client rs))
+    Lined out end client = Appended old at out end (lineEach line 0 (take client cs))
 
     pub lined-none : at ≤ length old → Lined old at 0
     unfolding lineEach
     lined-none b = nothing old at b
 
-    pub lined-more : (out new : List ℕ) (end more client : ℕ) (d : Record) → Lined out end client → client < length rs → Appended out end new more (line client (getD rs client d))
-        → Lined new more (client + 1)
+    pub lined-more : (out new : List ℕ) (end more client : ℕ) (d : Client) → Lined out end client → client < length cs
+        → Appended out end new more (line client (getD cs client d .«record»)) → Lined new more (client + 1)
     lined-more out new end more client d v b a =
         restated
-        (ap (λ (n : ℕ). lineEach line 0 (take client rs) ++ line n (getD rs client d)) (let e : client ≡ 0 + client = omega arith in e)
-        ∙ line-suc 0 client rs d b ∙ ap (λ (n : ℕ). lineEach line 0 (take n rs)) (sym (add-one client)))
+        (ap (λ (n : ℕ). lineEach line 0 (take client cs) ++ line n (getD cs client d .«record»)) (let e : client ≡ 0 + client = omega arith in e)
+        ∙ line-suc 0 client cs d b ∙ ap (λ (n : ℕ). lineEach line 0 (take n cs)) (sym (add-one client)))
         (joined v a)
 
-    pub lined-all : (out : List ℕ) (end client : ℕ) → Lined out end client → length rs ≤ client → Appended old at out end (lineEach line 0 rs)
-    lined-all out end client v b = restated (ap (lineEach line 0) (take-all client rs b)) v
+    pub lined-all : (out : List ℕ) (end client : ℕ) → Lined out end client → length cs ≤ client → Appended old at out end (lineEach line 0 cs)
+    lined-all out end client v b = restated (ap (lineEach line 0) (take-all client cs b)) v

@@ -10,9 +10,10 @@ use Rattle.base.specs.laws.ChoiceLaws.{on-choose}
 use Rattle.base.specs.laws.Sum.{getD-past}
 use Rattle.tree.specs.rules.Tree.{wordCount}
 use Rattle.lock.specs.declared.Call.{Call as CallStruct}
+use Rattle.lock.specs.declared.Client.{Client}
 use Rattle.lock.specs.declared.Record.{Record}
 use Rattle.lock.specs.declared.Settings.{Settings}
-use Rattle.lock.specs.rules.Records.{idleWith}
+use Rattle.lock.specs.rules.Records.{idleClient}
 use Rattle.lock.specs.rules.Table.{State, Out, call, openingNumber, opened, opening}
 use Rattle.lock.specs.rules.History.{run}
 use Rattle.lock.specs.rules.ByValue.{callOf}
@@ -23,29 +24,31 @@ use Rattle.schedule.specs.rules.Running.{openingIn, afterCalls}
 use Rattle.schedule.specs.laws.FormatLaws.{CallRead, call-read}
 use Rattle.schedule.specs.laws.ShelfLaws.{take-replicate, empty-front}
 
--- the records of a run's clients
-abbrev pub recordsOf : Run → List Record
-recordsOf made = take (made .clients) (made .shelf .records)
+-- the clients of a run
+abbrev pub clientsOf : Run → List Client
+clientsOf made = take (made .clients) (made .shelf .clients)
 
--- the table that its calls are made on: these, the words that are lent beside them, and the last clock
+-- the table that its calls are made on: these, and the words that are lent beside them
 abbrev pub stateOf : Run → List ℕ → State
-stateOf made words = lent (recordsOf made) words (made .clock)
+stateOf made words = lent (clientsOf made) words
 
--- a client's record in a run, of a client past its table an idle one
+-- a client in a run, past its table an idle one; and that client's record
+abbrev pub clientIn : Run → ℕ → Client
+clientIn made client = getD (clientsOf made) client idleClient
+
 abbrev pub recordIn : Run → ℕ → Record
-recordIn made client = getD (recordsOf made) client (idleWith 0)
+recordIn made client = clientIn made client .«record»
 
-pub front-record : (l : List Record) (clients client : ℕ) → client < clients → getD l client (idleWith 0) ≡ getD (take clients l) client (idleWith 0)
-front-record l clients client b = sym (getD-take clients l client (idleWith 0) b)
+pub front-client : (l : List Client) (clients client : ℕ) → client < clients → getD l client idleClient ≡ getD (take clients l) client idleClient
+front-client l clients client b = sym (getD-take clients l client idleClient b)
 
-pub no-record : (l : List Record) (clients client : ℕ) → clients ≤ client → idleWith 0 ≡ getD (take clients l) client (idleWith 0)
-no-record l clients client b = sym (getD-past (take clients l) client (idleWith 0) (omega (arith, length-take clients l)))
+pub no-client : (l : List Client) (clients client : ℕ) → clients ≤ client → idleClient ≡ getD (take clients l) client idleClient
+no-client l clients client b = sym (getD-past (take clients l) client idleClient (omega (arith, length-take clients l)))
 
 -- ---- one call: call k of the file, as the code has read it
 
-pub call-made : (s : Settings) (records : List Record) (words bytes : List ℕ) (k last : ℕ) (c : CallStruct) → CallRead bytes k last c
-    → call s (lent records words (c .last)) (callOf (c .kind) (c .client) (c .a) (c .b)) ≡ call s (lent records words last) (callIn bytes k)
-call-made s records words bytes k last c r = ap₂ (call s) (ap (lent records words) (r .clock)) (call-read bytes k last c r)
+pub call-made : (s : Settings) (st : State) (bytes : List ℕ) (k : ℕ) (c : CallStruct) → CallRead bytes k c → call s st (callOf (c .kind) (c .client) (c .a) (c .b)) ≡ call s st (callIn bytes k)
+call-made s st bytes k c r = ap (call s st) (call-read bytes k c r)
 
 -- ---- the opening: a fresh table is lent to it, and that is also what it leaves, accepted or refused
 
@@ -53,19 +56,19 @@ pub opening-number : (s : Settings) (clients words n : ℕ) → words ≡ wordCo
 unfolding opening lentFor
 opening-number s clients words n e f =
     f ∙ ap (λ (w : ℕ). openingNumber s w clients) (e ∙ sym (length-replicate (wordCount (s .levels)) 0))
-    ∙ ap (openingNumber s (length (lentFor s clients .words))) (sym (length-replicate clients (idleWith 0)))
+    ∙ ap (openingNumber s (length (lentFor s clients .words))) (sym (length-replicate clients idleClient))
 
 opening-fresh : (s : Settings) (clients : ℕ) → opening s (lentFor s clients) .state ≡ lentFor s clients
 unfolding opening opened lentFor
 opening-fresh s clients =
     let left : opened (lentFor s clients) ≡ lentFor s clients
-    = ap₂ (λ (records words : ℕ). lent (replicate records (idleWith 0)) (replicate words 0) 0) (length-replicate clients (idleWith 0)) (length-replicate (wordCount (s .levels)) 0) in
+    = ap₂ (λ (count words : ℕ). lent (replicate count idleClient) (replicate words 0)) (length-replicate clients idleClient) (length-replicate (wordCount (s .levels)) 0) in
     on-choose (λ (st : State). st ≡ lentFor s clients) (eqb (opening s (lentFor s clients) .number) 0) _ _ (λ _. left) (λ _. refl)
 
 -- ---- before the first call
 
 abbrev pub freshRun : ℕ → Run
-freshRun clients = record { shelf = record { records = replicate 64 (idleWith 0) }; clients = clients; clock = 0 }
+freshRun clients = record { shelf = record { clients = replicate 64 idleClient }; clients = clients }
 
 -- as many of the words as the tree has
 pub tree-words : (l : List ℕ) (n : ℕ) → l ≡ replicate 1365 0 → n ≤ 1365 → take n l ≡ replicate n 0
@@ -75,7 +78,7 @@ tree-words l n e b = ap (take n) e ∙ take-replicate n 1365 0 b
 fresh-state : (s : Settings) (clients : ℕ) (words : List ℕ) → clients ≤ 64 → words ≡ replicate (wordCount (s .levels)) 0
     → stateOf (freshRun clients) words ≡ opening s (lentFor s clients) .state
 unfolding lentFor
-fresh-state s clients words b e = ap₂ (λ (records : List Record) (w : List ℕ). lent records w 0) (empty-front clients b) e ∙ sym (opening-fresh s clients)
+fresh-state s clients words b e = ap₂ lent (empty-front clients b) e ∙ sym (opening-fresh s clients)
 
 module _ (bytes : List ℕ) (s : Settings) (clients : ℕ) (e : s ≡ settingsIn bytes) (f : clients ≡ clientsIn bytes) where
   -- as the code has settings, clients, run and words

@@ -1,4 +1,5 @@
--- The calls of a file are a history of demand 3: after them, and after each beginning of them, no two clients hold windows that overlap. Assumes nothing.
+-- The calls of a file are a history of demand 3: after them, and after each beginning of them, no two clients hold windows that overlap, if their accepted steps have true moments
+-- (request 2.3). Assumes nothing.
 use mathlib.Core.Path.{_≡_, refl}
 use mathlib.Core.List.{List, _∷_, _++_}
 use Prim.Native.Nat.{ℕ, suc}

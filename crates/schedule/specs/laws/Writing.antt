@@ -4,9 +4,10 @@ use mathlib.Core.List.{List, _++_, append-assoc, append-nil}
 use Prim.Native.Nat.{ℕ, suc, _+_, _-_, _*_, _≤_, _<_}
 use native.Mathlib.Omega.{arith}
 use lib.ListN.{length, take}
+use Rattle.lock.specs.declared.Client.{Client}
 use Rattle.lock.specs.declared.Record.{Record}
 use Rattle.lock.specs.declared.Settings.{Settings}
-use Rattle.lock.specs.rules.Table.{State, Call, clientOf, recordAt, Out, call}
+use Rattle.lock.specs.rules.Table.{State, Call, clientOf, clientAt, recordAt, Out, call}
 use Rattle.table.specs.rules.Lent.{result}
 use Rattle.schedule.specs.declared.Made.{Made}
 use Rattle.schedule.specs.declared.Run.{Run}
@@ -17,7 +18,7 @@ use Rattle.schedule.specs.rules.Log.{kindText, headerLine, line, lines, 
 use Rattle.schedule.specs.rules.Text.{text, decimal, spaced}
 use Rattle.schedule.specs.laws.Appended.{Appended}
 use Rattle.schedule.specs.laws.WellFormed.{WellFormed}
-use Rattle.schedule.specs.laws.RunLaws.{recordsOf, stateOf, recordIn}
+use Rattle.schedule.specs.laws.RunLaws.{clientsOf, stateOf, clientIn, recordIn}
 use Rattle.schedule.specs.laws.Refusing.{run-whole}
 
 -- ---- one line
@@ -28,11 +29,11 @@ pub line-of : (k : ℕ) (c : Call) (client number : ℕ) (r : Record) → client
 unfolding line
 line-of k c client number r e = rw e
 
--- with the call as the code has it, and the record of its client
-pub line-in : (k : ℕ) (c d : Call) (number : ℕ) (run : Run) (client : ℕ) (r : Record) → d ≡ c → clientOf d ≡ client → r ≡ recordIn run client
-    → line k d number r ≡ line k c number (recordIn run (clientOf c))
-line-in k c d number run client r e f g =
-    ap (line k d number) (g ∙ ap (recordIn run) (sym f)) ∙ ap (λ (z : Call). line k z number (recordIn run (clientOf z))) e
+-- with the call as the code has it, and its client
+pub line-in : (k : ℕ) (c d : Call) (number : ℕ) (run : Run) (client : ℕ) (own : Client) → d ≡ c → clientOf d ≡ client → own ≡ clientIn run client
+    → line k d number (own .«record») ≡ line k c number (recordIn run (clientOf c))
+line-in k c d number run client own e f g =
+    ap (λ (x : Client). line k d number (x .«record»)) (g ∙ ap (clientIn run) (sym f)) ∙ ap (λ (z : Call). line k z number (recordIn run (clientOf z))) e
 
 -- ---- all calls: what is written so far, and the lines of the calls from k on, are the whole text
 
@@ -45,10 +46,10 @@ module _ (s : Settings) (bytes : List ℕ) (whole : List ℕ) where
 
   -- call k is made, and its line written
   pub written-more : (st : State) (k : ℕ) (out : List ℕ) (at : ℕ) → Written st k out at → k < countIn bytes → (made : Made) (words new : List ℕ) (end : ℕ)
-      → result (made .number) (recordsOf (made .run)) words (made .run .clock) ≡ call s st (callIn bytes k)
+      → result (made .number) (clientsOf (made .run)) words ≡ call s st (callIn bytes k)
       → Appended out at new end (line k (callIn bytes k) (made .number) (recordIn (made .run) (clientOf (callIn bytes k)))) → end ≤ at + 144
       → Written (stateOf (made .run) words) (k + 1) new end
-  unfolding lines callsFrom recordAt
+  unfolding lines callsFrom clientAt
   written-more st k out at v b made words new end e a short =
       let c = callIn bytes k in
       let left : countIn bytes - k ≡ suc (countIn bytes - (k + 1)) = omega arith in

@@ -11,12 +11,12 @@ outside-requires c κs = search needs
 returns : tie.Need-returns
 returns c =
     let a = c .before .before .args in
-    planners-settings (a .settings) (a .rows) (a .records) (sym (c .before .outside .ensures) ∙ c .if1 .taken)
+    planners-settings (a .settings) (a .rows) (a .clients) (sym (c .before .outside .ensures) ∙ c .if1 .taken)
 
 returns-2 : tie.Need-returns-2
 returns-2 c =
     let a = c .before .before .before .args in
-    planners-rows (a .settings) (a .rows) (a .records) (sym (c .before .before .outside .ensures) ∙ c .before .if1 .left) (c .if2 .taken)
+    planners-rows (a .settings) (a .rows) (a .clients) (sym (c .before .before .outside .ensures) ∙ c .before .if1 .left) (c .if2 .taken)
 
 clients-outside-requires : tie.Need-clients-outside-requires
 clients-outside-requires c κs = search needs
@@ -24,12 +24,12 @@ clients-outside-requires c κs = search needs
 returns-3 : tie.Need-returns-3
 returns-3 c =
     let a = c .before .before .before .before .before .args in
-    planners-clients (a .settings) (a .rows) (a .records) (sym (c .before .before .before .before .outside .ensures) ∙ c .before .before .before .if1 .left) (c .before .before .if2 .left) (sym (c .before .clients-outside .ensures) ∙ c .if3 .taken)
+    planners-clients (a .settings) (a .rows) (a .clients) (sym (c .before .before .before .before .outside .ensures) ∙ c .before .before .before .if1 .left) (c .before .before .if2 .left) (sym (c .before .clients-outside .ensures) ∙ c .if3 .taken)
 
 returns-4 : tie.Need-returns-4
 returns-4 c =
     let a = c .before .before .before .before .before .args in
-    planners-passed (a .settings) (a .rows) (a .records) (sym (c .before .before .before .before .outside .ensures) ∙ c .before .before .before .if1 .left) (c .before .before .if2 .left) (sym (c .before .clients-outside .ensures) ∙ c .if3 .left)
+    planners-passed (a .settings) (a .rows) (a .clients) (sym (c .before .before .before .before .outside .ensures) ∙ c .before .before .before .if1 .left) (c .before .before .if2 .left) (sym (c .before .clients-outside .ensures) ∙ c .if3 .left)
 
 pub planners-cause-spec : {M : Type 1} → statement M
 planners-cause-spec =

@@ -1,5 +1,5 @@
 -- `pages::counts::held_count` meets its contract: a walk of its MIR, by hand, with a loop and a call in it. In each turn the slice is looked into, the client's record is copied,
--- and `in_phase_9` is called with it. The invariant has the count over the first i records, which is at most i. Assumes nothing.
+-- and `in_phase_9` is called with it. The invariant has the count over the first i clients, which is at most i. Assumes nothing.
 use mathlib.Core.Path.{_≡_, refl, sym, _∙_, ap}
 use Prim.Native.Nat.{ℕ, zero-le, _+_, _<_, _^_}
 use native.Mathlib.Nat.{lt-of-le-of-lt, le-trans}
@@ -46,15 +46,18 @@ use denote.Triple.Clauses.{lasts}
 use denote.Triple.Table.{entered, cited}
 use denote.Triple.Walked.{says, Stays, stay-none-slice, walkOf, goes-none-slice, Walks, ends-at, walked, walk-meets}
 use denote.Exit.{yes}
+use Rattle.lock.specs.declared.Client.{Client}
 use Rattle.lock.specs.declared.Record.{Record}
-use Rattle.lock.specs.rules.Records.{idleWith}
+use Rattle.lock.specs.rules.Records.{idleClient}
+use Rattle.lock.proofs.Client as Cl
+use Rattle.lock.proofs.Client.Laws as Cl′
 use Rattle.lock.proofs.Record as Rec
 use Rattle.lock.proofs.Record.Laws as Rec′
 use Rattle.table.proofs.Rows.{R, word, bytes}
 use Rattle.table.proofs.Walk.{fits-index, tests, whiles, Turned, first-of, after, inside, env, Upto, Nearer, Nearer-wf}
 use Rattle.pages.specs.rules.Pages.{inPhase9, heldCount}
 use Rattle.pages.specs.laws.CountLaws.{phase-9-most, held-most, held-next}
-use Rattle.pages.proofs.Shared.{Borrowed, and-borrowed, elem, record-out, record-back, returned}
+use Rattle.pages.proofs.Shared.{RR, own-record, Borrowed, and-borrowed, elem, client-out, client-back, returned}
 use Rattle.pages.proofs.counts.in_phase_9 as callee
 use Rattle.pages.proofs.counts.in_phase_9.Symbol as callee-def
 use Rattle.pages.proofs.counts.in_phase_9.Met as callee-thm
@@ -80,8 +83,8 @@ rest = after (after (after (code.function .body)))
 abbrev Callee : {M : Type 1} (𝓤 : URA M) (H : Heap 𝓤) (A : Atoms 𝓤) (mem : Memory → SProp 𝓤) (run : Routine → Fun 𝓤) → Contract 𝓤
 Callee 𝓤 H A mem run = tripleOf 𝓤 H A callee.signature (callee.spec 𝓤 H A mem run)
 
-module _ {M : Type 1} (𝓤 : URA M) (H : Heap 𝓤) (A : Atoms 𝓤) (W : Given 𝓤 H A) (mem : Memory → SProp 𝓤) (run : Routine → Fun 𝓤) (κ : Lft) (q : Share) (x : RefT (List Record)) (room : Room R (length (x .now))) where
-  abbrev ys : List Record
+module _ {M : Type 1} (𝓤 : URA M) (H : Heap 𝓤) (A : Atoms 𝓤) (W : Given 𝓤 H A) (mem : Memory → SProp 𝓤) (run : Routine → Fun 𝓤) (κ : Lft) (q : Share) (x : RefT (List Client)) (room : Room R (length (x .now))) where
+  abbrev ys : List Client
   ys = x .now
 
   abbrev n : ℕ
@@ -90,7 +93,7 @@ module _ {M : Type 1} (𝓤 : URA M) (H : Heap 𝓤) (A : Atoms 𝓤) (W : Given
   abbrev s : Val
   s = sliceVal (x .ptr) n
 
-  abbrev a : RefT (List Record) × Unit {0}
+  abbrev a : RefT (List Client) × Unit {0}
   a = (x, tt)
 
   abbrev vals : List Val × Unit {0}
@@ -99,12 +102,12 @@ module _ {M : Type 1} (𝓤 : URA M) (H : Heap 𝓤) (A : Atoms 𝓤) (W : Given
   abbrev Post : Val → SProp 𝓤
   Post = walkOf 𝓤 H A this.ended stayed (this.clauses 𝓤 H A mem run) .post (((κ, tt), (q, tt), tt, a, vals), tt)
 
-  -- how many of the first i records are in phase 9; and that one more can be added
+  -- how many of the first i clients are in phase 9; and that one more can be added
   abbrev count : ℕ → ℕ
   count i = heldCount (take i ys)
 
-  one-fits : (i t : ℕ) → i < n → t ≡ inPhase9 (elem x i .phase) → count i + t < 2 ^ 64
-  one-fits i t small h = omega (arith, held-most ys i, phase-9-most (elem x i .phase), h, small, room .0)
+  one-fits : (i t : ℕ) → i < n → t ≡ inPhase9 (elem x i .«record» .phase) → count i + t < 2 ^ 64
+  one-fits i t small h = omega (arith, held-most ys i, phase-9-most (elem x i .«record» .phase), h, small, room .0)
 
   exits : (k : ℕ) → k < 2 ^ 64 → k ≡ heldCount ys → ent 𝓤 (⋆ 𝓤 H A (‵ (flft κ q) ∷ ‵ (ShrSlice (named 0) κ R .own x (s ∷ [])) ∷ [])) (Post (vint w64 k))
   exits k k-fits e =
@@ -114,22 +117,22 @@ module _ {M : Type 1} (𝓤 : URA M) (H : Heap 𝓤) (A : Atoms 𝓤) (W : Given
 
   -- what the record of client i is asked
   abbrev asked : ℕ → Record × Unit {0}
-  asked i = (elem x i, tt)
+  asked i = (elem x i .«record», tt)
 
   abbrev to : ℕ → Callee 𝓤 H A mem run .Ghost
-  to i = ((tt, tt, tt, asked i, (Rec′.lowered (elem x i) ∷ [], tt)), tt)
+  to i = ((tt, tt, tt, asked i, (Rec′.lowered (elem x i .«record») ∷ [], tt)), tt)
 
-  goes : (i : ℕ) → Is R (elem x i) (Rec′.lowered (elem x i) ∷ []) → ent 𝓤 (emp 𝓤) (Callee 𝓤 H A mem run .pre (to i))
+  goes : (i : ℕ) → Is RR (elem x i .«record») (Rec′.lowered (elem x i .«record») ∷ []) → ent 𝓤 (emp 𝓤) (Callee 𝓤 H A mem run .pre (to i))
   goes i g =
-      qed W [] ∵ nothing ! $ owned ! R (Is R) ((LL.makes Rec.the-type Rec′.the-plain) 𝓤 H A) (elem x i) _ g $ fjoin ! $ nothing ! $ join ! $ nothing ! $ move ! (1 ∷ 0 ∷ []) $ done !
+      qed W [] ∵ nothing ! $ owned ! RR (Is RR) ((LL.makes Rec.the-type Rec′.the-plain) 𝓤 H A) (elem x i .«record») _ g $ fjoin ! $ nothing ! $ join ! $ nothing ! $ move ! (1 ∷ 0 ∷ []) $ done !
 
   module _ (𝓣 : Tables 𝓤 H) (known : Triple 𝓤 (𝓣 .C callee-def.name) (Callee 𝓤 H A mem run)) where
     module _ (l₀ l₁ l₂ l₃ l₄ l₅ l₆ l₇ l₈ l₉ : ℕ) where
       -- the invariant: the slice, its borrow, and the locals
       abbrev At : Upto n → List (Item 𝓤)
       At i = ‵ (Borrowed κ x) ∷ ‵ (flft κ q) ∷ ‵ (ShrSlice (named 0) κ R .own x (s ∷ []))
-          ∷ ‵ (froom word l₉ 0) ∷ ‵ (fdies word l₉) ∷ ‵ (froom Rec′.mir l₈ 0) ∷ ‵ (fdies Rec′.mir l₈) ∷ ‵ (froom tyPtr l₇ 0) ∷ ‵ (fdies tyPtr l₇)
-          ∷ ‵ (froom tyBool l₆ 0) ∷ ‵ (fdies tyBool l₆) ∷ ‵ (froom word l₅ 0) ∷ ‵ (fdies word l₅) ∷ ‵ (froom Rec′.mir l₄ 0) ∷ ‵ (fdies Rec′.mir l₄)
+          ∷ ‵ (froom word l₉ 0) ∷ ‵ (fdies word l₉) ∷ ‵ (froom Cl′.mir l₈ 0) ∷ ‵ (fdies Cl′.mir l₈) ∷ ‵ (froom tyPtr l₇ 0) ∷ ‵ (fdies tyPtr l₇)
+          ∷ ‵ (froom tyBool l₆ 0) ∷ ‵ (fdies tyBool l₆) ∷ ‵ (froom word l₅ 0) ∷ ‵ (fdies word l₅) ∷ ‵ (froom Cl′.mir l₄ 0) ∷ ‵ (fdies Cl′.mir l₄)
           ∷ ‵ (fat fullShare word l₃ 0 (vint w64 (i .0))) ∷ ‵ (fdies word l₃) ∷ ‵ (fat fullShare word l₂ 0 (vint w64 (count (i .0)))) ∷ ‵ (fdies word l₂)
           ∷ ‵ (fat fullShare slice l₁ 0 s) ∷ ‵ (fdies slice l₁) ∷ ‵ (froom word l₀ 0) ∷ ‵ (fdies word l₀) ∷ []
 
@@ -142,22 +145,22 @@ module _ {M : Type 1} (𝓤 : URA M) (H : Heap 𝓤) (A : Atoms 𝓤) (W : Given
           assigns ! (of-opd ! (load ! (from ! (fld ! refl (stop !))) (look-in ! 19 (sub ! 1 refl (whole !))))) (from ! (stop !)) (init ! 11 refl (tt, record { fits = room .0 })) $
           assigns ! (bin ! (load ! (from ! (stop !)) (look ! 15 refl)) (load ! (from ! (stop !)) (look ! 11 refl)) tt) (from ! (stop !)) (init ! 9 refl (tt, tt)) $
           tests ! (Below 𝓤 H A (Nearer n) At i) rest (atRet En Post) (load ! (from ! (stop !)) (look ! 9 refl))
-          -- a turn that asks one record
+          -- a turn that asks one client
           (λ less. let small = ltb→lt (i .0) n less in let fits = fits-index bytes (i .0) n small (room .1) in
           assigns ! (bin ! (load ! (from ! (stop !)) (look ! 15 refl)) (lit ! tt) (record { fits = fits })) (from ! (stop !)) (store ! 11 refl (tt, record { fits = fits })) $
           assigns ! (bin ! (load ! (from ! (fld ! refl (stop !))) (look-in ! 19 (sub ! 0 refl (whole !)))) (load ! (from ! (stop !)) (look ! 11 refl)) tt) (from ! (stop !)) (init ! 7 refl (tt, tt)) $
           rewrite ! 7 (λ (p : ℕ). ‵ (fat fullShare tyPtr l₇ 0 (vptr (x .ptr .0) p))) (sym (place-is bytes (x .ptr .1) (i .0))) refl $
-          record-out ! tt x (i .0) small (λ q′ g.
-          -- [records[i]; what it owns; the others; the open borrow; the borrow; the slice; _9; …; _0; …]
-          assigns ! (of-opd ! (load ! (from ! (hop ! (look ! 10 refl) (stop !))) (look-raw ! 0 refl))) (from ! (stop !)) (init ! 8 refl (LL.lawful Rec.the-type Rec′.the-laws 𝓤 H A W .typed (elem x (i .0)) _ g .0)) $
-          record-back ! tt q′ x (i .0) small $
-          assigns ! (of-opd ! (load ! (from ! (stop !)) (look ! 5 refl))) (from ! (stop !)) (init ! 13 refl (LL.lawful Rec.the-type Rec′.the-laws 𝓤 H A W .typed (elem x (i .0)) _ g .0)) $
-          use0 W (raw (Callee 𝓤 H A mem run .pre (to (i .0)))) (goes (i .0) g) $
-          calls-at ! (fmOf 𝓤 H (W .laws) 𝓣) (Callee 𝓤 H A mem run) known (to (i .0)) (and-then ! (load ! (from ! (stop !)) (look ! 14 refl)) (no-more !)) (λ v.
-          returned ! tt u64 v (λ vs. sem 𝓤 H A (lasts callee.ended tt (asked (i .0)) vs)) (λ t. t ≡ inPhase9 (elem x (i .0) .phase)) (λ t h it. land ! (from ! (stop !)) (init ! 3 refl (uint-lawful 𝓤 H A W w64 .typed t _ it .0)) $
+          client-out ! tt x (i .0) small (λ q′ g.
+          -- [clients[i]; what it owns; the others; the open borrow; the borrow; the slice; _9; …; _0; …]
+          assigns ! (of-opd ! (load ! (from ! (hop ! (look ! 10 refl) (stop !))) (look-raw ! 0 refl))) (from ! (stop !)) (init ! 8 refl (LL.lawful Cl.the-type Cl′.the-laws 𝓤 H A W .typed (elem x (i .0)) _ g .0)) $
+          client-back ! tt q′ x (i .0) small $
+          assigns ! (of-opd ! (load ! (from ! (stop !)) (look ! 5 refl))) (from ! (stop !)) (init ! 13 refl (LL.lawful Cl.the-type Cl′.the-laws 𝓤 H A W .typed (elem x (i .0)) _ g .0)) $
+          use0 W (raw (Callee 𝓤 H A mem run .pre (to (i .0)))) (goes (i .0) (own-record (elem x (i .0)) g)) $
+          calls-at ! (fmOf 𝓤 H (W .laws) 𝓣) (Callee 𝓤 H A mem run) known (to (i .0)) (and-then ! (load ! (from ! (fld ! refl (stop !))) (look-in ! 14 (sub ! 1 refl (whole !)))) (no-more !)) (λ v.
+          returned ! tt u64 v (λ vs. sem 𝓤 H A (lasts callee.ended tt (asked (i .0)) vs)) (λ t. t ≡ inPhase9 (elem x (i .0) .«record» .phase)) (λ t h it. land ! (from ! (stop !)) (init ! 3 refl (uint-lawful 𝓤 H A W w64 .typed t _ it .0)) $
           rewrite ! 3 (λ (z : Val). ‵ (fat fullShare word l₉ 0 z)) (ap only (it .0)) refl $
           assigns ! (bin ! (load ! (from ! (stop !)) (look ! 17 refl)) (load ! (from ! (stop !)) (look ! 3 refl)) (record { fits = one-fits (i .0) t small h })) (from ! (stop !)) (store ! 17 refl (tt, record { fits = one-fits (i .0) t small h })) $
-          rewrite ! 17 (λ (z : ℕ). ‵ (fat fullShare word l₂ 0 (vint w64 z))) (ap (λ (z : ℕ). count (i .0) + z) h ∙ held-next ys (i .0) (idleWith 0) small) refl $
+          rewrite ! 17 (λ (z : ℕ). ‵ (fat fullShare word l₂ 0 (vint w64 z))) (ap (λ (z : ℕ). count (i .0) + z) h ∙ held-next ys (i .0) idleClient small) refl $
           assigns-last ! (bin ! (load ! (from ! (stop !)) (look ! 15 refl)) (lit ! tt) (record { fits = lt-of-le-of-lt (add-one-le small) (room .0) })) (from ! (stop !)) (store ! 15 refl (tt, record { fits = lt-of-le-of-lt (add-one-le small) (room .0) })) $
           move ! (1 ∷ []) $ forget ! 3 refl $ forget ! 5 refl $ forget ! 7 refl $ forget ! 9 refl $ forget ! 11 refl $ forget ! 13 refl $
           again ! (Nearer n) At i (i .0 + 1, add-one-le small) (add-one-dec n (i .0) small)))))

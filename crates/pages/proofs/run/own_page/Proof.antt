@@ -13,13 +13,13 @@ refused-page-requires c κs = search needs
 
 returns : tie.Need-returns
 returns c =
-    let a = c .before .before .before .args in
-    c .refused-page .ensures ∙ own-refused (a .settings) (a .own) (a .last) (a .held) (sym (c .before .before .unreadable .ensures) ∙ c .before .if1 .taken)
+    let a = c .before .before .before .before .args in
+    c .refused-page .ensures ∙ own-refused (a .settings) (a .own) (a .held) (sym (c .before .before .unreadable .ensures) ∙ c .before .if1 .taken)
 
 returns-2 : tie.Need-returns-2
 returns-2 c =
-    let a = c .before .before .args in
-    own-accepted (a .settings) (a .own) (a .last) (a .held) (sym (c .before .unreadable .ensures) ∙ c .if1 .left)
+    let a = c .before .before .before .args in
+    own-accepted (a .settings) (a .own) (a .held) (sym (c .before .unreadable .ensures) ∙ c .if1 .left)
 
 pub own-page-spec : {M : Type 1} → statement M
 own-page-spec = tie.close (tie.spec unreadable-requires refused-page-requires returns returns-2)

@@ -4,11 +4,11 @@ use mathlib.Core.Path.{_≡_, refl, ap, _∙_, ap₂}
 use Prim.Native.Nat.{ℕ, _-_, _≤_, _+_, zero-le}
 use native.Mathlib.Omega.{arith}
 use lib.ListN.{take}
-use Rattle.lock.specs.declared.Record.{Record}
-use Rattle.lock.specs.rules.Records.{idleWith}
+use Rattle.lock.specs.declared.Client.{Client}
+use Rattle.lock.specs.rules.Records.{idleClient}
 use Rattle.pages.specs.rules.Pages.{inPhase9, heldCount}
 use Rattle.pages.specs.laws.CountLaws.{held-next}
-use Rattle.schedule.specs.laws.RunLaws.{recordsOf}
+use Rattle.schedule.specs.laws.RunLaws.{clientsOf}
 use Rattle.rangepages.specs.laws.Paging.{held-few}
 use lib.Seq.{take-all}
 use Rattle.rangepages.proofs.paging.held_in.Statement.{statement}
@@ -16,7 +16,7 @@ use Rattle.rangepages.proofs.paging.held_in.Tie as tie
 
 abbrev Inv-loop : tie.InvT-loop
 Inv-loop shelf clients held₀ client₀ held client =
-    (held ≡ heldCount (take client (take clients (shelf .records)))) × (client ≤ clients)
+    (held ≡ heldCount (take client (take clients (shelf .clients)))) × (client ≤ clients)
 
 abbrev μ-loop : tie.MeasureT-loop
 μ-loop shelf clients held₀ client₀ held client = clients - client
@@ -26,8 +26,8 @@ unfolding heldCount
 loop-holds c =
     (refl, zero-le)
 
-record-of-requires : tie.Need-record-of-requires Inv-loop μ-loop
-record-of-requires c κs =
+client-of-requires : tie.Need-client-of-requires Inv-loop μ-loop
+client-of-requires c κs =
     c .before .before .before .pre .few
 
 in-phase-9-requires : tie.Need-in-phase-9-requires Inv-loop μ-loop
@@ -36,7 +36,7 @@ in-phase-9-requires c κs =
 
 add-held : tie.Need-add-held Inv-loop μ-loop
 add-held c =
-    let b = held-few (recordsOf (c .before .before .before .before .before .args .run)) (c .before .before .before .loop .client) _ _ (c .before .record-of .result) (c .before .before .before .loop .inv .0) (c .in-phase-9 .ensures) in omega (arith, b, c .before .before .loop-test .taken, c .before .before .before .before .before .pre .few)
+    let b = held-few (clientsOf (c .before .before .before .before .before .args .run)) (c .before .before .before .loop .client) _ _ (c .before .client-of .result .«record») (c .before .before .before .loop .inv .0) (c .in-phase-9 .ensures) in omega (arith, b, c .before .before .loop-test .taken, c .before .before .before .before .before .pre .few)
 
 add-client : tie.Need-add-client Inv-loop μ-loop
 add-client c =
@@ -48,11 +48,11 @@ loop-less c =
 
 loop-again : tie.Need-loop-again Inv-loop μ-loop
 loop-again c =
-    (ap₂ (λ (x y : ℕ). x + y) (c .before .before .before .loop .inv .0) (c .in-phase-9 .ensures ∙ ap (λ (r : Record). inPhase9 (r .phase)) (c .before .record-of .ensures)) ∙ held-next (recordsOf (c .before .before .before .before .before .args .run)) (c .before .before .before .loop .client) (idleWith 0) (omega (arith, c .before .before .loop-test .taken, c .before .before .before .before .before .pre .whole)), omega (arith, c .before .before .loop-test .taken))
+    (ap₂ (λ (x y : ℕ). x + y) (c .before .before .before .loop .inv .0) (c .in-phase-9 .ensures ∙ ap (λ (own : Client). inPhase9 (own .«record» .phase)) (c .before .client-of .ensures)) ∙ held-next (clientsOf (c .before .before .before .before .before .args .run)) (c .before .before .before .loop .client) idleClient (omega (arith, c .before .before .loop-test .taken, c .before .before .before .before .before .pre .whole)), omega (arith, c .before .before .loop-test .taken))
 
 returns : tie.Need-returns Inv-loop μ-loop
 returns c =
-    c .before .loop .inv .0 ∙ ap heldCount (take-all (c .before .loop .client) (recordsOf (c .before .before .before .args .run)) (omega (arith, c .loop-test .left, c .before .before .before .pre .whole)))
+    c .before .loop .inv .0 ∙ ap heldCount (take-all (c .before .loop .client) (clientsOf (c .before .before .before .args .run)) (omega (arith, c .loop-test .left, c .before .before .before .pre .whole)))
 
 pub held-in-spec : {M : Type 1} → statement M
 held-in-spec =
@@ -61,7 +61,7 @@ held-in-spec =
     Inv-loop
     μ-loop
     loop-holds
-    record-of-requires
+    client-of-requires
     in-phase-9-requires
     add-held
     add-client

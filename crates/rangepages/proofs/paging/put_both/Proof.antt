@@ -17,21 +17,21 @@ settings-in-requires c κs =
 
 held-in-requires : tie.Need-held-in-requires
 held-in-requires c κs =
-    full _ (c .before .before .before .before .pre .0) (c .before .run-schedule .result) (c .before .run-schedule .ensures .0) (c .before .run-schedule .ensures .1 .1)
+    full _ (c .before .before .before .before .pre .0) (c .before .run-schedule .result) (c .before .run-schedule .ensures .0) (c .before .run-schedule .ensures .1)
 
 put-rows-requires : tie.Need-put-rows-requires
 put-rows-requires c κs =
     let pre = c .before .before .before .before .before .before .pre in
     let run = c .before .before .before .run-schedule in
     let settings = c .before .before .settings-in .ensures in
-    (full _ (pre .0) (run .result) (run .ensures .0) (run .ensures .1 .1), (settled _ (pre .0) _ settings, (readable _ (pre .0) (run .result) (run .ensures .0) (run .ensures .1 .0) _ settings, pre .1)))
+    (full _ (pre .0) (run .result) (run .ensures .0) (run .ensures .1), (settled _ (pre .0) _ settings, (readable _ (pre .0) (run .result) (run .ensures .0) _ settings, pre .1)))
 
 put-records-requires : tie.Need-put-records-requires
 put-records-requires c κs =
     let pre = c .before .before .before .before .before .before .before .before .before .before .pre in
     let run = c .before .before .before .before .before .before .before .run-schedule in
     let rows = c .before .before .before .put-rows .ensures in
-    let whole = full _ (pre .0) (run .result) (run .ensures .0) (run .ensures .1 .1) in
+    let whole = full _ (pre .0) (run .result) (run .ensures .0) (run .ensures .1) in
     (whole, omega (arith, rows .1, rows .0 .same, whole .few, pre .1))
 
 same-length : tie.Need-same-length

@@ -14,7 +14,7 @@ call-at-requires c κs =
 
 returns : tie.Need-returns
 returns c =
-    call-at-place _ _ _ _ _ (c .before .place-of .ensures) (c .call-at .ensures)
+    call-at-place _ _ _ _ (c .before .place-of .ensures) (c .call-at .ensures)
 
 pub call-in-spec : {M : Type 1} → statement M
 call-in-spec = tie.close (tie.spec place-of-requires call-at-requires returns)

@@ -28,7 +28,7 @@ use denote.RattleType.{RattleType, owns}
 use denote.Laws.{Is, shows}
 use denote.Memory.{partAt, pointee}
 use denote.Array.{array-typed, array-makes}
-use denote.Plain.{uint-vals, uint-tells, uint-makes}
+use denote.Plain.{uint-vals, uint-tells, uint-makes, uint-lawful}
 use denote.Builtin.{u64, usize}
 use denote.Ref.{RefT}
 use denote.Slice.{sliceVal, sliceTy, MutSlice, Room, slice-vals, mut-slice-tells, finally}
@@ -45,21 +45,18 @@ use denote.Triple.Table.{entered, cited}
 use denote.Triple.Walked.{needs, Stays, stay-none, gave-slice, walkOf, goes-none, goes-gave-slice, Walks, ends-at, walked, walk-meets}
 use denote.Exit.{yes}
 use Rattle.lock.specs.rules.Table as Table
-use Rattle.lock.specs.declared.Record.{Record}
+use Rattle.lock.specs.declared.Client.{Client}
 use Rattle.lock.specs.declared.Settings.{Settings}
 use Rattle.lock.specs.declared.Call.{Call}
-use Rattle.lock.proofs.Record as Rec
-use Rattle.lock.proofs.Record.Laws as Rec′
+use Rattle.lock.proofs.Client as Cl
+use Rattle.lock.proofs.Client.Laws as Cl′
 use Rattle.lock.proofs.Settings as G
 use Rattle.lock.proofs.Settings.Laws as G′
 use Rattle.lock.proofs.Call as K
 use Rattle.lock.proofs.Call.Laws as K′
-use Rattle.table.specs.declared.Answer.{Answer}
 use Rattle.lock.specs.rules.ByValue.{callOf}
 use Rattle.table.specs.rules.Lent.{lent, result}
-use Rattle.table.proofs.Answer as An
-use Rattle.table.proofs.Answer.Laws as An′
-use Rattle.table.proofs.Rows.{R, RG, RK, RA}
+use Rattle.table.proofs.Rows.{R, RG, RK, word}
 use Rattle.table.proofs.Walk.{shows-that}
 use Rattle.table.proofs.table_act as callee
 use Rattle.table.proofs.table_act.Symbol as callee-def
@@ -84,13 +81,13 @@ RO = O.the-row
 abbrev stayed : Stays (this.ended .signature .params) (this.ended .kept)
 stayed = (stay-none (λ _. RS) yes, (stay-none (λ _. usize) yes, (gave-slice (0 ∷ []) tt (plain (λ _. u64)), (stay-none (λ _. RG) yes, (stay-none (λ _. RK) yes, tt)))))
 
-abbrev acted : Answer → List Record → Acted
-acted n l = record { answer = n; shelf = on-shelf l }
+abbrev acted : ℕ → List Client → Acted
+acted n l = record { number = n; shelf = on-shelf l }
 
 -- the relation of the result, at the machine value that lowering gives it
-result-made : (n : Answer) (l : List Record) → Is RA n (An′.lowered n ∷ []) → Is AR l (lowered l ∷ []) → Is RO (acted n l) (O′.lowered (acted n l) ∷ [])
-result-made n l gn g =
-    let at = LL.owes O.the-type O′.the-laws (acted n l) (gn, (shelf-is l g, tt)) in
+result-made : (n : ℕ) (l : List Client) → n < 2 ^ 64 → Is AR l (lowered l ∷ []) → Is RO (acted n l) (O′.lowered (acted n l) ∷ [])
+result-made n l n-fits g =
+    let at = LL.owes O.the-type O′.the-laws (acted n l) ((refl, n-fits), (shelf-is l g, tt)) in
     subst (Is RO (acted n l)) (O′.lowers .val-is (acted n l) _ at) at
 
 -- the contract that the proof cites
@@ -99,11 +96,11 @@ Callee 𝓤 H A mem run = tripleOf 𝓤 H A callee.signature (callee.spec 𝓤 H
 
 module _ {M : Type 1} (𝓤 : URA M) (H : Heap 𝓤) (A : Atoms 𝓤) (W : Given 𝓤 H A) (mem : Memory → SProp 𝓤) (run : Routine → Fun 𝓤) (κ : Lft) (q : Share) (d : Shelf) (m : ℕ) (u : RefT (List ℕ)) (st : Settings) (ca : Call)
     (m-fits : m < 2 ^ 64) (gs : Is RG st (G′.lowered st ∷ [])) (gc : Is RK ca (K′.lowered ca ∷ [])) where
-  abbrev xs : List Record
-  xs = d .records
+  abbrev xs : List Client
+  xs = d .clients
 
   -- the elements that are lent
-  abbrev front : List Record
+  abbrev front : List Client
   front = take m xs
 
   abbrev ws : List ℕ
@@ -111,7 +108,7 @@ module _ {M : Type 1} (𝓤 : URA M) (H : Heap 𝓤) (A : Atoms 𝓤) (W : Given
 
   -- what the callee makes of them
   abbrev made-of : Table.Out
-  made-of = Table.call st (lent front ws (ca .last)) (callOf (ca .kind) (ca .client) (ca .a) (ca .b))
+  made-of = Table.call st (lent front ws) (callOf (ca .kind) (ca .client) (ca .a) (ca .b))
 
   abbrev mach : Val
   mach = S′.lowered d
@@ -132,10 +129,10 @@ module _ {M : Type 1} (𝓤 : URA M) (H : Heap 𝓤) (A : Atoms 𝓤) (W : Given
   Post = walkOf 𝓤 H A this.ended stayed (this.clauses 𝓤 H A mem run) .post (((κ, tt), (q, tt), tt, a, vals), tt)
 
   -- the slice that is lent, at b for a lifetime α under the name γ, and what the callee is passed
-  abbrev x : ℕ → GName → RefT (List Record)
+  abbrev x : ℕ → GName → RefT (List Client)
   x b γ = record { ptr = (b, 0); name = γ; now = front }
 
-  abbrev passed : ℕ → GName → RefT (List Record) × (RefT (List ℕ) × (Settings × (Call × (ℕ × Unit {0}))))
+  abbrev passed : ℕ → GName → RefT (List Client) × (RefT (List ℕ) × (Settings × (Call × (ℕ × Unit {0}))))
   passed b γ = (x b γ, (u, (st, (ca, (ca .kind, tt)))))
 
   abbrev to : ℕ → ℕ → GName → Callee 𝓤 H A mem run .Ghost
@@ -150,15 +147,15 @@ module _ {M : Type 1} (𝓤 : URA M) (H : Heap 𝓤) (A : Atoms 𝓤) (W : Given
       owned ! RK (Is RK) ((LL.makes K.the-type K′.the-plain) 𝓤 H A) ca _ gc $ fjoin ! $ owned ! RG (Is RG) ((LL.makes G.the-type G′.the-plain) 𝓤 H A) st _ gs $ fjoin ! $
       move ! (3 ∷ 0 ∷ []) $ fjoin ! $ move ! (2 ∷ 0 ∷ []) $ fjoin ! $ move ! (1 ∷ 0 ∷ []) $ join ! $ nothing ! $ move ! (1 ∷ 0 ∷ []) $ done !
 
-  -- the records `ys` are the first of the shelf at exit
-  exits : (n : Answer) (ys : List Record) (vs : List ℕ) → Is RS d (mach ∷ []) → Is RO (acted n (ys ++ drop-list m xs)) (O′.lowered (acted n (ys ++ drop-list m xs)) ∷ [])
-      → length ys ≡ m → length vs ≡ length ws → result (n .number) ys vs (n .clock) ≡ made-of
+  -- the clients `ys` are the first of the shelf at exit
+  exits : (n : ℕ) (ys : List Client) (vs : List ℕ) → Is RS d (mach ∷ []) → Is RO (acted n (ys ++ drop-list m xs)) (O′.lowered (acted n (ys ++ drop-list m xs)) ∷ [])
+      → length ys ≡ m → length vs ≡ length ws → result n ys vs ≡ made-of
       → ent 𝓤 (⋆ 𝓤 H A ((‵ (flft κ q) ⊛ ‵ ftrue) ∷ ‵ (finally u64 (u .name) vs) ∷ [])) (Post (O′.lowered (acted n (ys ++ drop-list m xs))))
   exits n ys vs g is k l e =
       let first : take m (ys ++ drop-list m xs) ≡ ys = take-at ys (drop-list m xs) m k in
       qed W ((‵ (flft κ q) ⊛ ‵ ftrue) ∷ ‵ (finally u64 (u .name) vs) ∷ []) ∵
       suffices ! _ (ends-at 𝓤 H A this.ended stayed (this.clauses 𝓤 H A mem run) W (((κ, tt), (q, tt), tt, a, vals), tt) (O′.lowered (acted n (ys ++ drop-list m xs))) (acted n (ys ++ drop-list m xs)) (tt, (tt, (vs, (tt, (tt, tt))))) (tt, (tt, (l, (tt, (tt, tt)))))) $
-      shows-that ! (factI 𝓤 _ (emp 𝓤) (ap (λ (zs : List Record). result (n .number) zs vs (n .clock)) first ∙ e)) $ frame ! $
+      shows-that ! (factI 𝓤 _ (emp 𝓤) (ap (λ (zs : List Client). result n zs vs) first ∙ e)) $ frame ! $
       nothing ! $ owned ! RK (Is RK) ((LL.makes K.the-type K′.the-plain) 𝓤 H A) ca _ gc $ fjoin ! $ owned ! RG (Is RG) ((LL.makes G.the-type G′.the-plain) 𝓤 H A) st _ gs $ fjoin ! $
       move ! (1 ∷ 0 ∷ []) $ fjoin ! $ owned ! usize (Is usize) (uint-makes 𝓤 H A W w64) m _ (refl, m-fits) $ fjoin ! $
       owned ! RS (Is RS) ((LL.makes S.the-type S′.the-plain) 𝓤 H A) d _ g $ fjoin ! $ frame ! $
@@ -169,7 +166,7 @@ module _ {M : Type 1} (𝓤 : URA M) (H : Heap 𝓤) (A : Atoms 𝓤) (W : Given
         → ent 𝓤 (onEntry 𝓤 H A this.signature (κ, tt) (q, tt) a vals) (WpFn 𝓤 H C Λ code.function (mach ∷ vint w64 m ∷ s′ ∷ G′.lowered st ∷ K′.lowered ca ∷ []) Post)
     walk few g gx room′ =
         let long = gx .1 .0 .1 in let count = length-take-le m xs (subst (λ (j : ℕ). m ≤ j) (sym long) few) in
-        let room = subst (Room R) (sym count) (m-fits, room-of m few) in let typed = LL.lawful Rec.the-type Rec′.the-laws 𝓤 H A W .typed in
+        let room = subst (Room R) (sym count) (m-fits, room-of m few) in let typed = LL.lawful Cl.the-type Cl′.the-laws 𝓤 H A W .typed in
         qed W ((‵ (flft κ q) ⊛ ‵ ftrue) ∷ ‵ (owns (RS ∷ usize ∷ MutSlice (named 0) κ u64 ∷ RG ∷ RK ∷ []) a vals) ∷ []) ∵
         enter ! C Λ code.function (mach ∷ vint w64 m ∷ s′ ∷ G′.lowered st ∷ K′.lowered ca ∷ []) _ $
         alloc1 ! (λ l₀. alloc1 ! (λ l₁. alloc1 ! (λ l₂. alloc1 ! (λ l₃. alloc1 ! (λ l₄. alloc1 ! (λ l₅. alloc1 ! (λ l₆. alloc1 ! (λ l₇. alloc1 ! (λ l₈. alloc1 ! (λ l₉. alloc1 ! (λ l₁₀. alloc1 ! (λ l₁₁. alloc1 ! (λ l₁₂. alloc1 ! (λ l₁₃. alloc0 ! $
@@ -187,7 +184,7 @@ module _ {M : Type 1} (𝓤 : URA M) (H : Heap 𝓤) (A : Atoms 𝓤) (W : Given
         assigns ! (agg ! (and-then ! (load ! (from ! (stop !)) (look ! 8 refl)) (and-then ! (load ! (from ! (fld ! refl (stop !))) (look-in ! 22 (sub ! 1 refl (whole !)))) (no-more !)))) (from ! (stop !)) (init ! 6 refl (tt, (tt, (record { fits = room′ .0 }, tt)))) $
         rewrite ! 10 (λ (j : ℕ). ‵ (fat fullShare (sliceTy (tyRef erased mut (pointee (R .written)))) l₉ 0 (sliceVal (l₆, 0) j))) (sym count) refl $
         -- the first elements of the array are lent, for a lifetime that is made here
-        owned ! AR (Is AR) (array-makes 𝓤 H A W R ((LL.makes Rec.the-type Rec′.the-plain) 𝓤 H A) 64) xs _ gx $ move ! (17 ∷ 0 ∷ []) $
+        owned ! AR (Is AR) (array-makes 𝓤 H A W R ((LL.makes Cl.the-type Cl′.the-plain) 𝓤 H A) 64) xs _ gx $ move ! (17 ∷ 0 ∷ []) $
         use2 W (‵ (partAt AR fullShare xs l₆ 0)) (held 𝓤 H A W R 64 l₆ xs (lowered xs)) $
         lft-new ! tt (λ α. move ! (1 ∷ []) $
         use1 W (later (‵ (kept 𝓤 H A W R 64 l₆ xs m) ⊛ some (λ (γ : GName). ‵ (MutSlice (named 0) (α ∷ []) R .own (x l₆ γ) (sliceVal (l₆, 0) (length front) ∷ [])) ⊛ ‵ (flent (α ∷ []) (Held R (length front) l₆ 0 γ))))) (lends-front 𝓤 H A W R 64 l₆ tt (α ∷ []) xs m room) $
@@ -195,24 +192,24 @@ module _ {M : Type 1} (𝓤 : URA M) (H : Heap 𝓤) (A : Atoms 𝓤) (W : Given
         -- [the slice; the lender's part; its token; the token; what words owns; the elements that stay; _13; …, without _6's cell]
         move ! (2 ∷ 3 ∷ []) $ join ! $ move ! (0 ∷ 1 ∷ 3 ∷ []) $ use3 W (raw (Callee 𝓤 H A mem run .pre (to l₆ α γ))) (goes l₆ α γ) $
         calls-at ! fm (Callee 𝓤 H A mem run) known (to l₆ α γ) (and-then ! (load ! (from ! (stop !)) (look ! 11 refl)) (and-then ! (load ! (from ! (stop !)) (look ! 7 refl)) (and-then ! (load ! (from ! (stop !)) (look ! 20 refl)) (and-then ! (load ! (from ! (stop !)) (look ! 18 refl)) (and-then ! (load ! (from ! (fld ! refl (stop !))) (look-in ! 18 (sub ! 0 refl (whole !)))) (no-more !)))))) (λ w.
-        use1 W (later (some (λ (n : Answer). ((‵ (flft (α ∷ []) fullShare) ⊛ (‵ (flft κ q) ⊛ ‵ ftrue)) ⊛ ‵ (RA .own n (w ∷ []))) ⊛ raw (ensured 𝓤 H A callee.ended (callee.clauses 𝓤 H A mem run) (α ∷ [], (κ, tt)) (passed l₆ γ) tt n)))) (id⊢ 𝓤 _) $
+        use1 W (later (some (λ (n : ℕ). ((‵ (flft (α ∷ []) fullShare) ⊛ (‵ (flft κ q) ⊛ ‵ ftrue)) ⊛ ‵ (u64 .own n (w ∷ []))) ⊛ raw (ensured 𝓤 H A callee.ended (callee.clauses 𝓤 H A mem run) (α ∷ [], (κ, tt)) (passed l₆ γ) tt n)))) (id⊢ 𝓤 _) $
         await ! tt $ pick ! (λ n. split ! $ move ! (1 ∷ []) $
-        use1 W (some (λ (vs : List Record × (List ℕ × (Unit {0} × (Unit {0} × (Unit {0} × Unit {0}))))). ‵ (lasts callee.ended (α ∷ [], (κ, tt)) (passed l₆ γ) vs) ⊛ raw (fact 𝓤 (result (n .number) (vs .0) (vs .1 .0) (n .clock) ≡ made-of)))) (id⊢ 𝓤 _) $
-        pick ! (λ vs. let zs = vs .0 ++ drop-list m xs in split ! $ move ! (1 ∷ []) $ heard ! (result (n .number) (vs .0) (vs .1 .0) (n .clock) ≡ made-of) (λ h.
+        use1 W (some (λ (vs : List Client × (List ℕ × (Unit {0} × (Unit {0} × (Unit {0} × Unit {0}))))). ‵ (lasts callee.ended (α ∷ [], (κ, tt)) (passed l₆ γ) vs) ⊛ raw (fact 𝓤 (result n (vs .0) (vs .1 .0) ≡ made-of)))) (id⊢ 𝓤 _) $
+        pick ! (λ vs. let zs = vs .0 ++ drop-list m xs in split ! $ move ! (1 ∷ []) $ heard ! (result n (vs .0) (vs .1 .0) ≡ made-of) (λ h.
         fsplit ! $ fsplit ! $ move ! (1 ∷ []) $ feqL ! (λ k. move ! (1 ∷ []) $ fsplit ! $ fsplit ! $ move ! (1 ∷ []) $ feqL ! (λ l. move ! (1 ∷ []) $ drop ! $
         move ! (2 ∷ []) $ split ! $ split ! $
         -- [its token; the token; the result; words' last list; the array's; the lender's part; the elements that stayed; _13; …]: the lifetime is ended, and the array taken back
         lft-end ! tt $ move ! (6 ∷ 0 ∷ 5 ∷ 4 ∷ []) $
         use4 W (later (‵ (partAt AR fullShare zs l₆ 0))) (front-back 𝓤 H A W R 64 l₆ (α ∷ []) γ (length front) xs (vs .0) m k long) $ await ! tt $
-        use1 W (given (Is AR zs (lowered zs ∷ [])) (‵ (fat fullShare (tyArray Rec′.mir 64) l₆ 0 (lowered zs)))) (let-go 𝓤 H A W R 64 l₆ (LL.vals Rec.the-type Rec′.the-laws) (LL.tells Rec.the-type Rec′.the-laws) zs) $
+        use1 W (given (Is AR zs (lowered zs ∷ [])) (‵ (fat fullShare (tyArray Cl′.mir 64) l₆ 0 (lowered zs)))) (let-go 𝓤 H A W R 64 l₆ (LL.vals Cl.the-type Cl′.the-laws) (LL.tells Cl.the-type Cl′.the-laws) zs) $
         learn ! (λ gz.
         -- [_6; the token; the result; words' last list; _13; …, without _6's cell]
-        move ! (2 ∷ []) $ peeks ! RA (Is RA) (shows 𝓤 H A RA) n (w ∷ []) (λ is.
-        land ! (from ! (stop !)) (init ! 16 refl (LL.lawful An.the-type An′.the-laws 𝓤 H A W .typed n _ is .0)) $
-        rewrite ! 16 (λ (z : Val). ‵ (fat fullShare An′.mir l₇ 0 z)) (ap only (LL.tells An.the-type An′.the-laws n (w ∷ []) is)) refl $
+        move ! (2 ∷ []) $ peeks ! u64 (Is u64) (shows 𝓤 H A u64) n (w ∷ []) (λ is.
+        land ! (from ! (stop !)) (init ! 16 refl (uint-lawful 𝓤 H A W w64 .typed n _ is .0)) $
+        rewrite ! 16 (λ (z : Val). ‵ (fat fullShare word l₇ 0 z)) (ap only (is .0)) refl $
         drop ! $ move ! (1 ∷ 2 ∷ 3 ∷ 4 ∷ 5 ∷ 6 ∷ 7 ∷ 8 ∷ 9 ∷ 10 ∷ 11 ∷ 12 ∷ 13 ∷ 14 ∷ 15 ∷ 16 ∷ 0 ∷ []) $
         -- [the token; words' last list; _13; …; _0; …]
-        let made = result-made n zs (subst (Is RA n) (LL.tells An.the-type An′.the-laws n (w ∷ []) is) is) gz in
+        let made = result-made n zs (is .1) gz in
         assigns ! (of-opd ! (load ! (from ! (stop !)) (look ! 16 refl))) (from ! (stop !)) (init ! 4 refl (array-typed R typed 64 zs _ gz .0)) $
         assigns ! (agg ! (and-then ! (load ! (from ! (stop !)) (look ! 4 refl)) (no-more !))) (from ! (stop !)) (init ! 2 refl (LL.lawful S.the-type S′.the-laws 𝓤 H A W .typed (on-shelf zs) _ (shelf-made zs gz) .0)) $
         assigns ! (agg ! (and-then ! (load ! (from ! (stop !)) (look ! 14 refl)) (and-then ! (load ! (from ! (stop !)) (look ! 2 refl)) (no-more !)))) (from ! (stop !)) (init ! 28 refl (LL.lawful O.the-type O′.the-laws 𝓤 H A W .typed (acted n zs) _ made .0)) $
@@ -232,7 +229,7 @@ module _ {M : Type 1} (𝓤 : URA M) (H : Heap 𝓤) (A : Atoms 𝓤) (W : Given
       (λ κs. (S′.lowers .val-is, (uint-tells w64, (mut-slice-tells (named 0) (κs .0) u64, (LL.tells G.the-type G′.the-laws, (LL.tells K.the-type K′.the-laws, tt))))))
       (λ κs qs bounds a g are. needs 𝓤 (a .1 .0 ≤ 64) _
       (λ few. walk 𝓤 H A W mem run (κs .0) (qs .0) (a .0) (a .1 .0) (a .1 .1 .0) (a .1 .1 .1 .0) (a .1 .1 .1 .1 .0) (are .1 .0 .1) (are .1 .1 .1 .0) (are .1 .1 .1 .1 .0) C Λ fm known few (are .0)
-      (of-field Rec.the-field Rec′.the-field-laws 64 (LL.vals Rec.the-type Rec′.the-laws) (LL.tells Rec.the-type Rec′.the-laws) (a .0 .records) _ (LL.owed S.the-type S′.the-laws (a .0) _ (are .0) .0)) (are .1 .1 .0 .0 .1)))
+      (of-field Cl.the-field Cl′.the-field-laws 64 (LL.vals Cl.the-type Cl′.the-laws) (LL.tells Cl.the-type Cl′.the-laws) (a .0 .clients) _ (LL.owed S.the-type S′.the-laws (a .0) _ (are .0) .0)) (are .1 .1 .0 .0 .1)))
 
 act-front-meets : {M : Type 1} (𝓤 : URA M) (H : Heap 𝓤) (A : Atoms 𝓤) → Given 𝓤 H A → (mem : Memory → SProp 𝓤) (run : Routine → Fun 𝓤) (𝓣 : Tables 𝓤 H)
     → Triple 𝓤 (𝓣 .C #callee) (Callee 𝓤 H A mem run) → Meets 𝓤 H A this.signature (WpFn 𝓤 H (𝓣 .C) (𝓣 .Λ) code.function) (this.spec 𝓤 H A mem run)

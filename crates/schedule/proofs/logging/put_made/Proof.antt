@@ -10,8 +10,8 @@ use Rattle.schedule.proofs.logging.put_made.Tie as tie
 call-in-requires : tie.Need-call-in-requires
 call-in-requires c κs = search needs
 
-record-of-requires : tie.Need-record-of-requires
-record-of-requires c κs = search needs
+client-of-requires : tie.Need-client-of-requires
+client-of-requires c κs = search needs
 
 put-line-requires : tie.Need-put-line-requires
 put-line-requires c κs = search needs
@@ -23,10 +23,10 @@ returns : tie.Need-returns
 returns c =
     let a = c .before .before .before .before .before .before .before .before .before .before .args in
     let x = c .before .before .before .before .before .before .call-in .result in
-    let read = call-read _ _ _ x (c .before .before .before .before .before .before .call-in .ensures) in
+    let read = call-read _ _ x (c .before .before .before .before .before .before .call-in .ensures) in
     let put = c .before .before .put-line .ensures in
-    (restated (line-in _ _ _ _ (a .made .run) (x .client) _ read (client-of-kind (x .kind) (x .client) (x .a) (x .b)) (c .before .before .before .before .record-of .ensures)) (put .0), put .1)
+    (restated (line-in _ _ _ _ (a .made .run) (x .client) _ read (client-of-kind (x .kind) (x .client) (x .a) (x .b)) (c .before .before .before .before .client-of .ensures)) (put .0), put .1)
 
 pub put-made-spec : {M : Type 1} → statement M
 put-made-spec =
-    tie.close (tie.spec call-in-requires record-of-requires put-line-requires same-length returns)
+    tie.close (tie.spec call-in-requires client-of-requires put-line-requires same-length returns)

@@ -9,7 +9,7 @@ empty-shelf-requires c κs = search needs
 
 returns : tie.Need-returns
 returns c =
-    ap (λ l. record { shelf = record { records = l }; clients = c .before .args .clients; clock = 0 }) (c .empty-shelf .ensures)
+    ap (λ l. record { shelf = record { clients = l }; clients = c .before .args .clients }) (c .empty-shelf .ensures)
 
 pub fresh-run-spec : {M : Type 1} → statement M
 fresh-run-spec = tie.close (tie.spec empty-shelf-requires returns)

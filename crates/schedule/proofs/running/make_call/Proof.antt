@@ -16,7 +16,7 @@ same-length c = search needs
 
 returns : tie.Need-returns
 returns c =
-    (c .before .before .before .before .act-front .ensures ∙ call-made _ _ _ _ _ _ _ (c .before .before .before .before .before .before .before .call-in .ensures), refl)
+    (c .before .before .before .act-front .ensures ∙ call-made _ _ _ _ _ (c .before .before .before .before .before .before .call-in .ensures), refl)
 
 pub make-call-spec : {M : Type 1} → statement M
 make-call-spec = tie.close (tie.spec call-in-requires act-front-requires same-length returns)

@@ -29,7 +29,7 @@ returns : tie.Need-returns
 returns c =
     let b = c .before .before .before .before .before .begin .ensures in
     let made = all-made _ _ _ (b .0) (b .1 .0) _ _ (b .1 .1 .0) (c .before .make-calls .ensures .0) in
-    (ap (λ (st : State). st .records) made, (ap (λ (st : State). st .clock) made, c .before .make-calls .ensures .1 ∙ b .1 .0))
+    (ap (λ (st : State). st .clients) made, c .before .make-calls .ensures .1 ∙ b .1 .0)
 
 pub run-schedule-spec : {M : Type 1} → statement M
 run-schedule-spec =
