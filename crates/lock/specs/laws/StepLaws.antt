@@ -152,13 +152,12 @@ module _ (s : Settings) where
 
     pub notified-late : (t : ℕ) → late s r t ≡ true → allNotified s r t ≡ sentBack 2 r
     unfolding allNotified choose
-    notified-late t e = ap (λ (x : Bool). choose x (sentBack 2 r) (choose (isLeaf s (currentPiece r)) (taken s r t) (toPhase 7 r))) e
+    notified-late t e = ap (λ (x : Bool). choose x _ _) e
 
     -- in time
     notified-by : (t : ℕ) → late s r t ≡ false → (leaf : Bool) → isLeaf s (currentPiece r) ≡ leaf → allNotified s r t ≡ choose leaf (taken s r t) (toPhase 7 r)
     unfolding allNotified choose
-    notified-by t e leaf f =
-        ap (λ (x : Bool). choose x (sentBack 2 r) (choose (isLeaf s (currentPiece r)) (taken s r t) (toPhase 7 r))) e ∙ ap (λ (x : Bool). choose x (taken s r t) (toPhase 7 r)) f
+    notified-by t e leaf f = ap (λ (x : Bool). choose x _ _) e ∙ ap (λ (x : Bool). choose x (taken s r t) (toPhase 7 r)) f
 
     pub notified-leaf : (t : ℕ) → late s r t ≡ false → isLeaf s (currentPiece r) ≡ true → allNotified s r t ≡ taken s r t
     unfolding choose
