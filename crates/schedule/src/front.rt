@@ -11,25 +11,14 @@ use crate::Acted;
 use crate::Shelf;
 use lock::Call;
 use lock::Client;
-use lock::Record;
 use lock::Settings;
 use table::table_act;
-
-// A client as an opening leaves it.
-fn idle_client() -> Client
-    ensures { λ c. ⌜ c ≡ idleClient ⌝ }
-{
-    Client {
-        clock: 0,
-        record: Record::idle_with(0),
-    }
-}
 
 // 64 idle clients.
 pub fn empty_shelf() -> Shelf
     ensures { λ r. ⌜ r .clients ≡ replicate 64 idleClient ⌝ }
 {
-    let idle = idle_client();
+    let idle = Client::idle();
     Shelf {
         clients: [idle; 64],
     }
@@ -60,7 +49,7 @@ pub fn client_of(shelf: Shelf, count: usize, client: u64) -> Client
     ensures { λ c. ⌜ c ≡ getD (take count (shelf .clients)) client idleClient ⌝ }
 {
     if count as u64 <= client {
-        return idle_client();
+        return Client::idle();
     }
     let at = client as usize;
     shelf.clients[at]

@@ -6,12 +6,12 @@ use borrow.Author.Needs.{needs}
 use Rattle.schedule.proofs.front.client_of.Statement.{statement}
 use Rattle.schedule.proofs.front.client_of.Tie as tie
 
-idle-client-requires : tie.Need-idle-client-requires
-idle-client-requires c κs = search needs
+idle-requires : tie.Need-idle-requires
+idle-requires c κs = search needs
 
 returns : tie.Need-returns
 returns c =
-    c .idle-client .ensures ∙ no-client (c .before .before .args .t1 .clients) (c .before .before .args .count) (c .before .before .args .client) (omega (arith, c .before .if1 .taken))
+    c .idle .ensures ∙ no-client (c .before .before .args .t1 .clients) (c .before .before .args .count) (c .before .before .args .client) (omega (arith, c .before .if1 .taken))
 
 mul-result : tie.Need-mul-result
 mul-result c = search needs
@@ -25,4 +25,4 @@ returns-2 c =
 
 pub client-of-spec : {M : Type 1} → statement M
 client-of-spec =
-    tie.close (tie.spec idle-client-requires returns mul-result element-copy-out-result returns-2)
+    tie.close (tie.spec idle-requires returns mul-result element-copy-out-result returns-2)
