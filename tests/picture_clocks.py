@@ -1,0 +1,60 @@
+"""Checks of what a page shows of clients' own clocks, and of windows that two clients held at the same time."""
+
+from model.moments import moments_of
+from schedule_run_cases import CAN_BE_TRUE, CANNOT_BE_TRUE, EACH_ITS_OWN
+
+BY_CALL = "the charts go by the call, also where they are asked for by clock; a clock that is named is the last one of its own client"
+
+
+def unlike(wanted, found):
+    """How many are missing, and how many are too many."""
+    return sum(each not in found for each in wanted) + sum(each not in wanted for each in found) + abs(len(wanted) - len(found))
+
+
+def below(page, heading):
+    """What is listed below a heading."""
+    parts = list(page.root.find("body/main"))
+    lists = [after for part, after in zip(parts, parts[1:]) if part.tag == "h2" and part.text == heading and after.tag == "ul"]
+    return [entry.text for found in lists for entry in found]
+
+
+def counted(page, expected, by):
+    """What time counts: calls, and below them clocks if there is one for all; or clocks alone."""
+    names = [text for text, _, _ in page.labels("times-names")]
+    wanted = ["clock"] if by == "clock" else ["call", "clock"] if expected.one_clock else ["call"]
+    return len(names), unlike(wanted, names)
+
+
+def said_of_clocks(page, expected, by):
+    """Where each client has its own clock it is said so, whether they can be true, and what the charts go by; else nothing."""
+    own = [EACH_ITS_OWN, CANNOT_BE_TRUE if moments_of(expected.history) is None else CAN_BE_TRUE, BY_CALL]
+    found = below(page, "Clocks")
+    return len(found), unlike([] if expected.one_clock else own, found)
+
+
+def said_of_two(page, expected, by):
+    """Each window that two clients held is named, and what it means."""
+    found = below(page, "Held by two at the same time")
+    return len(found), unlike(expected.said_of_two, found)
+
+
+def common_part(one, other):
+    """Where two bars are both: left, top, width and height."""
+    left, top = max(one.x, other.x), max(one.y, other.y)
+    right, bottom = (min(one.x + one.width, other.x + other.width), min(one.y + one.height, other.y + other.height))
+    return left, top, right - left, bottom - top
+
+
+def frames(page, expected, by):
+    """Among the units there is a frame where two bars are one over the other, for each two holdings that have units and calls in common."""
+    bars = {(bar.told.client, bar.told.start): bar for bar in page.bars("units")}
+    wanted = [(later.client, earlier.client, later.start, *common_part(bars[later.client, later.start], bars[earlier.client, earlier.start]))
+              for later, earlier in expected.by_two]
+    found = page.frames()
+    return len(found), unlike(wanted, found)
+
+
+def looked_at(expected, by):
+    """Each check, and how many it must have looked at."""
+    rows = 2 if by == "call" and expected.one_clock else 1
+    return {counted: rows, said_of_clocks: 0 if expected.one_clock else 3, said_of_two: len(expected.said_of_two), frames: len(expected.by_two)}
