@@ -1,7 +1,6 @@
 """Checks of what a page shows of clients' own clocks, and of windows that two clients held at the same time."""
 
-from model.moments import moments_of
-from schedule_run_cases import CAN_BE_TRUE, CANNOT_BE_TRUE, EACH_ITS_OWN
+from schedule_runs import clocks_in_words
 
 BY_CALL = "the charts go by the call, also where they are asked for by clock; a clock that is named is the last one of its own client"
 
@@ -27,9 +26,8 @@ def counted(page, expected, by):
 
 def said_of_clocks(page, expected, by):
     """Where each client has its own clock it is said so, whether they can be true, and what the charts go by; else nothing."""
-    own = [EACH_ITS_OWN, CANNOT_BE_TRUE if moments_of(expected.history) is None else CAN_BE_TRUE, BY_CALL]
-    found = below(page, "Clocks")
-    return len(found), unlike([] if expected.one_clock else own, found)
+    own, found = clocks_in_words(expected.history), below(page, "Clocks")
+    return len(found), unlike([*own, BY_CALL] if own else [], found)
 
 
 def said_of_two(page, expected, by):

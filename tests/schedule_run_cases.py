@@ -4,14 +4,15 @@ held, who held at the same time, who waits for whom, and how each request ended.
 from collections import Counter
 from itertools import zip_longest
 
+import schedule_clock_cases
 from compare import NAMES, case
 from library import ROOT
 from model import schedule
-from model.moments import moments_of
 from model.record import Client
 from random_schedules import drawn
 from schedule_files import WHOLE_CASE
-from schedule_runs import at, held_by_two_in_words, holdings, in_words, made_by_model, one_clock, opened_for, run_by_model, section
+from schedule_runs import CAN_BE_TRUE, CANNOT_BE_TRUE, at, clocks_in_words, held_by_two_in_words, holdings, in_words, made_by_model
+from schedule_runs import opened_for, run_by_model, section
 from schedule_tool import started
 from scheduling.events import happened
 from scheduling.packed import read_file
@@ -26,11 +27,6 @@ NAMES["run"] = ("place in the list of files",), ("exit status", "log as rangelog
 
 PHASES = ["idle", "ticket", "turn", "climb", "blocked", "claim", "notify", "wait", "check", "held", "returning"]
 OUTCOMES = ["", "released", "late", "cancelled", "out of patience"]
-
-EACH_ITS_OWN = ("each client has its own: they go back along the schedule, so that those of two clients cannot be compared; "
-                "the numbers of the calls say what came first")
-CAN_BE_TRUE = "they can be true: there are moments that keep what request 2.3 supposes, so that single holding is promised"
-CANNOT_BE_TRUE = "they cannot be true: no moments keep what request 2.3 supposes, so that single holding is not promised (docs/DEMAND-3.md)"
 # What some report must have: windows given up and held by two, and clocks that can be true and that cannot.
 SHOWN = "Given up, out of patience", "Held by two at the same time", f"  {CAN_BE_TRUE}", f"  {CANNOT_BE_TRUE}"
 
@@ -79,13 +75,6 @@ def unlike_rows(rows, read, log):
     return unlike
 
 
-def clocks_by_model(history):
-    """What is said of clocks that go back along a schedule."""
-    if one_clock(history):
-        return []
-    return [EACH_ITS_OWN, CANNOT_BE_TRUE if moments_of(history) is None else CAN_BE_TRUE]
-
-
 def held_in_words(found):
     ends = (f"to {held.until}" if held.until else "and still holds it" for held in found)
     return [f"client {held.client} held {in_words(held.window)} from {held.since} {end}" for held, end in zip(found, ends)]
@@ -95,7 +84,7 @@ def sections_unlike(rest, read):
     """How many of the sections on the clocks, on who held, on who held at the same time and on who gave up are not the model's, without the
     deeper lines that say why a client gave up."""
     found = holdings(read)
-    wanted = {"Clocks": clocks_by_model(made_by_model(read)), "Held": held_in_words(found) or ["nobody"],
+    wanted = {"Clocks": clocks_in_words(made_by_model(read)), "Held": held_in_words(found) or ["nobody"],
               "Held by two at the same time": held_by_two_in_words(found), "Given up, out of patience": list(given_up_by_model(read))}
     return sum([line for line in section(rest, title) if not line.startswith("  ")] != lines for title, lines in wanted.items())
 
@@ -223,4 +212,5 @@ SUITES = {
     "tools/schedule run, for whom, in words": waits_in_words,
     "tools/schedule run, the whole case in docs/SCHEDULES.md": whole_case_report,
     "tools/schedule run, the log alone and the exit status": runs,
+    **schedule_clock_cases.SUITES,
 }

@@ -6,7 +6,14 @@ from typing import NamedTuple
 
 from model import tree
 from model.history import Made, Opened, holds, overlap
+from model.moments import moments_of
 from model.record import IDLE, IDLE_CLIENT, Record
+
+EACH_ITS_OWN = ("each client has its own: they go back along the schedule, so that those of two clients cannot be compared; "
+                "the numbers of the calls say what came first")
+CAN_BE_TRUE = "they can be true: there are moments that keep what request 2.3 supposes, so that single holding is promised"
+CANNOT_BE_TRUE = "they cannot be true: no moments keep what request 2.3 supposes, so that single holding is not promised (docs/DEMAND-3.md)"
+CANNOT_BE = "clocks that keep what request 2.3 supposes cannot do this: docs/DEMAND-3.md says why"
 
 
 class Run(NamedTuple):
@@ -57,6 +64,11 @@ def told_clocks(history, clients):
         yield last[whose] if one or call.client < clients else None
 
 
+def clocks_in_words(history):
+    """What is said of clocks that go back along a schedule."""
+    return [] if one_clock(history) else [EACH_ITS_OWN, CANNOT_BE_TRUE if moments_of(history) is None else CAN_BE_TRUE]
+
+
 def run_by_model(read):
     """Each call of a schedule. The table is the same one throughout, and goes on with the calls."""
     opened = opened_for(read)
@@ -99,9 +111,6 @@ def in_words(window):
 
 def common(one, other):
     return in_words((max(one[0], other[0]), min(one[1], other[1])))
-
-
-CANNOT_BE = "clocks that keep what request 2.3 supposes cannot do this: docs/DEMAND-3.md says why"
 
 
 def held_by_two_in_words(found):
