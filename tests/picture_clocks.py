@@ -1,13 +1,9 @@
 """Checks of what a page shows of clients' own clocks, and of windows that two clients held at the same time."""
 
+from picture_checks import unlike
 from schedule_runs import clocks_in_words
 
 BY_CALL = "the charts go by the call, also where they are asked for by clock; a clock that is named is the last one of its own client"
-
-
-def unlike(wanted, found):
-    """How many are missing, and how many are too many."""
-    return sum(each not in found for each in wanted) + sum(each not in wanted for each in found) + abs(len(wanted) - len(found))
 
 
 def below(page, heading):

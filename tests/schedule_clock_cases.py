@@ -22,11 +22,13 @@ NAMES["untrue-clocks.txt"] = (), ("the history of two holders", "moments that ke
 NAMES["late from"] = ("wait", "ticks"), ("late",)
 NAMES["report in the guide"] = ("place in the guide",), ("as the tool prints it",)
 NAMES["held by two, said"] = ("place in the list of commands", "from the file"), ("exit status", "said where it must be", "said elsewhere")
+NAMES["row of a step that goes back"] = ("place in the list of texts",), ("as expected",)
 NAMES["clocks of a plan"] = ("place in the list of wishes",), ("go back", "with calls")
 
 GUIDE = (ROOT / "docs" / "SCHEDULES.md").read_text().split("## Each client's clock")[1].split("\n## ")[0]
 OWN, UNTRUE = ROOT / "schedules" / "own-clocks", ROOT / "schedules" / "untrue-clocks"
 BOTH = "client 0 holds [0, 10) from clock 5 (call 9) on, while client 1 holds [0, 256) since clock 7 (call 8): both hold [0, 10)"
+GONE_BACK = "refused 5: clock 4 is below client 0's last clock 5"
 BY_TWO = "Held by two at the same time"
 ROW = "held: client 0 holds [0, 10), while client 1 holds [0, 256)"
 
@@ -147,6 +149,14 @@ def said():
             yield case("held by two, said", [place, from_file], (0, 1, 0)), (ran.status, int(found), int(elsewhere))
 
 
+def gone_back():
+    """A step is refused by its own client's last clock, also where another client's is higher, and the clocks are told as one for all or not."""
+    for place, (other, told) in enumerate(((9, 9), (3, 5))):
+        text = f"tree 2 m 1 wait 5 patience 20 clients 2\nstep 0 5\nstep 1 {other}\nstep 0 4"
+        rows = started("run", data=text.encode()).written.decode().splitlines()
+        yield case("row of a step that goes back", [place], 1), int(rows[3].endswith(f"  {told}  {GONE_BACK}"))
+
+
 def plans():
     """In a plan all runs read one clock, which never goes back."""
     few = b"run 0 wants 0 100 from 0 for 9\nrun 1 wants 50 60 from 3 for 40\nrun 2 wants 0 10 from 3 for 0"
@@ -164,5 +174,6 @@ SUITES = {
     "docs/SCHEDULES.md, from how many ticks on a claim is late": late_from,
     "docs/SCHEDULES.md, reports of own and untrue clocks": shown_in_guide,
     "tools/schedule, each command says that two clients hold": said,
+    "tools/schedule run, a clock that goes back": gone_back,
     "tools/schedule plan, one clock for all": plans,
 }

@@ -37,11 +37,15 @@ def lines_of(data):
     return list(report(source, happened(source.schedule, log)))
 
 
-def expected_words(made, before, after):
-    """The last words of a row: a refused call's number; else the phase, where it gives back or has become idle with the outcome."""
-    if made.number:
-        return f"refused {made.number}: "
-    ended = after.phase == 10 or (after.phase == 0 and before.phase != 0)
+def expected_words(run):
+    """The last words of a row: a refused call's number, by 5 with the client's own last clock; else the phase, where it gives back or has
+    become idle with the outcome."""
+    call, number, after = run.made.call, run.made.number, run.after
+    if number == 5:
+        return f"refused 5: clock {call.a} is below client {call.client}'s last clock {run.opened.clients[call.client].clock}"
+    if number:
+        return f"refused {number}: "
+    ended = after.phase == 10 or (after.phase == 0 and run.before.phase != 0)
     return PHASES[after.phase] + (f", {OUTCOMES[after.outcome]}" if ended else "")
 
 
@@ -70,7 +74,7 @@ def unlike_rows(rows, read, log):
     for row, logged, run in zip_longest(rows, log[1:], run_by_model(read)):
         call, told = run.made.call, "" if run.clock is None else f"{run.clock}  "
         behind = row.partition(f"  {logged} ")[2].strip()
-        wanted = told + expected_words(run.made, run.before, run.after)
+        wanted = told + expected_words(run)
         unlike += not behind.startswith(wanted) or row.split()[1:3] != [call.kind, str(call.client)]
     return unlike
 
