@@ -153,6 +153,11 @@ def marks_of_two(page):
     return [each for each in page.named("clients").iter("use") if each.get("href") == "#held-by-two"]
 
 
+def entry_of_two(page):
+    """The entry of the legend."""
+    return next(each for each in page.root.iter("li") if any(use.get("href") == "#held-by-two" for use in each.iter("use")))
+
+
 def clocks_labelled(page):
     """A row of clocks below the calls."""
     SubElement(page.named("times-names"), "text", {"x": "106", "y": "29"}).text = "clock"
@@ -167,6 +172,7 @@ BY_TWO = {
     "another client in a frame": (clocks.frames, frame(changed("data-later"))),
     "a frame too narrow": (clocks.frames, frame(changed("width", -1))),
     "a frame moved down": (clocks.frames, frame(changed("y"))),
+    "a legend without the mark of two holders": (clocks.in_legend, lambda page: left_out(page, entry_of_two(page))),
     "a mark of two holders left out": (checks.marks, lambda page: left_out(page, marks_of_two(page)[0])),
     "a mark of two holders as one of lateness": (checks.marks, lambda page: marks_of_two(page)[0].set("href", "#late")),
     "two bars moved apart": (checks.apart, held("units", changed("y", 500))),

@@ -48,7 +48,13 @@ def frames(page, expected, by):
     return len(found), unlike(wanted, found)
 
 
+def in_legend(page, expected, by):
+    """The legend has the mark of what two clients hold exactly if there is one."""
+    [legend] = (each for each in page.root.iter("ul") if each.get("class") == "legend")
+    return 1, sum(each.get("href") == "#held-by-two" for each in legend.iter("use")) != (len(expected.by_two) > 0)
+
+
 def looked_at(expected, by):
     """Each check, and how many it must have looked at."""
-    rows = 2 if by == "call" and expected.one_clock else 1
-    return {counted: rows, said_of_clocks: 0 if expected.one_clock else 3, said_of_two: len(expected.said_of_two), frames: len(expected.by_two)}
+    rows, said = 2 if by == "call" and expected.one_clock else 1, 0 if expected.one_clock else 3
+    return {counted: rows, said_of_clocks: said, said_of_two: len(expected.said_of_two), frames: len(expected.by_two), in_legend: 1}

@@ -105,11 +105,19 @@ def held_by_two(ends):
     return (*claims[0], *claims[1], *whole, Call("step", 2, 9), Call("step", 0, 5), *(call for calls in returns for call in calls))
 
 
+def held_by_two_in_part():
+    """At three levels: client 0 is at its second leaf when client 1 takes the node above that leaf, by a clock that goes on by the wait."""
+    second = [Call("request", 0, 200, 300), *[Call("step", 0, 5)] * 8]
+    above = [Call("request", 1, 256, 512), *[Call("step", 1, 5)] * 5, *[Call("step", 1, 10)] * 2]
+    return (*second, *above, *[Call("step", 0, 5)] * 2)
+
+
 def at_the_edges():
     """Windows that two clients hold, no calls, one call, refused calls alone, the greatest clocks, 64 units held at once, one unit held by
     turns within a clock, and as many refused calls and as many holdings as a schedule has room for."""
     small = Settings(2, 1, 5, 20)
     yield from (Schedule(small, 3, held_by_two(ends)) for ends in ((), (0, 1, 2), (1, 2)))
+    yield Schedule(small._replace(levels=3), 2, held_by_two_in_part())
     yield Schedule(small, 2, ())
     yield Schedule(small, 64, (Call("request", 63, 0, 256),))
     yield Schedule(small, 1, (Call("step", 0, 999),))
