@@ -148,7 +148,8 @@ def parser(streams):
         added[name].add_argument("-o", dest="output", metavar="FILE", help="write this file, whole or not at all")
         added[name].set_defaults(do=does)
     added["run"].add_argument("--log", action="store_true", help="print the log alone")
-    added["picture"].add_argument("--by", choices=("call", "clock"), default="call", help="what the time axis counts (default: call)")
+    by = "what the time axis counts (default: call); clocks only where they never go back along the schedule"
+    added["picture"].add_argument("--by", choices=("call", "clock"), default="call", help=by)
     return parser
 
 
