@@ -1,12 +1,12 @@
-"""The calls by value on one record. Each gives the number (0 accepted), the clock after and the record after, and
-writes at most one of the lent words; a refused call leaves words, record and clock as they were."""
+"""The calls by value on one client. Each gives the number (0 accepted) and the client after, and writes at most one of the lent words; a
+refused call leaves words, record and clock as they were. Of all of them only a step that is accepted sets the client's last clock."""
 
 from typing import NamedTuple
 
 from model import record as records
 from model import tree
 from model.readable import unreadable
-from model.record import IDLE, Record
+from model.record import IDLE, Client
 from model.step import begun, returning
 from model.step import step as row_of_the_phase
 
@@ -15,11 +15,10 @@ TAKEN_BY_CANCEL = range(1, 9)
 
 
 class Answer(NamedTuple):
-    """The number, the last clock after the call, and the record after it."""
+    """The number, and the client after the call."""
 
     number: int
-    clock: int
-    record: Record
+    client: Client
 
 
 def settings_outside(settings):
@@ -35,60 +34,65 @@ def settings_or_words_refused(settings, words):
     return 0 if len(words) == tree.node_count(settings.levels) else 2
 
 
+def client_unreadable(settings, client):
+    """6: its record is unreadable; noted times belong to the client's own last clock."""
+    return unreadable(settings, client.record, client.clock)
+
+
 def requested(settings, l, r):
     """A request sets window and pieces, zeroes the rest, and sets phase 1 for an inner first piece and 3 for a leaf."""
     first, second = records.cover_of(settings.levels, l, r)
     return begun(settings, IDLE._replace(left=l, right=r, first=first, second=second), 0)
 
 
-def request_refused(settings, words, record, l, r, last):
+def request_refused(settings, words, client, l, r):
     """Request tests 1, 2, 6, 7 (l >= r or r > N) and 8 (when not idle)."""
     if number := settings_or_words_refused(settings, words):
         return number
-    if unreadable(settings, record, last):
+    if client_unreadable(settings, client):
         return 6
     if l >= r or r > tree.units(settings.levels):
         return 7
-    return 8 if record.phase != 0 else 0
+    return 8 if client.record.phase != 0 else 0
 
 
-def request(settings, words, record, l, r, last):
+def request(settings, words, client, l, r):
     """A request for [l, r)."""
-    if number := request_refused(settings, words, record, l, r, last):
-        return Answer(number, last, record)
-    return Answer(0, last, requested(settings, l, r))
+    if number := request_refused(settings, words, client, l, r):
+        return Answer(number, client)
+    return Answer(0, client._replace(record=requested(settings, l, r)))
 
 
-def step_refused(settings, words, record, clock, last):
-    """A step tests 1, 2, 5 (clock below the last clock) and 6; only its row finds 9."""
+def step_refused(settings, words, client, clock):
+    """A step tests 1, 2, 5 (clock below that client's last clock) and 6; only its row finds 9."""
     if number := settings_or_words_refused(settings, words):
         return number
-    if clock < last:
+    if clock < client.clock:
         return 5
-    return 6 if unreadable(settings, record, last) else 0
+    return 6 if client_unreadable(settings, client) else 0
 
 
-def step(settings, words, record, clock, last):
+def step(settings, words, client, clock):
     """A step at a clock. An accepted step sets the last clock."""
-    if number := step_refused(settings, words, record, clock, last):
-        return Answer(number, last, record)
-    done = row_of_the_phase(settings, record, words, clock)
+    if number := step_refused(settings, words, client, clock):
+        return Answer(number, client)
+    done = row_of_the_phase(settings, client.record, words, clock)
     if done.number != 0:
-        return Answer(done.number, last, record)
+        return Answer(done.number, client)
     if done.node != 0:
         words[done.node - 1] = done.word
-    return Answer(0, clock, done.record)
+    return Answer(0, Client(clock, done.record))
 
 
-def release(settings, words, record, last):
+def release(settings, words, client):
     """Release (from 9) touches no word and sets outcome 1 and phase 10. It tests 1, 2, 6 and 8."""
     if number := settings_or_words_refused(settings, words):
-        return Answer(number, last, record)
-    if unreadable(settings, record, last):
-        return Answer(6, last, record)
-    if record.phase != 9:
-        return Answer(8, last, record)
-    return Answer(0, last, returning(record, 1))
+        return Answer(number, client)
+    if client_unreadable(settings, client):
+        return Answer(6, client)
+    if client.record.phase != 9:
+        return Answer(8, client)
+    return Answer(0, client._replace(record=returning(client.record, 1)))
 
 
 def cancelled(record):
@@ -98,12 +102,12 @@ def cancelled(record):
     return returning(record, 3)
 
 
-def cancel(settings, words, record, last):
+def cancel(settings, words, client):
     """Cancel (from 1..8) touches no word. It tests 1, 2, 6 and 8."""
     if number := settings_or_words_refused(settings, words):
-        return Answer(number, last, record)
-    if unreadable(settings, record, last):
-        return Answer(6, last, record)
-    if record.phase not in TAKEN_BY_CANCEL:
-        return Answer(8, last, record)
-    return Answer(0, last, cancelled(record))
+        return Answer(number, client)
+    if client_unreadable(settings, client):
+        return Answer(6, client)
+    if client.record.phase not in TAKEN_BY_CANCEL:
+        return Answer(8, client)
+    return Answer(0, client._replace(record=cancelled(client.record)))

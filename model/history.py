@@ -1,5 +1,5 @@
 """The section "Histories": a history of calls, who holds or is idle after it, said from the history alone, and the two
-claims of demand 3."""
+claims of demand 3. The first of them, that windows are held apart, is made for histories that meet the supposition in moments.py."""
 
 from typing import NamedTuple
 
@@ -27,29 +27,33 @@ class Made(NamedTuple):
 
 
 class Opened:
-    """The words, records and clock that an accepted opening left, and then every call of a history."""
+    """The words, records and clocks that an accepted opening left, and then every call of a history."""
 
-    def __init__(self, settings, words, records):
-        self.settings, self.words, self.records = settings, words, records
+    def __init__(self, settings, words, clients):
+        self.settings, self.words, self.clients = settings, words, clients
         self.history = []
-        number, self.clock = table.opening(settings, words, records, 0)
-        if number != 0:
+        if number := table.opening(settings, words, clients):
             raise ValueError(f"the opening is refused by {number}")
 
+    @property
+    def records(self):
+        """The clients' records, to read."""
+        return [client.record for client in self.clients]
+
     def answer(self, call):
-        """Every call is made with that opening's H, m, T and P, on the words, records and last clock that the call
+        """Every call is made with that opening's H, m, T and P, on the words, records and last clocks that the call
         before left."""
-        lent = self.settings, self.words, self.records, call.client
+        lent = self.settings, self.words, self.clients, call.client
         if call.kind == "request":
-            return table.request(*lent, call.a, call.b, self.clock)
+            return table.request(*lent, call.a, call.b)
         if call.kind == "step":
-            return table.step(*lent, call.a, self.clock)
-        return {"release": table.release, "cancel": table.cancel}[call.kind](*lent, self.clock)
+            return table.step(*lent, call.a)
+        return {"release": table.release, "cancel": table.cancel}[call.kind](*lent)
 
     def make(self, call):
         """Makes the call and writes it into the history."""
-        number, self.clock = self.answer(call)
-        phase = self.records[call.client].phase if call.client < len(self.records) else None
+        number = self.answer(call)
+        phase = self.clients[call.client].record.phase if call.client < len(self.clients) else None
         made = Made(call, number, phase)
         self.history.append(made)
         return made

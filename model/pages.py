@@ -1,5 +1,5 @@
 """Request 2.1 of document 02, "One log, two readers": the page that planners get of a lent table, the page that a forecast run gets
-of it, and what the program `rangepages` prints.
+of it, and what the program `rangepages` prints. The last clock of a client's record is its own (2.3), and no page has it.
 
 `python3 -m model.pages < file` writes what the model gives.
 """
@@ -10,8 +10,7 @@ from typing import NamedTuple
 from model import cover
 from model import record as fields
 from model import schedule as schedules
-from model.calls import settings_outside
-from model.readable import unreadable
+from model.calls import client_unreadable, settings_outside
 from model.record import IDLE, Record
 from model.table import clients_outside
 
@@ -47,46 +46,46 @@ def row(settings, record):
     return Row(record.phase, record.left, record.right, record.first, record.second, over_cover(settings, record))
 
 
-def planners_refused(settings, records, rows, last):
+def planners_refused(settings, clients, rows):
     """The planners' page tests 1, 2 (lent with other than one row a client), 3, and 6 for every record."""
     if settings_outside(settings):
         return 1
-    if len(rows) != len(records):
+    if len(rows) != len(clients):
         return 2
-    if clients_outside(records):
+    if clients_outside(clients):
         return 3
-    return 6 if any(unreadable(settings, record, last) for record in records) else 0
+    return 6 if any(client_unreadable(settings, client) for client in clients) else 0
 
 
-def planners_page(settings, records, rows, last):
+def planners_page(settings, clients, rows):
     """Fills the lent rows, one for each client, and gives the number; a refused page leaves every row as it was."""
-    if number := planners_refused(settings, records, rows, last):
+    if number := planners_refused(settings, clients, rows):
         return number
-    rows[:] = [row(settings, record) for record in records]
+    rows[:] = [row(settings, client.record) for client in clients]
     return 0
 
 
-def held_count(records):
+def held_count(clients):
     """The number of clients in phase 9: it goes by the phase alone, whatever else the records say."""
-    return sum(record.phase == 9 for record in records)
+    return sum(client.record.phase == 9 for client in clients)
 
 
-def run_refused(settings, records, client, last):
+def run_refused(settings, clients, client):
     """A run's page tests 1, 3, 4, and 6 for its own record alone."""
     if settings_outside(settings):
         return 1
-    if clients_outside(records):
+    if clients_outside(clients):
         return 3
-    if client >= len(records):
+    if client >= len(clients):
         return 4
-    return 6 if unreadable(settings, records[client], last) else 0
+    return 6 if client_unreadable(settings, clients[client]) else 0
 
 
-def run_page(settings, records, client, last):
+def run_page(settings, clients, client):
     """The run's own record and the number of clients in phase 9, and no more; a refused page has its number only."""
-    if number := run_refused(settings, records, client, last):
+    if number := run_refused(settings, clients, client):
         return RunPage(number)
-    return RunPage(0, records[client], held_count(records))
+    return RunPage(0, clients[client].record, held_count(clients))
 
 
 def line(*numbers):
@@ -98,11 +97,11 @@ def lines(schedule, opened):
     for call in schedule.calls:
         opened.make(call)
     rows = [Row()] * schedule.clients
-    planners_page(schedule.settings, opened.records, rows, opened.clock)
+    planners_page(schedule.settings, opened.clients, rows)
     for client, found in enumerate(rows):
         yield line(client, *found)
     for client in range(schedule.clients):
-        page = run_page(schedule.settings, opened.records, client, opened.clock)
+        page = run_page(schedule.settings, opened.clients, client)
         yield line(client, *page.own, page.held)
 
 

@@ -1,5 +1,5 @@
 """The paragraph "Unreadable" and what request 2.2 of document 02 adds to it: a function for each clause, in its order. Each speaks of a
-record that no clause before it finds unreadable."""
+record that no clause before it finds unreadable. `last` is the last clock of the record's client, to which noted times belong (2.3)."""
 
 from model import record as records
 from model import tree

@@ -1,4 +1,4 @@
-"""The settings, the client record, and what is said of a record's pieces and of the lists that it walks."""
+"""The settings, the client with its record, and what is said of a record's pieces and of the lists that it walks."""
 
 from functools import lru_cache
 from typing import NamedTuple
@@ -41,6 +41,17 @@ class Record(NamedTuple):
 
 
 IDLE = Record()
+
+
+class Client(NamedTuple):
+    """What the client table has of a client: its last clock, which is kept beside the record, and its record."""
+
+    clock: int = 0
+    record: Record = IDLE
+
+
+# What an opening leaves of each client.
+IDLE_CLIENT = Client()
 
 
 @lru_cache(maxsize=CACHED)

@@ -10,7 +10,7 @@ from typing import NamedTuple
 
 from model import table, tree
 from model.history import KINDS, Call, Opened
-from model.record import IDLE, Settings
+from model.record import IDLE, IDLE_CLIENT, Settings
 
 LONGEST = 65536
 MOST_LEVELS = 6
@@ -162,10 +162,10 @@ def printed(data, lines_of):
     schedule = decode(data)
     if isinstance(schedule, int):
         return refused(schedule)
-    words, records = [0] * tree.node_count(schedule.settings.levels), [IDLE] * schedule.clients
-    if number := table.opening(schedule.settings, words, records, 0).number:
+    words, clients = [0] * tree.node_count(schedule.settings.levels), [IDLE_CLIENT] * schedule.clients
+    if number := table.opening(schedule.settings, words, clients):
         return refused(number)
-    return "".join(lines_of(schedule, Opened(schedule.settings, words, records)))
+    return "".join(lines_of(schedule, Opened(schedule.settings, words, clients)))
 
 
 def log(data):

@@ -65,8 +65,8 @@ def returning(record, outcome):
 
 
 def late(settings, record, clock):
-    """clock - t1 >= T."""
-    return clock - record.t1 >= settings.wait
+    """A claim is late unless 10,001 * (clock - t1) < 9,999 * T."""
+    return not 10001 * (clock - record.t1) < 9999 * settings.wait
 
 
 def waited(settings, record, clock):
@@ -152,7 +152,7 @@ def notify(settings, record, words, clock):
 
 
 def after_the_last_notice(settings, record, clock):
-    """After the last: clock - t1 >= T gives outcome 2 and 10; else inner to 7, a leaf is taken."""
+    """After the last: a late claim gives outcome 2 and 10; else inner to 7, a leaf is taken."""
     if late(settings, record, clock):
         return returning(record, 2)
     return taken(settings, record, clock) if records.at_leaf(settings, record) else to(record, 7)
@@ -231,7 +231,7 @@ ROWS = {
 
 
 def step(settings, record, words, clock):
-    """One step of a readable record at a clock that is not below the last. Patience that has run out touches no word, sets outcome 4 and
+    """One step of a readable record at a clock that is not below the client's last. Patience that has run out touches no word, sets outcome 4 and
     goes to returning instead of the phase's own work."""
     if patience_run_out(settings, record, clock):
         return read(returning(record, 4))

@@ -3,6 +3,7 @@
 from xml.etree.ElementTree import SubElement
 
 import picture_checks as checks
+import picture_clocks as clocks
 import picture_looks as looks
 from picture_pages import HELD
 
@@ -135,5 +136,45 @@ EDITS = {
     "another patience": (looks.settings, lambda page: text_changed(page, "p", "patience ", "patience 1")),
     "another wait": (looks.settings, lambda page: text_changed(page, "p", "wait ", "wait 1")),
     "somebody who waits left out": (checks.summed_up, waiting_left_out),
+}
+def entry_left_out(heading):
+    """An edit that leaves the first entry below a heading out."""
+    def edit(page):
+        words = clocks.below(page, heading)[0]
+        left_out(page, next(each for each in page.root.iter("li") if each.text == words))
+    return edit
+
+
+def frame(edit):
+    return lambda page: edit(next(each for each in page.named("units").iter("rect") if each.get("class") == "by-two"))
+
+
+def marks_of_two(page):
+    return [each for each in page.named("clients").iter("use") if each.get("href") == "#held-by-two"]
+
+
+def entry_of_two(page):
+    """The entry of the legend."""
+    return next(each for each in page.root.iter("li") if any(use.get("href") == "#held-by-two" for use in each.iter("use")))
+
+
+def clocks_labelled(page):
+    """A row of clocks below the calls."""
+    SubElement(page.named("times-names"), "text", {"x": "106", "y": "29"}).text = "clock"
+
+
+# The same of clients' own clocks, and of what two of them hold.
+BY_TWO = {
+    "the clocks labelled as one for all": (clocks.counted, clocks_labelled),
+    "not said that each has its own clock": (clocks.said_of_clocks, entry_left_out("Clocks")),
+    "not said who holds beside whom": (clocks.said_of_two, entry_left_out("Held by two at the same time")),
+    "another call in a frame": (clocks.frames, frame(changed("data-call"))),
+    "another client in a frame": (clocks.frames, frame(changed("data-later"))),
+    "a frame too narrow": (clocks.frames, frame(changed("width", -1))),
+    "a frame moved down": (clocks.frames, frame(changed("y"))),
+    "a legend without the mark of two holders": (clocks.in_legend, lambda page: left_out(page, entry_of_two(page))),
+    "a mark of two holders left out": (checks.marks, lambda page: left_out(page, marks_of_two(page)[0])),
+    "a mark of two holders as one of lateness": (checks.marks, lambda page: marks_of_two(page)[0].set("href", "#late")),
+    "two bars moved apart": (checks.apart, held("units", changed("y", 500))),
 }
 BY_CALL_ONLY = {"the calls' numbers moved": (checks.times, lambda page: [changed("x")(each) for each in page.named("times").iter("text")])}

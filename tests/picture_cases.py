@@ -9,7 +9,8 @@ from pathlib import Path
 from tempfile import TemporaryDirectory
 from xml.etree import ElementTree
 
-from broken_pictures import BY_CALL_ONLY, EDITS
+import picture_clocks
+from broken_pictures import BY_CALL_ONLY, BY_TWO, EDITS
 from compare import NAMES, case
 from histories import Shape
 from library import ROOT
@@ -18,11 +19,12 @@ from model.schedule import decode, encode
 from picture_checks import Expected, looked_at
 from picture_looks import KINDS_OF_MARKS
 from picture_pages import HELD, Page
-from picture_schedules import FAR, STILL, Busy, at_the_edges, busy_schedule, great
+from picture_schedules import FAR, OWN, STILL, Busy, at_the_edges, busy_schedule, great
 from programs import RANGELOG
 from random_schedules import drawn
 from schedule_files import WHOLE_CASE, at_call, changed, with_header
 from schedule_tool import TOOL
+from scheduling.legend import BY_TWO as MARKED_BY_TWO
 from scheduling.legend import MARKED
 
 EXAMPLE = ROOT / "docs" / "whole-case"
@@ -30,6 +32,7 @@ MOST_BYTES = 2_000_000
 MOST_OF_IMAGE = 150_000
 NAMES["picture"] = ("place in the list of schedules", "by clock", "place in the list of checks"), ("looked at", "wrong")
 NAMES["broken picture"] = ("place in the list of edits", "by clock"), ("found out", "before the edit")
+NAMES["broken picture of two holders"] = ("place in the list of edits", "by clock"), ("found out", "before the edit")
 NAMES["picture of nothing"] = ("place in the list of inputs",), ("exit status", "bytes written", "said as by run")
 NAMES["picture's size"] = (), ("under 2,000,000 bytes",)
 NAMES["marks drawn"] = (), ("kinds of marks", "not in the legend, or in it alone")
@@ -50,7 +53,7 @@ def files():
     shapes = [Shape(Settings(*settings), clients, calls) for *settings, clients, calls in
               ((2, 1, 5, 9, 1, 40), (2, 1, 9, 3, 3, 120), (3, 2, 30, 32, 7, 200), (4, 2, 60, 70, 10, 300), (5, 4, 20, 30, 40, 400),
                (6, 3, 60, 4000, 64, 600))]
-    found += [encode(busy_schedule(place, shape, busy)) for place, shape in enumerate(shapes) for busy in (Busy(), STILL, FAR)]
+    found += [encode(busy_schedule(place, shape, busy)) for place, shape in enumerate(shapes) for busy in (Busy(), STILL, FAR, OWN)]
     found += [drawn(kind, seed) for seed in range(12) for kind in ("contended", "well-formed")]
     return found + [encode(each) for each in (*at_the_edges(), great())]
 
@@ -75,12 +78,12 @@ def expected():
     return [Expected(data) for data in files()]
 
 
-def shown(by):
+def shown(asked):
     """Every check of every page."""
-    for place, (text, model) in enumerate(zip(pages(by), expected(), strict=True)):
-        page = Page(text)
-        for check, (looks, count) in enumerate(looked_at(model, by).items()):
-            yield case("picture", [place, by == "clock", check], (count, 0)), looks(page, model, by)
+    for place, (text, model) in enumerate(zip(pages(asked), expected(), strict=True)):
+        page, by = Page(text), model.by(asked)
+        for check, (looks, count) in enumerate((looked_at(model, by) | picture_clocks.looked_at(model, by)).items()):
+            yield case("picture", [place, asked == "clock", check], (count, 0)), looks(page, model, by)
 
 
 def found_out(text, model, by, check, edit):
@@ -103,7 +106,18 @@ def broken_pictures():
                 yield case("broken picture", [number, by == "clock"], (1, 0)), answer
 
 
+def broken_by_two():
+    """Each edit of what is said of own clocks and of two clients that hold is tried on a page that has both, whichever time is asked for."""
+    place = next(place for place, model in enumerate(expected()) if model.by_two)
+    for number, (check, edit) in enumerate(BY_TWO.values()):
+        for by in ("call", "clock"):
+            answer = found_out(pages(by)[place], expected()[place], "call", check, edit)
+            yield case("broken picture of two holders", [number, by == "clock"], (1, 0)), answer
+
+
 def fit_to_be_broken(model):
+    if not model.one_clock:
+        return False
     instants = [told for told in model.holdings if told.start_clock == told.end_clock]
     bars = sorted((told for told in model.holdings if told not in instants), key=lambda told: told.start)
     waits = [told for told in model.stretches if told.end is None and told.phase != HELD]
@@ -122,9 +136,10 @@ def no_schedules():
 
 
 def kinds_of_marks():
-    """Every kind of mark stands in some page: a refused call, a late claim, patience that is over, and each way to become idle."""
+    """Every kind of mark stands in some page: a refused call, a late claim, patience that is over, each way to become idle, and what two
+    clients hold."""
     kinds = {mark.kind for model in expected() for mark in model.marks}
-    yield case("marks drawn", [], (KINDS_OF_MARKS, 0)), (len(kinds), len(kinds ^ set(MARKED)))
+    yield case("marks drawn", [], (KINDS_OF_MARKS + 1, 0)), (len(kinds), len(kinds ^ set(MARKED | MARKED_BY_TWO)))
 
 
 def sizes():
@@ -165,6 +180,7 @@ SUITES = {
     "tools/schedule picture, by call, shows what the model says": lambda: shown("call"),
     "tools/schedule picture, by clock, shows what the model says": lambda: shown("clock"),
     "tools/schedule picture, a page with one thing wrong is found out": broken_pictures,
+    "tools/schedule picture, own clocks and two holders, with one thing wrong": broken_by_two,
     "tools/schedule picture, no page of what is no schedule": no_schedules,
     "tools/schedule picture, pages with every kind of mark": kinds_of_marks,
     "tools/schedule picture, the greatest page": sizes,

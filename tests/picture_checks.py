@@ -5,12 +5,11 @@ import re
 from collections import Counter, defaultdict
 from itertools import combinations, pairwise
 
-from histories import Shape, opened
 from model import schedule as schedules
 from model import tree
-from model.history import holds
-from picture_looks import KINDS_OF_MARKS, marks_unlike, settings
+from picture_looks import kinds_of_marks, marks_unlike, settings
 from picture_pages import HELD, Mark, Told
+from schedule_runs import held_by_two, held_by_two_in_words, holdings, made_by_model, one_clock, run_by_model, told_clocks
 
 OUTCOMES = {1: "released", 2: "late", 3: "cancelled", 4: "out-of-patience"}
 END = float("inf")
@@ -25,38 +24,29 @@ class Expected:
     def __init__(self, data):
         self.schedule = schedules.decode(data)
         self.lines = [line.split() for line in schedules.log(data).splitlines()[1:]]
-        self.clocks = list(self.clocks_after())
-        self.holdings, self.outcomes = self.from_history()
+        self.history = made_by_model(self.schedule)
+        self.one_clock, self.clocks = one_clock(self.history), list(told_clocks(self.history, self.schedule.clients))
+        held = holdings(self.schedule)
+        self.by_two, self.said_of_two = list(held_by_two(held)), held_by_two_in_words(held)
+        self.holdings = sorted(map(self.told, held), key=str)
+        self.outcomes = [run.after.outcome for run in run_by_model(self.schedule)]
         self.stretches, self.marks = self.from_log()
 
-    def clocks_after(self):
-        """An accepted step sets the last clock."""
-        clock = 0
-        for call, line in zip(self.schedule.calls, self.lines):
-            clock = call.a if call.kind == "step" and line[3] == "0" else clock
-            yield clock
+    def by(self, asked):
+        """What time counts on a page: clocks only if there is one for all."""
+        return asked if self.one_clock else "call"
 
     def ended(self, told, place):
         return told._replace(end=place, end_clock=self.clocks[place])
 
-    def from_history(self):
-        """Each window that a client holds, from the first call after which it does to the first after which it does not; and the outcome
-        after each call in the record of its client."""
-        lock, current, found, outcomes = opened(Shape(self.schedule.settings, self.schedule.clients, 0)), {}, [], []
-        for place, call in enumerate(self.schedule.calls):
-            lock.make(call)
-            outcomes.append(lock.records[call.client].outcome if call.client < self.schedule.clients else 0)
-            window, held = holds(lock.history, call.client), current.get(call.client)
-            if held and window != (held.left, held.right):
-                found.append(self.ended(current.pop(call.client), place))
-            if window and call.client not in current:
-                current[call.client] = Told(call.client, HELD, *window, place, None, self.clocks[place], None)
-        return sorted([*found, *current.values()], key=str), outcomes
+    def told(self, held):
+        told = Told(held.client, HELD, *held.window, held.start, None, self.clocks[held.start], None)
+        return told if held.end is None else self.ended(told, held.end)
 
     def from_log(self):
-        """Each stretch in a phase, and the marks: refused calls, steps that end in 10 (late or out of patience), and how each client became
-        idle."""
-        current, found, marks = {}, [], []
+        """Each stretch in a phase, and the marks: refused calls, steps that end in 10 (late or out of patience), how each client became idle,
+        and who holds what another holds."""
+        current, found, marks = {}, [], [Mark("held-by-two", place) for place in {later.start for later, _ in self.by_two}]
         for place, (_, kind, client, number, *rest) in enumerate(self.lines):
             client, (phase, left, right) = int(client), map(int, rest)
             ended = OUTCOMES.get(self.outcomes[place])
@@ -119,9 +109,9 @@ def overlap(one, other):
 
 
 def apart(page, expected, by):
-    """No two bars of the units overlap."""
+    """No two bars of the units overlap, but for those of windows that two clients held."""
     bars = page.bars("units")
-    return len(bars), sum(overlap(*pair) for pair in combinations(bars, 2))
+    return len(bars), abs(sum(overlap(*pair) for pair in combinations(bars, 2)) - len(expected.by_two))
 
 
 def disordered(places):
@@ -242,5 +232,5 @@ def looked_at(expected, by):
     return {
         parsed: 1, held_in("clients"): held, held_in("units"): held, phases: bars, rows: expected.schedule.clients + nobody, apart: held,
         times: 1, edges: len(all_edges) if held else 0, marks: len(expected.marks), marks_in_place: len(expected.marks), in_table: held,
-        described: 1, by_itself: 1, summed_up: waiting, marks_unlike: KINDS_OF_MARKS, settings: 1,
+        described: 1, by_itself: 1, summed_up: waiting, marks_unlike: kinds_of_marks(expected), settings: 1,
     }

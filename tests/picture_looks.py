@@ -4,9 +4,14 @@ import re
 
 from model import tree
 
+# In the legend of every page, and one more where two clients held the same units.
 KINDS_OF_MARKS = 7
 RULE = re.compile(r"([^{}]*)\{([^{}]*)\}")
 FILL = re.compile(r"(?<![-\w])fill:\s*([^;]+)")
+
+
+def kinds_of_marks(expected):
+    return KINDS_OF_MARKS + (len(expected.by_two) > 0)
 
 
 def fills(page):

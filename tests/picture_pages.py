@@ -65,6 +65,11 @@ class Page:
         drawn = (each for each in self.named("clients").iter("use") if each.get("data-call") is not None)
         return [(Mark(each.get("href").removeprefix("#"), int(each.get("data-call"))), int(each.get("x")), int(each.get("y"))) for each in drawn]
 
+    def frames(self):
+        """Each frame among the units: the client that came later, the other, the call, and where it is."""
+        names = "data-later", "data-earlier", "data-call", "x", "y", "width", "height"
+        return [tuple(int(each.get(name)) for name in names) for each in self.named("units").iter("rect") if each.get("data-later") is not None]
+
     def title(self):
         return self.root.findtext("head/title")
 

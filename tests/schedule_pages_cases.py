@@ -9,12 +9,13 @@ from typing import NamedTuple
 from compare import NAMES, case, unlike
 from library import ROOT
 from model import cover, pages, schedule
-from model.history import Call
+from model.history import Call, overlap
 from model.record import Record
 from random_schedules import drawn
 from schedule_failing_cases import WRONG
 from schedule_files import of_calls
-from schedule_run_cases import OUTCOMES, PHASES, run_by_model
+from schedule_run_cases import OUTCOMES, PHASES
+from schedule_runs import CANNOT_BE, common, one_clock, opened_for
 from schedule_tool import started
 from scheduling.page_report import page_report
 
@@ -32,7 +33,8 @@ GOES_ON = " " * 20
 
 
 class After(NamedTuple):
-    """What the model leaves after the last call: the records, the last clock, and how many calls were refused."""
+    """What the model leaves after the last call: the records, the last clock (None if each client has its own), and how many calls were
+    refused."""
 
     records: list
     clock: int
@@ -40,12 +42,10 @@ class After(NamedTuple):
 
 
 def after(read):
-    opened, numbers = None, []
-    for opened, made, *_ in run_by_model(read):
-        numbers.append(made.number)
-    if opened is None:
-        return After([Record()] * read.clients, 0, 0)
-    return After(opened.records, opened.clock, sum(number != 0 for number in numbers))
+    opened = opened_for(read)
+    made = [opened.make(call) for call in read.calls]
+    clock = max(client.clock for client in opened.clients) if one_clock(made) else None
+    return After(opened.records, clock, sum(each.number != 0 for each in made))
 
 
 def nodes_in_words(first, second):
@@ -85,7 +85,16 @@ BETWEEN = ["Over-cover: units beyond the window that its nodes lock with it.", "
 def when(read, clock):
     h, m, wait, patience = read.settings
     calls = "1 call" if len(read.calls) == 1 else f"{len(read.calls)} calls"
-    return f"After {calls}, at clock {clock}: {h} levels, m {m}, wait {wait}, patience {patience}"
+    at_clock = "" if clock is None else f", at clock {clock}"
+    return f"After {calls}{at_clock}: {h} levels, m {m}, wait {wait}, patience {patience}"
+
+
+def held_by_two(records):
+    """What is said if clients hold overlapping windows after the last call."""
+    held = [(client, (record.left, record.right)) for client, record in enumerate(records) if record.phase == 9]
+    said = [f"client {one} and client {other} both hold {common(window, another)}"
+            for place, (one, window) in enumerate(held) for other, another in held[place + 1:] if overlap(window, another)]
+    return ["", *said, CANNOT_BE] if said else []
 
 
 def refused_words(refused, calls):
@@ -102,7 +111,7 @@ def expected_words(read):
     held = sum(record.phase == 9 for record in records)
     planners = [planners_words(read.settings, client, record) for client, record in enumerate(records)]
     runs = [run_words(read.settings, client, record, held) for client, record in enumerate(records)]
-    lines = [when(read, clock), *ABOVE, *planners, *BETWEEN, *runs, *refused_words(refused, len(read.calls))]
+    lines = [when(read, clock), *ABOVE, *planners, *BETWEEN, *runs, *held_by_two(records), *refused_words(refused, len(read.calls))]
     return [line.split() for line in lines]
 
 

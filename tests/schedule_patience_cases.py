@@ -5,11 +5,11 @@ from collections import Counter
 
 from compare import NAMES, case
 from library import ROOT
-from model.history import Opened
-from model.record import IDLE
+from model.schedule import Schedule
 from picture_checks import Expected, marks
 from picture_pages import Page
 from schedule_plan_cases import drawn_wishes, held_times, not_as_wished, run
+from schedule_runs import run_by_model
 from schedule_tool import started
 from scheduling.planning import plan, plan_lines
 from scheduling.wishes import read_wishes
@@ -147,13 +147,8 @@ def planned(text):
 
 def clocks_of_ends(opened):
     """The clocks of the steps by which clients of a history were out of patience, found by making its calls again."""
-    again, clocks = Opened(opened.settings, [0] * len(opened.words), [IDLE] * len(opened.records)), []
-    for made in opened.history:
-        before = again.records[made.call.client].phase
-        again.make(made.call)
-        if before != 10 and again.records[made.call.client].outcome == 4 and made.call.kind == "step":
-            clocks.append(made.call.a)
-    return clocks
+    again = run_by_model(Schedule(opened.settings, len(opened.clients), tuple(made.call for made in opened.history)))
+    return [run.made.call.a for run in again if run.before.phase != 10 and run.after.outcome == 4 and run.made.call.kind == "step"]
 
 
 def plans():

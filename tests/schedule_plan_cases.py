@@ -5,9 +5,8 @@ from collections import Counter
 from random import Random
 
 from compare import NAMES, case
-from model import schedule
-from model.history import Opened, holds, idle
-from model.record import IDLE
+from model.history import holds, idle
+from schedule_runs import opened_for
 from schedule_tool import started
 from scheduling.packed import pack
 from scheduling.planning import plan, plan_lines
@@ -74,22 +73,23 @@ def drawn_wishes(seed):
 def run(text):
     """A text's schedule and the model's table after each call."""
     read = read_text(text.encode()).schedule
-    opened = Opened(read.settings, [0] * schedule.tree.node_count(read.settings.levels), [IDLE] * read.clients)
+    opened = opened_for(read)
     return read, opened, (opened.make(call) for call in read.calls)
 
 
 def held_times(opened, made_calls):
-    """For each window held: client, edges, and the clocks from and to which it was; and how many calls were refused or late."""
+    """For each window held: client, edges, and by the client's own clock from when to when it was; and how many calls were refused or late."""
     held, found, wrong = {}, Counter(), 0
     for made in made_calls:
         client, now = made.call.client, holds(opened.history, made.call.client)
-        late = made.phase == 0 and made.call.kind == "step" and opened.records[client].outcome == 2
+        clock, record = opened.clients[client]
+        late = made.phase == 0 and made.call.kind == "step" and record.outcome == 2
         wrong += made.number != 0 or late
         if now and client not in held:
-            held[client] = now, opened.clock
+            held[client] = now, clock
         elif client in held and not now:
             window, start = held.pop(client)
-            found[client, *window, start, opened.clock] += 1
+            found[client, *window, start, clock] += 1
     return found, wrong
 
 

@@ -1,30 +1,34 @@
 """Cases for `tools/schedule run`: the log beside its lines, in words, held to what the model makes of the same calls, and a summary of who
-held, who waits for whom, and how each request ended."""
+held, who held at the same time, who waits for whom, and how each request ended."""
 
 from collections import Counter
 from itertools import zip_longest
 
+import schedule_clock_cases
 from compare import NAMES, case
 from library import ROOT
 from model import schedule
-from model.history import Opened, holds
-from model.record import IDLE
+from model.record import Client
 from random_schedules import drawn
 from schedule_files import WHOLE_CASE
+from schedule_runs import CAN_BE_TRUE, CANNOT_BE_TRUE, at, clocks_in_words, held_by_two_in_words, holdings, in_words, made_by_model
+from schedule_runs import opened_for, run_by_model, section
 from schedule_tool import started
 from scheduling.events import happened
 from scheduling.packed import read_file
 from scheduling.report import report
 from scheduling.waiting import wait_of
 
-NAMES["report of a schedule"] = ("seed",), ("rows", "unlike the log and the model", "lines on windows unlike", "counts unlike")
-NAMES["windows given up"] = (), ("in some report",)
+NAMES["report of a schedule"] = ("seed",), ("rows", "unlike the log and the model", "sections unlike", "counts unlike")
+NAMES["reports with"] = (), ("windows given up", "windows held by two", "clocks that can be true", "clocks that cannot")
 NAMES["waiting client"] = ("seed", "client"), ("waits", "named clients that are idle or itself")
 NAMES["line of a report"] = ("place in the list of reports", "line"), ("as expected",)
 NAMES["run"] = ("place in the list of files",), ("exit status", "log as rangelog's", "said why")
 
 PHASES = ["idle", "ticket", "turn", "climb", "blocked", "claim", "notify", "wait", "check", "held", "returning"]
 OUTCOMES = ["", "released", "late", "cancelled", "out of patience"]
+# What some report must have: windows given up and held by two, and clocks that can be true and that cannot.
+SHOWN = "Given up, out of patience", "Held by two at the same time", f"  {CAN_BE_TRUE}", f"  {CANNOT_BE_TRUE}"
 
 
 def lines_of(data):
@@ -33,81 +37,65 @@ def lines_of(data):
     return list(report(source, happened(source.schedule, log)))
 
 
-def expected_words(made, before, after):
-    """The last words of a row: a refused call's number; else the phase, where it gives back or has become idle with the outcome."""
-    if made.number:
-        return f"refused {made.number}: "
-    ended = after.phase == 10 or (after.phase == 0 and before.phase != 0)
+def expected_words(run):
+    """The last words of a row: a refused call's number, by 5 with the client's own last clock; else the phase, where it gives back or has
+    become idle with the outcome."""
+    call, number, after = run.made.call, run.made.number, run.after
+    if number == 5:
+        return f"refused 5: clock {call.a} is below client {call.client}'s last clock {run.opened.clients[call.client].clock}"
+    if number:
+        return f"refused {number}: "
+    ended = after.phase == 10 or (after.phase == 0 and run.before.phase != 0)
     return PHASES[after.phase] + (f", {OUTCOMES[after.outcome]}" if ended else "")
-
-
-def run_by_model(read):
-    """Each call of a schedule, as the model makes it: what was made, the client's record before and after, and the clock after."""
-    opened = Opened(read.settings, [0] * schedule.tree.node_count(read.settings.levels), [IDLE] * read.clients)
-    for call in read.calls:
-        there = call.client < read.clients
-        before = opened.records[call.client] if there else IDLE
-        made = opened.make(call)
-        yield opened, made, before, opened.records[call.client] if there else IDLE
-
-
-def held_by_model(read):
-    """The lines on who held what, from the history alone: a window is held from the first moment at which `holds` says so."""
-    held, found = {}, []
-    for place, (opened, made, _, _) in enumerate(run_by_model(read)):
-        client, now = made.call.client, holds(opened.history, made.call.client)
-        if now and client not in held:
-            held[client] = len(found)
-            found.append([client, now, f"from clock {opened.clock} (call {place})", "and still holds it"])
-        elif client in held and not now:
-            found[held.pop(client)][3] = f"to clock {opened.clock} (call {place})"
-    return [f"  client {client} held [{left}, {right}) {start} {end}" for client, (left, right), start, end in found]
 
 
 def given_up_by_model(read):
     """The lines on who gave a window up: a step of a second piece that ends in 10 with outcome 4."""
-    for place, (opened, made, before, after) in enumerate(run_by_model(read)):
-        if made.call.kind == "step" and before.phase != 10 and (after.phase, after.outcome) == (10, 4):
+    for run in run_by_model(read):
+        before, after = run.before, run.after
+        if run.made.call.kind == "step" and before.phase != 10 and (after.phase, after.outcome) == (10, 4):
             since = f"it had its first piece since clock {before.taken}, and its patience is {read.settings.patience}"
-            yield f"  client {made.call.client} gave [{before.left}, {before.right}) up at clock {opened.clock} (call {place}): {since}"
+            yield f"client {run.made.call.client} gave [{before.left}, {before.right}) up at {at(run)}: {since}"
 
 
 def counted_by_model(read):
     ended, refused = Counter(), 0
-    for _, made, before, after in run_by_model(read):
-        refused += made.number != 0
-        if made.number == 0 and before.outcome == 0 and after.outcome:
-            ended[after.outcome] += 1
+    for run in run_by_model(read):
+        refused += run.made.number != 0
+        if run.made.number == 0 and run.before.outcome == 0 and run.after.outcome:
+            ended[run.after.outcome] += 1
     counted = ", ".join(f"{ended[number]} {OUTCOMES[number]}" for number in (1, 2, 3, 4))
-    return [f"  {counted}", f"  {len(read.calls)} calls, {refused} refused"]
+    return [counted, f"{len(read.calls)} calls, {refused} refused"]
 
 
 def unlike_rows(rows, read, log):
-    """How many rows do not have the call, its line of the log, the clock and the words of the model."""
+    """How many rows do not have the call, its line of the log, the clock that is told with it and the words of the model."""
     unlike = 0
-    for row, logged, (opened, made, before, after) in zip_longest(rows, log[1:], run_by_model(read)):
-        told = f"  {logged}", f"  {opened.clock}  {expected_words(made, before, after)}"
-        unlike += not all(part in row for part in told) or row.split()[1:3] != [made.call.kind, str(made.call.client)]
+    for row, logged, run in zip_longest(rows, log[1:], run_by_model(read)):
+        call, told = run.made.call, "" if run.clock is None else f"{run.clock}  "
+        behind = row.partition(f"  {logged} ")[2].strip()
+        wanted = told + expected_words(run)
+        unlike += not behind.startswith(wanted) or row.split()[1:3] != [call.kind, str(call.client)]
     return unlike
 
 
-def section(lines, title):
-    """The lines below a title of the summary, up to the next blank one."""
-    if title not in lines:
-        return []
-    below = lines[lines.index(title) + 1:]
-    return below[:below.index("")] if "" in below else below
+def held_in_words(found):
+    ends = (f"to {held.until}" if held.until else "and still holds it" for held in found)
+    return [f"client {held.client} held {in_words(held.window)} from {held.since} {end}" for held, end in zip(found, ends)]
 
 
-def windows_unlike(rest, read):
-    """How many of the two sections on who held and who gave up are not the model's, without the deeper lines that say why."""
-    gave_up = [line for line in section(rest, "Given up, out of patience") if not line.startswith("    ")]
-    return (section(rest, "Held") != (held_by_model(read) or ["  nobody"])) + (gave_up != list(given_up_by_model(read)))
+def sections_unlike(rest, read):
+    """How many of the sections on the clocks, on who held, on who held at the same time and on who gave up are not the model's, without the
+    deeper lines that say why a client gave up."""
+    found = holdings(read)
+    wanted = {"Clocks": clocks_in_words(made_by_model(read)), "Held": held_in_words(found) or ["nobody"],
+              "Held by two at the same time": held_by_two_in_words(found), "Given up, out of patience": list(given_up_by_model(read))}
+    return sum([line for line in section(rest, title) if not line.startswith("  ")] != lines for title, lines in wanted.items())
 
 
 def reports():
-    """Random schedules: every row, the lines on who held what and who gave up, and the counts."""
-    given_up = 0
+    """Random schedules: every row, what is said of clocks, of who held and who gave up, and the counts."""
+    shown = Counter()
     for seed in range(120):
         data = drawn("contended" if seed % 3 else "well-formed", seed)
         read, log = schedule.decode(data), schedule.log(data).splitlines()
@@ -116,11 +104,11 @@ def reports():
         lines = lines_of(data)
         rows, rest = lines[1:1 + len(read.calls)], lines[1 + len(read.calls):]
         counts, wanted = section(rest, "In all"), counted_by_model(read)
-        given_up += "Given up, out of patience" in rest
-        answer = (len(rows), unlike_rows(rows, read, log), windows_unlike(rest, read),
+        shown.update(part for part in SHOWN if part in rest)
+        answer = (len(rows), unlike_rows(rows, read, log), sections_unlike(rest, read),
                   int(not all(line.startswith(start) for line, start in zip_longest(counts, wanted, fillvalue="?"))))
         yield case("report of a schedule", [seed], (len(read.calls), 0, 0, 0)), answer
-    yield case("windows given up", [], 1), int(given_up > 0)
+    yield case("reports with", [], (1, 1, 1, 1)), tuple(int(shown[part] > 0) for part in SHOWN)
 
 
 def waiting_clients():
@@ -130,7 +118,7 @@ def waiting_clients():
         read = schedule.decode(drawn("contended", seed))
         if isinstance(read, int):
             continue
-        *_, (opened, _, _, _) = run_by_model(read)
+        *_, (_, opened, *_) = run_by_model(read)
         for client, record in enumerate(opened.records):
             if record.phase in (0, 9):
                 continue
@@ -148,10 +136,11 @@ def with_patience(record, clock):
 def gets_on(settings, opened, client):
     """Whether a client that alone makes steps comes to another phase than those that lead back to where it is, for instance from claim to
     climb and back: it is then held, idle, or at a piece or place that it has not been at."""
-    words, records, clock = list(opened.words), list(opened.records), opened.clock + settings.wait
-    alone = Opened(settings, list(words), list(records))
-    first = records[client] = with_patience(records[client], clock)
-    alone.words[:], alone.records[:], alone.clock = words, records, clock
+    clock = opened.clients[client].clock + settings.wait
+    first = with_patience(opened.clients[client].record, clock)
+    alone = opened_for(schedule.Schedule(settings, len(opened.clients), ()))
+    alone.words[:], alone.clients[:] = opened.words, opened.clients
+    alone.clients[client] = Client(clock, first)
     if first.phase in (3, 4, 5):
         for _ in range(40):
             made = alone.make(schedule.Call("step", client, clock))
@@ -159,7 +148,7 @@ def gets_on(settings, opened, client):
                 return True
         return False
     alone.make(schedule.Call("step", client, clock))
-    return alone.records[client] != first
+    return alone.clients[client].record != first
 
 
 # The end of a schedule's report, for each thing that a client can wait for.
@@ -182,9 +171,8 @@ WAITS = {
                               "its patience is over at clock 22"),
     "the clock, with patience": ("tree 3 m 1 wait 5 patience 20 clients 1\nrequest 0 60 400\n" + "step 0 1\n" * 5 + "step 0 6\n" * 7, 0,
                                  "client 0 [60, 400), phase 7 wait, waits for nobody: until clock 11; its patience is over at clock 26"),
-    "nothing, out of patience": ("tree 2 m 1 wait 5 patience 20 clients 2\nrequest 0 60 70\nstep 0 2\nstep 0 2\nstep 0 2\nstep 1 22", 0,
-                                 "client 0 [60, 70), phase 3 climb, waits for nobody: its patience was over at clock 22, "
-                                 "and its next step begins to give back"),
+    "nothing, with patience": ("tree 2 m 1 wait 5 patience 20 clients 2\nrequest 0 60 70\nstep 0 2\nstep 0 2\nstep 0 2\nstep 1 22", 0,
+                                 "client 0 [60, 70), phase 3 climb, waits for nobody: it needs steps; its patience is over at clock 22"),
     "steps": ("tree 2 m 1 wait 5 patience 20 clients 2\nrequest 1 0 256", 1, "client 1 [0, 256), phase 1 ticket, waits for nobody: it needs steps"),
 }
 
@@ -210,7 +198,7 @@ def whole_case_report():
 
 def runs():
     """`run --log` prints the log of a text and of a file, also of a file that is no schedule, and the exit status says whether the schedule
-    was run."""
+    was run. Beside the log it says why not, or which windows two clients held."""
     texts = sorted((ROOT / "schedules").glob("*.txt"))
     files = [(path.read_bytes(), path.with_suffix(".bin").read_bytes()) for path in texts]
     drawn_files = (drawn(kind, seed) for kind in ("contended", "refused", "damaged") for seed in range(8))
@@ -218,7 +206,8 @@ def runs():
     for place, (given, file) in enumerate(files):
         ran, log = started("run", "--log", data=given), schedule.log(file)
         refused = log.startswith("refused")
-        yield case("run", [place], (int(refused), 1, int(refused))), (ran.status, int(ran.written.decode() == log), int(ran.said != ""))
+        said = ran.said != "" if refused else ran.said.splitlines() == held_by_two_in_words(holdings(schedule.decode(file)))
+        yield case("run", [place], (int(refused), 1, 1)), (ran.status, int(ran.written.decode() == log), int(said))
 
 
 SUITES = {
@@ -227,4 +216,5 @@ SUITES = {
     "tools/schedule run, for whom, in words": waits_in_words,
     "tools/schedule run, the whole case in docs/SCHEDULES.md": whole_case_report,
     "tools/schedule run, the log alone and the exit status": runs,
+    **schedule_clock_cases.SUITES,
 }

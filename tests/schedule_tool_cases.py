@@ -68,9 +68,12 @@ TEXT_WARNINGS = {
     "a window past the tree": (HEAD + "\nrequest 0 10 257",
                                "line 3: warning: the right edge 257 is past the 256 units of 2 levels; the lock will refuse this call by 7"),
     "an empty window": (HEAD + "request 1 10 10", "line 2: warning: the left edge 10 is not below the right edge 10; the lock will refuse this call by 7"),
-    "a clock that goes back": (HEAD + "step 0 5\nstep 9 9\nstep 1 4 # now\nstep 1 5",
+    "a clock that goes back": (HEAD + "step 0 5\nstep 9 9\nstep 0 4 # now\nstep 1 4\nstep 0 5",
                                "line 3: warning: there is no client 9: with 2 clients they are 0 to 1; the lock will refuse this call by 4\n"
-                               "line 4: warning: clock 4 is below the last clock 5; the lock will refuse this call by 5"),
+                               "line 4: warning: clock 4 is below client 0's last clock 5; the lock will refuse this call by 5"),
+    "clocks that go back by their own client's last": (HEAD + "step 0 9\nstep 1 3\nstep 1 2\nstep 1 3\nstep 0 8\nstep 0 9",
+                                                       "line 4: warning: clock 2 is below client 1's last clock 3; the lock will refuse this call by 5\n"
+                                                       "line 6: warning: clock 8 is below client 0's last clock 9; the lock will refuse this call by 5"),
     "seven levels": ("# high\ntree 7 m 1 wait 5 patience 20 clients 2\nstep 9 9", "line 2: warning: rangelog and rangepages run trees of at most 6 levels, not 7; refused by 11"),
     "no patience": ("tree 2 m 1 wait 5 patience 0 clients 2\nstep 9 9", "line 1: warning: the patience is at least 1, not 0; refused by 1"),
     "no wait, no patience and no clients": ("tree 2 m 1 wait 0 patience 0 clients 0",

@@ -7,9 +7,11 @@ from random import Random
 from compare import NAMES, case
 from library import ROOT
 from model import calls, tree
-from model.history import Call, Opened
-from model.record import IDLE, Settings
+from model.history import Call
+from model.record import IDLE_CLIENT, Settings
+from model.schedule import Schedule
 from schedule_plan_cases import drawn_wishes
+from schedule_runs import opened_for
 from scheduling.durations import later_piece, longest_later_piece
 from scheduling.planning import reached
 from scheduling.waiting import wait_of
@@ -46,22 +48,21 @@ class Words(dict):
 
 def alone(settings, left, right):
     """The phase, 9 or 10, that a client comes to by a step a tick which is alone in a fresh tree: whether it holds or is late."""
-    words, clock = Words(tree.node_count(settings.levels)), 0
-    record = calls.request(settings, words, IDLE, left, right, 0).record
-    while record.phase not in (9, 10):
-        clock += 1 if record.phase != 7 else settings.wait
-        _, _, record = calls.step(settings, words, record, clock, clock)
-    return record.phase
+    words = Words(tree.node_count(settings.levels))
+    client = calls.request(settings, words, IDLE_CLIENT, left, right).client
+    while client.record.phase not in (9, 10):
+        clock = client.clock + (1 if client.record.phase != 7 else settings.wait)
+        client = calls.step(settings, words, client, clock).client
+    return client.record.phase
 
 
 def steps_alone(settings, left, right):
     """How many steps the same client takes where all are made at one clock, and the one after a wait once that is over."""
-    words, clock, steps = Words(tree.node_count(settings.levels)), 0, 0
-    record = calls.request(settings, words, IDLE, left, right, 0).record
-    while record.phase != 9:
-        clock += settings.wait if record.phase == 7 else 0
+    words, steps = Words(tree.node_count(settings.levels)), 0
+    client = calls.request(settings, words, IDLE_CLIENT, left, right).client
+    while client.record.phase != 9:
         steps += 1
-        _, _, record = calls.step(settings, words, record, clock, clock)
+        client = calls.step(settings, words, client, client.clock + (settings.wait if client.record.phase == 7 else 0)).client
     return steps
 
 
@@ -87,12 +88,11 @@ def given_up(settings, level):
     """Whether a client gives up that is alone, makes a step a tick, and wants the last unit before the middle of the tree and after it all of a
     node at this level."""
     middle = tree.units(settings.levels) // 2
-    words, clock = Words(tree.node_count(settings.levels)), 0
-    record = calls.request(settings, words, IDLE, middle - 1, middle + 64 * 4 ** (settings.levels - level), 0).record
-    while record.phase not in (9, 10):
-        clock += 1
-        _, _, record = calls.step(settings, words, record, clock, clock)
-    return int(record.outcome == 4)
+    words = Words(tree.node_count(settings.levels))
+    client = calls.request(settings, words, IDLE_CLIENT, middle - 1, middle + 64 * 4 ** (settings.levels - level)).client
+    while client.record.phase not in (9, 10):
+        client = calls.step(settings, words, client, client.clock + 1).client
+    return int(client.record.outcome == 4)
 
 
 def second_pieces():
@@ -118,7 +118,7 @@ def stuck():
     """H 3, m 1, T 5, windows [60, 70) and [0, 256): stepped in turn, neither comes on while client 0 has patience; then client 1 does. Client 0
     has its first piece from clock 5 on."""
     for rounds, patience, phases in ((20, LONGEST, (4, 8)), (500, LONGEST, (4, 8)), (104, 100, (4, 8)), (105, 100, (10, 8)), (108, 100, (0, 9))):
-        opened = Opened(Settings(3, 1, 5, patience), [0] * 21, [IDLE] * 2)
+        opened = opened_for(Schedule(Settings(3, 1, 5, patience), 2, ()))
         opened.make(Call("request", 0, 60, 70))
         opened.make(Call("request", 1, 0, 256))
         for clock in range(1, rounds + 1):
@@ -144,10 +144,10 @@ def crowd(seed):
     """The table after each round in which every client of random wishes makes a call, in any order: it asks, steps or releases, and seldom
     cancels. Nobody's patience runs out."""
     rng, (given, wishes) = Random(f"crowd {seed}"), read_wishes("\n".join(drawn_wishes(seed)).encode())
-    opened = Opened(given.settings._replace(patience=LONGEST), [0] * tree.node_count(given.settings.levels), [IDLE] * given.clients)
+    opened = opened_for(given._replace(settings=given.settings._replace(patience=LONGEST)))
     for clock in range(1, 150):
         for client in rng.sample(range(given.clients), given.clients):
-            phase, wish = opened.records[client].phase, rng.choice(wishes)
+            phase, wish = opened.clients[client].record.phase, rng.choice(wishes)
             kind = {0: "request", 9: "release"}.get(phase, "cancel" if phase != 10 and rng.random() < 0.002 else "step")
             opened.make(Call(kind, client, *{"request": (wish.left, wish.right), "step": (clock,)}.get(kind, ())))
         yield opened

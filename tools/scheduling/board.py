@@ -54,12 +54,12 @@ def clients_part(axis, schedule, stretches, marks):
                 client_chart.drawn(axis, stretches, marks, rows))
 
 
-def units_part(axis, schedule, held):
+def units_part(axis, schedule, held, overlaps):
     units = unit_chart.UnitAxis(schedule, held)
     last = tree.units(schedule.settings.levels) - 1
     says = f"The units 0 to {last} from top to bottom, with a bar for each window while it was held. Held {len(held)} times: {IN_TABLE}"
     return Part("units", "Units", says, units.height, joined(unit_chart.edges_drawn(units, NAMES_WIDTH)),
-                unit_chart.drawn(axis, units, held))
+                unit_chart.drawn(axis, units, held, overlaps))
 
 
 def with_bands(axis, part):

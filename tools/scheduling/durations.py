@@ -7,7 +7,8 @@ from scheduling.names import window
 
 def longest_claim(levels, distance):
     """The most ticks that a piece takes from its first climb to its last notice: at level d there are d - 2 further climbs, the claim
-    and the notices. With a wait of no more ticks the claim is late."""
+    and the notices. With a wait of no more ticks the claim is late, and with one more it is not: 10,001 and 9,999 make a difference of a tick
+    only from a wait of 5,001 on, and no claim takes as long."""
     return max(level - 1 + len(tree.notify_levels(distance, level)) for level in range(2, levels + 1))
 
 

@@ -4,15 +4,15 @@ from typing import NamedTuple
 
 from model import tree
 from model.history import Call, Opened
-from model.record import IDLE, Record
-from model.schedule import record_after
+from model.record import IDLE_CLIENT, Record
+from scheduling.clocks import told
 from scheduling.names import HELD, OUT_OF_PATIENCE, RETURNING
 from scheduling.waiting import Wait, wait_of
 
 
 class Event(NamedTuple):
-    """A call that was made: its place from 0, its number, the client's record and the last clock before it and after it, and its line
-    of the log."""
+    """A call that was made: its place from 0, its number, the client's record before it and after it, the client's last clock before it, the
+    clock that is told with it, and its line of the log."""
 
     place: int
     call: Call
@@ -25,8 +25,7 @@ class Event(NamedTuple):
 
 
 class Holding(NamedTuple):
-    """A window that a client held, from the step that took it to the release; with no end if it still holds. Each end is a call's
-    place and the clock then."""
+    """A window that a client held, from the step that took it to the release; with no end if it still holds."""
 
     client: int
     left: int
@@ -45,37 +44,49 @@ class GivenUp(NamedTuple):
 
 
 class Happened(NamedTuple):
-    """A schedule that was run: its events, the windows that were given up for want of patience, and the words and records after the last."""
+    """A schedule that was run: its events, the windows that were given up for want of patience, and the model's table after the last."""
 
     schedule: object
     events: tuple
     given_up: tuple
-    words: list
-    records: list
-    clock: int
+    opened: Opened
 
 
 def fresh(schedule):
-    words, records = [0] * tree.node_count(schedule.settings.levels), [IDLE] * schedule.clients
-    return Opened(schedule.settings, words, records)
+    words, clients = [0] * tree.node_count(schedule.settings.levels), [IDLE_CLIENT] * schedule.clients
+    return Opened(schedule.settings, words, clients)
+
+
+def after_all(schedule):
+    """The model's table after the last call."""
+    opened = fresh(schedule)
+    for call in schedule.calls:
+        opened.make(call)
+    return opened
 
 
 def happened(schedule, log):
     """What the lines of a log tell, which is the model's, with all that the model knows beside it."""
     opened, events, given = fresh(schedule), [], []
-    for place, (call, logged) in enumerate(zip(schedule.calls, log[1:], strict=True)):
-        client_there = call.client < schedule.clients
-        before, last = opened.records[call.client] if client_there else IDLE, opened.clock
+    clocks = told(after_all(schedule).history, schedule.clients)
+    for place, (call, clock, logged) in enumerate(zip(schedule.calls, clocks, log[1:], strict=True)):
+        before = client_of(opened, call)
         made = opened.make(call)
-        after = record_after(made, opened.records)
-        events.append(Event(place, call, made.number, before, after, last, opened.clock, logged))
+        after = client_of(opened, call).record
+        events.append(Event(place, call, made.number, before.record, after, before.clock, clock, logged))
         if out_of_patience(events[-1]):
             given.append(given_up(opened, events[-1]))
-    return Happened(schedule, tuple(events), tuple(given), opened.words, opened.records, opened.clock)
+    return Happened(schedule, tuple(events), tuple(given), opened)
+
+
+def client_of(opened, call):
+    """A call's client; one that there is not is idle."""
+    return opened.clients[call.client] if call.client < len(opened.clients) else IDLE_CLIENT
 
 
 def at(event):
-    return f"clock {event.clock} (call {event.place})"
+    call = f"call {event.place}"
+    return call if event.clock is None else f"clock {event.clock} ({call})"
 
 
 def became(event, phase):
@@ -90,7 +101,7 @@ def out_of_patience(event):
 
 def given_up(opened, event):
     """What a client had waited for whose patience this step found over: the step touches no word, and no record but its own."""
-    client, records = event.call.client, list(opened.records)
+    client, records = event.call.client, opened.records
     records[client] = event.before
     wait = wait_of(opened.settings, opened.words, records, client)
     return GivenUp(event, wait, wait.clients() if wait else ())

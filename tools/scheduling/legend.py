@@ -2,6 +2,7 @@
 
 from scheduling.markup import drawing, element
 from scheduling.names import HELD, PHASES
+from scheduling.stretches import HELD_BY_TWO
 
 MARKED = {
     "refused": "refused call",
@@ -12,6 +13,8 @@ MARKED = {
     "idle-cancelled": "idle, cancelled",
     "idle-out-of-patience": "idle, out of patience",
 }
+# In the legend only where it happened: true clocks cannot bring it about.
+BY_TWO = {HELD_BY_TWO: "held while another holds a part of it"}
 
 
 def entry(name, *sample):
@@ -34,7 +37,7 @@ def within_entries():
     yield entry("other phases within one clock", element("path", class_="passed", d="M14 2v14"))
 
 
-def legend(by_clock):
+def legend(by_clock, by_two):
     phases = [phase_entry(phase) for phase in range(1, len(PHASES))]
-    marks = [mark_entry(*each) for each in MARKED.items()]
+    marks = [mark_entry(*each) for each in (MARKED | (BY_TWO if by_two else {})).items()]
     return element("ul", *phases, *marks, *(within_entries() if by_clock else ()), class_="legend", aria_label="Legend")

@@ -8,6 +8,7 @@ from typing import NamedTuple
 from model.schedule import LONGEST
 from scheduling import packed, picture, report
 from scheduling.events import happened
+from scheduling.overlaps import overlap_lines
 from scheduling.page_report import page_report
 from scheduling.planning import left_out, plan, plan_lines
 from scheduling.problems import Failed, Wrong
@@ -87,7 +88,8 @@ def run_and_happened(streams, options):
 
 
 def log_alone(data):
-    """The log, also that of a file that is no schedule, with what is wrong with it beside it."""
+    """The log, also that of a file that is no schedule, with what is wrong with it beside it; and with two clients that hold at once, which is
+    hard to see in a log."""
     try:
         source, file = read_source(data)
     except Wrong as wrong:
@@ -95,7 +97,9 @@ def log_alone(data):
             raise
         return Made(lines(whole_output(RANGELOG, data)), wrong.messages, INPUT_WRONG)
     log, refused = whole_output(RANGELOG, file), of_whole(source)
-    return Made(lines(log), refused, INPUT_WRONG if refused else DONE)
+    if refused:
+        return Made(lines(log), refused, INPUT_WRONG)
+    return Made(lines(log), tuple(overlap_lines(happened(source.schedule, log).events)))
 
 
 def do_run(streams, options):
@@ -144,7 +148,8 @@ def parser(streams):
         added[name].add_argument("-o", dest="output", metavar="FILE", help="write this file, whole or not at all")
         added[name].set_defaults(do=does)
     added["run"].add_argument("--log", action="store_true", help="print the log alone")
-    added["picture"].add_argument("--by", choices=("call", "clock"), default="call", help="what the time axis counts (default: call)")
+    by = "what the time axis counts (default: call); clocks only where they never go back along the schedule"
+    added["picture"].add_argument("--by", choices=("call", "clock"), default="call", help=by)
     return parser
 
 

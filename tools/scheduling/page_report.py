@@ -5,8 +5,10 @@ from textwrap import wrap
 from model.pages import Row
 from model.record import Record
 from scheduling.columns import in_columns
-from scheduling.events import fresh
+from scheduling.clocks import last_of_all
+from scheduling.events import after_all
 from scheduling.names import OUTCOMES, PHASES, listed, window
+from scheduling.overlaps import overlaps_of_rows
 from scheduling.waiting import patience_ends
 
 WIDE = 100
@@ -90,26 +92,35 @@ def runs_lines(settings, records):
 
 
 def when(schedule, clock):
+    """After how many calls, at which clock if there is one for all, and with which settings."""
     count, (levels, distance, wait, patience) = len(schedule.calls), schedule.settings
-    return f"After {count} call{'s' * (count != 1)}, at clock {clock}: {levels} levels, m {distance}, wait {wait}, patience {patience}"
+    at_clock = "" if clock is None else f", at clock {clock}"
+    return f"After {count} call{'s' * (count != 1)}{at_clock}: {levels} levels, m {distance}, wait {wait}, patience {patience}"
 
 
 def refused_lines(refused, calls):
     """How many calls were refused, of which the pages themselves do not tell."""
     if refused:
-        yield ""
         yield f"{refused} of {calls} call{'s' * (calls != 1)} {'was' if refused == 1 else 'were'} refused: `schedule run` says which"
+
+
+def apart(lines):
+    """Lines with an empty one before them; nothing if there are none."""
+    if found := list(lines):
+        yield ""
+        yield from found
 
 
 def page_report(schedule, lines):
     """Both pages, line by line, with the clock after the last call and the count of refused calls by the model."""
-    opened, (rows, records) = fresh(schedule), rows_and_records(lines)
-    refused = sum(opened.make(call).number != 0 for call in schedule.calls)
-    yield when(schedule, opened.clock)
+    history, (rows, records) = after_all(schedule).history, rows_and_records(lines)
+    refused = sum(made.number != 0 for made in history)
+    yield when(schedule, last_of_all(history))
     yield ""
     yield "The planners' page"
     yield from (INDENT + line for line in (*in_columns(planners_rows(rows), (0,)), *MEANING))
     yield ""
     yield RUNS_TITLE
     yield from (INDENT + line for line in runs_lines(schedule.settings, records))
-    yield from refused_lines(refused, len(schedule.calls))
+    yield from apart(overlaps_of_rows(rows))
+    yield from apart(refused_lines(refused, len(schedule.calls)))

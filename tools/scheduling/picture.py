@@ -5,9 +5,11 @@ from pathlib import PurePath
 
 from model import tree
 from scheduling import board, paper
+from scheduling.clocks import clock_lines, one_for_all
 from scheduling.legend import legend
 from scheduling.markup import drawing, element, joined
 from scheduling.names import window
+from scheduling.overlaps import overlap_lines, overlaps
 from scheduling.picture_style import shapes, style
 from scheduling.problems import escaped
 from scheduling.report import counted_lines, waiting_lines
@@ -25,6 +27,7 @@ OF_CLIENTS = "Clients have a row each, with a bar for each stretch that they spe
 OF_UNITS = ("Among the units, a bar is a window while its client holds it, from its left edge down to its right edge. Two clients that held "
             "the same unit at the same time would be two bars, one over the other. The units are not to scale: all stretches between two "
             "neighbouring edges are equally high.")
+OF_OWN_CLOCKS = "the charts go by the call, also where they are asked for by clock; a clock that is named is the last one of its own client"
 
 
 def title_of(name):
@@ -38,8 +41,8 @@ def settings_in_words(schedule):
     return f"{levels} levels, {tree.units(levels)} units, notices at distance {distance}, wait {wait}, patience {patience}, {clients}"
 
 
-def listed(lines):
-    return element("ul", *(element("li", line) for line in lines))
+def listed(lines, kind=None):
+    return element("ul", *(element("li", line) for line in lines), class_=kind)
 
 
 def row(holding):
@@ -57,29 +60,39 @@ def table(held):
     return element("div", element("table", head, body), class_="wide", role="region", tabindex=0, aria_label="Table of holdings; scrolls")
 
 
-def charts(happened, by, held):
+def charts(happened, axis, held, marked):
     """The charts, to be scrolled and for paper."""
-    schedule, found = happened.schedule, stretches(happened.events)
-    marked = list(marks(schedule, happened.events))
-    axis = axis_by(by, happened.events, held, marked)
-    times = board.times_part(axis)
-    parts = [board.clients_part(axis, schedule, found, marked), *([board.units_part(axis, schedule, held)] if held else [])]
+    schedule, events = happened.schedule, happened.events
+    times, of_clients = board.times_part(axis), board.clients_part(axis, schedule, stretches(events), marked)
+    parts = [of_clients, *([board.units_part(axis, schedule, held, overlaps(events))] if held else [])]
     defined = drawing(0, 0, "Shapes", "The hatchings and marks that the charts are drawn with.", element("defs", shapes()), class_="defs")
     return joined([defined, *board.overviews(axis, parts), board.scrolling(axis, times, parts), paper.panels(axis, [times, *parts])])
 
 
+def of_clocks(happened):
+    """What is to be known of the clocks, and that two clients held at once: on most pages nothing."""
+    if lines := list(clock_lines(happened.opened.history)):
+        yield element("h2", "Clocks")
+        yield listed([*lines, OF_OWN_CLOCKS])
+    if lines := list(overlap_lines(happened.events)):
+        yield element("h2", "Held by two at the same time")
+        yield listed(lines, "warning")
+
+
 def body(happened, by, name):
-    held = held_stretches(happened.events)
+    held, marked = held_stretches(happened.events), list(marks(happened.schedule, happened.events))
+    axis = axis_by(by, one_for_all(happened.opened.history), happened.events, held, marked)
     yield element("h1", title_of(name))
     yield element("p", settings_in_words(happened.schedule))
     yield listed(counted_lines(happened))
+    yield from of_clocks(happened)
     yield element("h2", "Legend")
-    yield legend(by == "clock")
-    yield element("p", f"{OF_CLIENTS} {HOW_TO_READ[by]}")
+    yield legend(axis.name == "clock", overlaps(happened.events))
+    yield element("p", f"{OF_CLIENTS} {HOW_TO_READ[axis.name]}")
     yield element("p", OF_UNITS if held else "Nobody held a window, so the units are not shown.")
     if not happened.events:
         yield element("p", "This schedule has no calls.")
-    yield charts(happened, by, held)
+    yield charts(happened, axis, held, marked)
     yield element("h2", "Held")
     yield table(held)
     yield element("h2", "Not idle and not holding at the end")

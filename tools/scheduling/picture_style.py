@@ -20,11 +20,12 @@ PHASE_LOOKS = {
 # The colours of clients among the units: light enough for black words.
 CLIENT_COLOURS = "#a9d3f5", "#f8d287", "#bfe3a9", "#f5b7ae", "#d3c2ee", "#a5e0d8", "#f3c3e0", "#d9d4b0"
 
-# What is marked in a row, each about its middle. Out of patience is an hourglass.
+# What is marked in a row, each about its middle. Out of patience is an hourglass, held by two an exclamation mark.
 MARK_SHAPES = {
     "refused": "M-3.5 -3.5L3.5 3.5M-3.5 3.5L3.5 -3.5",
     "late": "M0 -4L4.5 3.5H-4.5Z",
     "out-of-patience": "M-4 -4.5H4L-4 4.5H4Z",
+    "held-by-two": "M-1.8 -6h3.6l-.8 7h-2ZM-1.2 2.8h2.4v2.4h-2.4Z",
     "idle-released": "M-3.5 0a3.5 3.5 0 1 0 7 0a3.5 3.5 0 1 0 -7 0Z",
     "idle-late": "M0 -4L4.5 3.5H-4.5Z",
     "idle-cancelled": "M-3.2 -3.2h6.4v6.4h-6.4Z",
@@ -64,11 +65,13 @@ text { font-family: system-ui, "Segoe UI", "Liberation Sans", Arial, sans-serif;
 .bar.p9 { stroke: #000; }
 .unit, .key { stroke: #111; stroke-width: 1px; }
 .unit { fill-opacity: .8; vector-effect: var(--outline, none); }
+.by-two { fill: none; stroke: #a80000; stroke-width: 3px; vector-effect: var(--outline, none); }
+.warning { border: 2px solid #a80000; padding: .3rem .7rem; }
 .instant { fill: #10472b; stroke: #10472b; stroke-width: 1.6px; }
 .passed { stroke: #666; stroke-width: 2px; stroke-dasharray: 2 1.5; }
 .mark { fill: #fff; stroke: #111; stroke-width: 1.3px; }
 .mark.refused { stroke: #a80000; stroke-width: 2px; }
-.mark.late, .mark.out-of-patience { fill: #a80000; stroke: #a80000; }
+.mark.late, .mark.out-of-patience, .mark.held-by-two { fill: #a80000; stroke: #a80000; }
 .overview { display: block; width: 100%; max-width: 960px; height: auto; border: 1px solid #777; --words: none; --outline: non-scaling-stroke; }
 figure { margin: .3rem 0 .6rem; }
 .defs { position: absolute; }

@@ -47,7 +47,7 @@ class Run:
 
 
 class Planner:
-    """Makes the calls on the model's table, one after another, and keeps them."""
+    """Makes the calls on the model's table, one after another, and keeps them. All runs read one clock, that of the plan."""
 
     def __init__(self, schedule, wishes):
         self.settings, self.lock, self.planned, self.clock = schedule.settings, fresh(schedule), [], 0
@@ -62,7 +62,7 @@ class Planner:
         self.ticks_a_round = 1 if in_time else 0
 
     def record(self, run):
-        return self.lock.records[run.client]
+        return self.lock.clients[run.client].record
 
     def make(self, kind, run, *numbers, told=""):
         if len(self.planned) == MOST_CALLS:
@@ -121,8 +121,8 @@ class Planner:
             run.begin()
 
     def release(self, run):
-        """A release has no clock of its own: a step before it, which changes nothing, says until when the window was held."""
-        if self.lock.clock < self.clock:
+        """A release has no clock: a step of the run before it, which changes nothing else, says by the run's own until when it held."""
+        if self.lock.clients[run.client].clock < self.clock:
             self.make("step", run, self.clock)
         self.make("release", run, told=f"clock {self.clock}: run {run.client} gives {window(*self.record(run)[2:4])} back")
 

@@ -9,8 +9,8 @@ def no_such_client(clients, client):
     return f"there is no client {client}: with {clients} clients they are 0 to {clients - 1}"
 
 
-def clock_goes_back(clock, last):
-    return f"clock {clock} is below the last clock {last}"
+def clock_goes_back(call, last):
+    return f"clock {call.a} is below client {call.client}'s last clock {last}"
 
 
 def window_outside(levels, left, right):
@@ -28,11 +28,11 @@ def wrong_phase(kind, phase):
 
 
 def words_for(number, schedule, call, before, last):
-    """The cause of a refused call in words: `before` is the client's record and `last` the last clock before the call."""
+    """The cause of a refused call in words: `before` is the client's record and `last` its last clock before the call."""
     if number == 4:
         return no_such_client(schedule.clients, call.client)
     if number == 5:
-        return clock_goes_back(call.a, last)
+        return clock_goes_back(call, last)
     if number == 7:
         return window_outside(schedule.settings.levels, call.a, call.b)
     return wrong_phase(call.kind, before.phase)
@@ -64,25 +64,25 @@ def of_whole(source, kind=""):
 
 
 def of_call(schedule, call, last):
-    """What will refuse a call whatever phase its client is in: the number and the words, or 0."""
+    """What will refuse a call whatever phase its client is in: the number and the words, or 0. `last` is the client's last clock."""
     if call.client >= schedule.clients:
         return 4, no_such_client(schedule.clients, call.client)
     if call.kind == "step" and call.a < last:
-        return 5, clock_goes_back(call.a, last)
+        return 5, clock_goes_back(call, last)
     if call.kind == "request" and (outside := window_outside(schedule.settings.levels, call.a, call.b)):
         return 7, outside
     return 0, ""
 
 
 def of_calls(source):
-    """The calls that will be refused by 4, 5 or 7. Only accepted steps move the last clock."""
-    last = 0
+    """The calls that will be refused by 4, 5 or 7. Only accepted steps set a last clock, and only that of their own client."""
+    last = {}
     for call, line in zip(source.schedule.calls, source.lines):
-        number, words = of_call(source.schedule, call, last)
+        number, words = of_call(source.schedule, call, last.get(call.client, 0))
         if number:
             yield line, number, words
         elif call.kind == "step":
-            last = call.a
+            last[call.client] = call.a
 
 
 def foreseen(source):

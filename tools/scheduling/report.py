@@ -2,10 +2,12 @@
 
 from collections import Counter
 
+from scheduling.clocks import clock_lines
 from scheduling.columns import in_columns
 from scheduling.events import at, became, holdings, out_of_patience
 from scheduling.given_up import given_up_lines
 from scheduling.names import HELD, OUT_OF_PATIENCE, OUTCOMES, PHASES, RETURNING, window
+from scheduling.overlaps import beside, overlap_lines
 from scheduling.refusals import words_for
 from scheduling.waiting import for_whom, patience_ends, wait_of, waits_until
 
@@ -28,19 +30,21 @@ def phase_in_words(event):
     return PHASES[after.phase]
 
 
-def what_happened(schedule, event):
+def what_happened(schedule, event, others):
+    """The phase after an accepted call, with who else holds a part of the window, if anybody does; or why the call is refused."""
     if event.number == 0:
-        return phase_in_words(event)
+        return ", ".join(filter(None, (phase_in_words(event), others.get(event.place))))
     return f"refused {event.number}: {words_for(event.number, schedule, event.call, event.before, event.last)}"
 
 
 def rows(source, events):
     """A row for each call: the number of its line, or of the call where a file has no lines, the call, its line of the log, the clock
-    after it, and what happened."""
+    that is told with it, and what happened."""
     yield "line" if source.lines else "number", *HEADINGS
-    places = source.lines or range(len(source.written))
+    places, others = source.lines or range(len(source.written)), beside(events)
     for place, written, event in zip(places, source.written, events, strict=True):
-        yield str(place), written, event.logged, str(event.clock), what_happened(source.schedule, event)
+        clock = "" if event.clock is None else str(event.clock)
+        yield str(place), written, event.logged, clock, what_happened(source.schedule, event, others)
 
 
 def held_lines(events):
@@ -51,25 +55,22 @@ def held_lines(events):
 
 def without_patience(happened, client):
     """For whom a client waits, whatever its patience: others, the clock, or only its own next step."""
-    settings, record = happened.schedule.settings, happened.records[client]
-    if wait := wait_of(settings, happened.words, happened.records, client):
+    opened, (clock, record) = happened.opened, happened.opened.clients[client]
+    if wait := wait_of(opened.settings, opened.words, opened.records, client):
         return for_whom(wait, wait.clients())
-    until = waits_until(settings, record, happened.clock)
+    until = waits_until(opened.settings, record, clock)
     return f"for nobody: until clock {until}" if until else "for nobody: it needs steps"
 
 
 def why_waiting(happened, client):
     """For whom a client waits, and until when it has patience."""
-    ends = patience_ends(happened.schedule.settings, happened.records[client])
-    if ends is None:
-        return without_patience(happened, client)
-    if ends <= happened.clock:
-        return f"for nobody: its patience was over at clock {ends}, and its next step begins to give back"
-    return f"{without_patience(happened, client)}; its patience is over at clock {ends}"
+    ends = patience_ends(happened.schedule.settings, happened.opened.clients[client].record)
+    patience = "" if ends is None else f"; its patience is over at clock {ends}"
+    return without_patience(happened, client) + patience
 
 
 def waiting_lines(happened):
-    for client, record in enumerate(happened.records):
+    for client, record in enumerate(happened.opened.records):
         if record.phase not in (0, HELD):
             giving = f", {OUTCOMES[record.outcome]}" if record.outcome else ""
             where = f"client {client} {window(record.left, record.right)}, phase {record.phase} {PHASES[record.phase]}{giving}"
@@ -91,11 +92,18 @@ def section(title, lines):
     yield from (f"  {line}" for line in list(lines) or ["nobody"])
 
 
+def section_if(title, lines):
+    """A section that is there only if it has lines."""
+    if found := list(lines):
+        yield from section(title, found)
+
+
 def report(source, happened):
     """The whole report, line by line."""
     yield from in_columns(rows(source, happened.events), NUMBERS)
+    yield from section_if("Clocks", clock_lines(happened.opened.history))
     yield from section("Held", held_lines(happened.events))
-    if happened.given_up:
-        yield from section("Given up, out of patience", given_up_lines(happened))
+    yield from section_if("Held by two at the same time", overlap_lines(happened.events))
+    yield from section_if("Given up, out of patience", given_up_lines(happened))
     yield from section("Not idle and not holding at the end", waiting_lines(happened))
     yield from section("In all", counted_lines(happened))

@@ -1,11 +1,14 @@
-"""Who was in which phase from when to when, and what is marked besides: refused calls, claims that are late, patience that is over, and how
-a client became idle."""
+"""Who was in which phase from when to when, and what is marked besides: refused calls, claims that are late, patience that is over, how
+a client became idle, and where one holds what another holds."""
 
 from typing import NamedTuple
 
 from scheduling.events import Event, at, became, holdings
 from scheduling.names import HELD, OUTCOMES, PHASES, RETURNING, window
+from scheduling.overlaps import beside
 from scheduling.refusals import words_for
+
+HELD_BY_TWO = "held-by-two"
 
 
 class Stretch(NamedTuple):
@@ -21,8 +24,8 @@ class Stretch(NamedTuple):
 
 
 class Mark(NamedTuple):
-    """What is marked at a call: its kind (`refused`, `late`, `out-of-patience`, or the outcome with which the client became idle), the row it
-    stands in, and its words. Clients that there are not share the row below the others."""
+    """What is marked at a call: its kind (`refused`, `late`, `out-of-patience`, `held-by-two`, or the outcome with which the client became
+    idle), the row it stands in, and its words. Clients that there are not share the row below the others."""
 
     kind: str
     row: int
@@ -58,9 +61,10 @@ def in_words(stretch):
     return f"client {stretch.client}, {phase} {window(stretch.left, stretch.right)}, from {at(stretch.start)} {until}"
 
 
-def mark_of(schedule, event):
+def mark_of(schedule, event, others):
     """The kind and the words of the mark of a call; nothing if it has none. It has at most one: a refused call changes nothing, and who is
-    late or out of patience always has something to give back. Only these two are sent back by a step."""
+    late or out of patience always has something to give back. Only these two are sent back by a step. `others` is who holds a part of the
+    window beside the client."""
     client, outcome = event.call.client, OUTCOMES[event.after.outcome]
     kind = outcome.replace(" ", "-")
     if event.number:
@@ -70,12 +74,15 @@ def mark_of(schedule, event):
         return kind, f"client {client} is {outcome} at {at(event)}, and gives everything back"
     if became(event, 0):
         return f"idle-{kind}", f"client {client} is idle from {at(event)} on: {outcome}"
+    if others:
+        return HELD_BY_TWO, f"client {client} holds {window(event.after.left, event.after.right)} from {at(event)} on, {others}"
     return None
 
 
 def marks(schedule, events):
     """Every mark, in the order of the calls."""
+    others = beside(events)
     for event in events:
-        if found := mark_of(schedule, event):
+        if found := mark_of(schedule, event, others.get(event.place)):
             kind, says = found
             yield Mark(kind, min(event.call.client, schedule.clients), event, says)

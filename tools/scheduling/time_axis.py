@@ -29,13 +29,14 @@ class Label(NamedTuple):
 
 
 class ByCall:
-    """Each call has a column, which shows what is so after it and before the next."""
+    """Each call has a column, which shows what is so after it and before the next. The clocks are labelled too, if they are one clock for
+    all."""
 
     name = "call"
     upright = False
 
-    def __init__(self, events):
-        self.events = events
+    def __init__(self, events, one_clock):
+        self.events, self.one_clock = events, one_clock
         self.column = max(NARROWEST, min(WIDEST, WIDE // max(len(events), 1)))
         self.width = max(self.column * len(events), LEAST_WIDE)
 
@@ -64,15 +65,19 @@ class ByCall:
         return next(step for tens in count() for step in (10 ** tens, 2 * 10 ** tens, 5 * 10 ** tens) if step * self.column >= wanted)
 
     def labels(self):
-        """The calls' numbers, and below them the clocks: each where it begins, if the one before leaves room."""
+        """The calls' numbers, and below them the clocks."""
         calls = [Label(self.begins(event) + 2, str(event.place)) for event in self.events[::self.every()]]
+        return {"call": calls, **({"clock": self.clocks()} if self.one_clock else {})}
+
+    def clocks(self):
+        """Each clock where it begins, if the one before leaves room."""
         clocks, free, last = [], 0, None
         for event in self.events:
             if event.clock != last and self.begins(event) >= free:
                 clocks.append(Label(self.begins(event) + 2, str(event.clock)))
                 free = self.begins(event) + width_of(str(event.clock), LETTERS) + LETTERS
             last = event.clock
-        return {"call": calls, "clock": clocks}
+        return clocks
 
 
 class ByClock:
@@ -148,5 +153,6 @@ def stretched(steps, beside):
     return [round(step * by) for step in steps]
 
 
-def axis_by(name, events, held, marks):
-    return ByCall(events) if name == "call" else ByClock(events, held, marks)
+def axis_by(name, one_clock, events, held, marks):
+    """By call, or by clock if that is asked for and there is one clock for all. Clocks of clients' own have no common order."""
+    return ByClock(events, held, marks) if name == "clock" and one_clock else ByCall(events, one_clock)

@@ -1,4 +1,5 @@
-"""The chart of the units: the table from top to bottom, with a bar for each window while it was held."""
+"""The chart of the units: the table from top to bottom, with a bar for each window while it was held, and a frame where two clients held the
+same units."""
 
 from itertools import product
 
@@ -6,6 +7,7 @@ from model import tree
 from scheduling.client_chart import SMALL, again_and_again, bar, colour, instant
 from scheduling.markup import element, joined, that_fits
 from scheduling.names import window
+from scheduling.overlaps import in_words
 
 ABOVE = 10
 HIGH, LOWEST, HIGHEST = 420, 16, 48
@@ -37,6 +39,15 @@ def holding_drawn(axis, units, holding):
         yield from (element("text", words, class_="on", x=x, y=y + 4) for x, y in places)
 
 
+def overlap_drawn(axis, units, overlap):
+    """A frame about the units that two clients held, for as long as both did."""
+    later, earlier = overlap
+    left, right = axis.begins(later.start), min(axis.ends(later.end), axis.ends(earlier.end))
+    top, bottom = units.at[max(later.left, earlier.left)], units.at[min(later.right, earlier.right)]
+    return element("rect", element("title", in_words(overlap)), class_="by-two", x=left, y=top, width=right - left, height=bottom - top,
+                   data_later=later.client, data_earlier=earlier.client, data_call=later.start.place)
+
+
 def edges_drawn(units, width):
     """The edges' labels, beside the lines at which they are."""
     for edge, place in units.at.items():
@@ -47,6 +58,7 @@ def edges_lined(units, width):
     return element("path", class_="line", d="".join(f"M0 {place}h{width}" for place in units.at.values()))
 
 
-def drawn(axis, units, holdings):
+def drawn(axis, units, holdings, overlaps):
     """All that is among the units."""
-    return joined([edges_lined(units, axis.width), *(part for holding in holdings for part in holding_drawn(axis, units, holding))])
+    bars = (part for holding in holdings for part in holding_drawn(axis, units, holding))
+    return joined([edges_lined(units, axis.width), *bars, *(overlap_drawn(axis, units, overlap) for overlap in overlaps)])

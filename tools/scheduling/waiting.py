@@ -92,18 +92,18 @@ def in_climb(state, record):
 
 
 def waits_until(settings, record, clock):
-    """The clock that a client waits for in 7; None if it waits for none."""
+    """The clock that a client at this clock of its own waits for in 7; None if it waits for none."""
     over = record.t0 + settings.wait
     return over if record.phase == 7 and over > clock else None
 
 
 def patience_ends(settings, record):
-    """The clock from which on any step of a client sends it back, whatever it waits for; None unless it is at a later piece."""
+    """The client's clock from which on any step of it sends it back, whatever it waits for; None unless it is at a later piece."""
     return record.taken + settings.patience if record.current > 0 and record.phase in WITH_PATIENCE else None
 
 
 def wait_of(settings, words, all_records, client):
-    """What a client waits for that others have to do; nothing if its next step brings it on, or if only the clock has to. Its patience is
+    """What a client waits for that others have to do; nothing if its next step brings it on, or if only its clock has to. Its patience is
     left aside."""
     state, record = (settings, words, all_records, client), all_records[client]
     if record.phase == 2:

@@ -63,6 +63,7 @@ pub struct Moved {
 
 mod by_phase;
 mod calls;
+mod late;
 mod moves;
 mod outside;
 mod patience;

@@ -6,7 +6,7 @@ ghost use lib.ListN.{length};
 ghost use Rattle.base.specs.rules.Choice.{choose};
 ghost use Rattle.tree.specs.rules.Lists.{notifyList, checkList};
 ghost use Rattle.lock.specs.rules.Records.{pieces, currentPiece, withT1};
-ghost use Rattle.lock.specs.rules.Steps.{startPhase, begin, taken, ticketTaken, turnAwaited, goUp, climbed, unblocked, bitsClaimed, occClaimed, late, allNotified, noticeGiven, waited, checkPassed};
+ghost use Rattle.lock.specs.rules.Steps.{startPhase, begin, taken, ticketTaken, turnAwaited, goUp, climbed, unblocked, bitsClaimed, occClaimed, allNotified, noticeGiven, waited, checkPassed};
 ghost use Rattle.tree.specs.rules.Tree.{Node};
 ghost use Rattle.lock.specs.laws.Active.{Settled};
 ghost use Rattle.lock.specs.laws.Placed.{Pieced};
@@ -162,18 +162,6 @@ impl Record {
         noted.phase = 9;
         noted.place = 0;
         noted
-    }
-
-    // "A claim is late unless 10,001 × (clock - t1) < 9,999 × T." From T on it is late in any case; below T, which has 32 bits, both products fit 64.
-    fn late(self, settings: Settings, clock: u64) -> bool
-        requires { ⌜ Settled settings × (self .t1 ≤ clock) ⌝ }
-        ensures { λ b. ⌜ b ≡ late settings self clock ⌝ }
-    {
-        let elapsed = clock - self.t1;
-        if settings.wait <= elapsed {
-            return true;
-        }
-        9999 * settings.wait <= 10001 * elapsed
     }
 
     // 6 notify, "After the last"

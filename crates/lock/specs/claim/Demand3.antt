@@ -15,11 +15,11 @@ use Rattle.lock.specs.rules.Table.{State, Call, clientAt, recordAt, open
 use Rattle.lock.specs.rules.History.{run, events, Idle, Clean, SingleHolding, Demand3}
 use Rattle.lock.specs.rules.Readings.{foundIn, ReadApart}
 use Rattle.lock.specs.claim.HistoryRecord.{holds-record, all-idle}
-use Rattle.lock.specs.claim.Parts.{recordIn, partsOf, record-at}
+use Rattle.lock.specs.claim.Parts.{partsOf, record-at}
 use Rattle.lock.specs.claim.Keeping.{run-keeps}
 use Rattle.lock.specs.claim.Start.{opened-invariant, opened-timing}
 use Rattle.lock.specs.claim.MomentsKept.{run-checked, read-at-once}
-use Rattle.lock.specs.claim.HeldApart.{Held, held, apart}
+use Rattle.lock.specs.claim.HeldApart.{held, apart}
 use Rattle.lock.specs.claim.IdleClean.{clean}
 
 idle-opened : (st : State) (c : ℕ) → recordAt (opened st) c .phase ≡ 0

@@ -2,18 +2,14 @@
 use mathlib.Core.Path.{_≡_, sym, ap, subst, _∙_}
 use mathlib.Core.Logic.{_≢_, inl, inr, ⊎-elim}
 use mathlib.Core.List.{List, [], _∷_}
-use Prim.Native.Nat.{ℕ, suc, _+_, _-_, _*_, _%_, _^_, _≤_, _<_}
+use Prim.Native.Nat.{ℕ, suc, _-_, _%_, _≤_, _<_}
 use native.Mathlib.Omega.{arith}
 use lib.ListN.{length, getD}
-use Rattle.base.specs.laws.ChoiceLaws.{by-lt, by-eq, choose-eq}
-use Rattle.base.specs.laws.Sum.{sumBy, sum-two, sum-zero, getD-past, getD-fresh}
-use Rattle.base.specs.laws.Tickets.{none-own}
-use Rattle.word.specs.rules.Word.{bit}
+use Rattle.base.specs.laws.ChoiceLaws.{by-lt, by-eq}
+use Rattle.base.specs.laws.Sum.{sumBy, sum-two, getD-past}
 use Rattle.word.specs.laws.Fields.{field-lt}
-use Rattle.word.specs.laws.Bits.{bit-lt, bit-zero, bits-ext}
-use Rattle.tree.specs.rules.Tree.{climb, first, leaf, level, units, holder, Node, Holds, Above}
-use Rattle.tree.specs.laws.Climb.{first-width}
-use Rattle.tree.specs.laws.Level.{level-range}
+use Rattle.word.specs.laws.Bits.{bit-lt}
+use Rattle.tree.specs.rules.Tree.{climb, leaf, level, units, holder, Holds, Above}
 use Rattle.tree.specs.laws.Range.{holds-holder}
 use Rattle.tree.specs.laws.Notify.{notifyNode}
 use Rattle.tree.specs.laws.Check.{checkPlace, check-all}
@@ -23,22 +19,16 @@ use Rattle.cover.specs.laws.Overlap.{overlap}
 use Rattle.lock.specs.declared.Record.{Record}
 use Rattle.lock.specs.declared.Settings.{Settings}
 use Rattle.lock.specs.rules.Records.{pieces, pieceAt, wordAt}
-use Rattle.lock.specs.rules.Table.{State, Call, recordAt, opened, opening}
-use Rattle.lock.specs.rules.History.{run, CleanInner, Clean, Demand3}
 use Rattle.lock.specs.laws.Ready.{Ready}
-use Rattle.lock.specs.claim.HistoryRecord.{holds-record, all-idle}
-use Rattle.lock.specs.claim.Owned.{owns, ownsUnit, ownsNotice}
-use Rattle.lock.specs.claim.Fit.{covers, ready-apart, fit-idle, fit-ready}
+use Rattle.lock.specs.claim.Owned.{owns, ownsUnit}
+use Rattle.lock.specs.claim.Fit.{covers, ready-apart, fit-ready}
 use Rattle.lock.specs.claim.Effect.{inWindow}
-use Rattle.lock.specs.claim.InnerWords.{nobody, ticketOf}
+use Rattle.lock.specs.claim.InnerWords.{nobody}
 use Rattle.lock.specs.claim.LeafWords.{in-window}
 use Rattle.lock.specs.claim.Stage.{phaseAt, stage-before, stage-current, checked-all, stage-owns}
 use Rattle.lock.specs.claim.Parts.{Parts, recordIn}
 use Rattle.lock.specs.claim.Timed.{Checked}
 use Rattle.lock.specs.claim.Invariant.{Invariant}
-use Rattle.lock.specs.claim.Forward.{Empty, empty-owns, empty-unit, empty-notice, fresh-empty}
-use Rattle.lock.specs.claim.Keeping.{run-keeps}
-use Rattle.lock.specs.claim.Start.{opened-invariant}
 
 -- ---- two clients that hold
 

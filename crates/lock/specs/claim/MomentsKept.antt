@@ -3,7 +3,7 @@
 use mathlib.Core.Path.{_≡_, refl, sym, ap, subst, _∙_}
 use mathlib.Core.Logic.{_≢_}
 use mathlib.Core.List.{List, [], _∷_}
-use Prim.Native.Nat.{ℕ, suc, _≤_}
+use Prim.Native.Nat.{ℕ, suc}
 use native.Mathlib.Omega.{arith}
 use lib.Dec.{eqb, eqb→eq}
 use Rattle.base.specs.laws.ChoiceLaws.{on-choose}
@@ -12,7 +12,7 @@ use Rattle.lock.specs.declared.Settings.{Settings}
 use Rattle.lock.specs.rules.Records.{idleWith, sentBack}
 use Rattle.lock.specs.rules.Calls.{requested, released, cancelled}
 use Rattle.lock.specs.rules.Table.{State, Call, request, step, release, cancel, clientOf, recordAt, clockAt, withClient, numberOf, after, call}
-use Rattle.lock.specs.rules.History.{Event, run, event, events, StepAt, TrueMoments}
+use Rattle.lock.specs.rules.History.{run, event, events, StepAt, TrueMoments}
 use Rattle.lock.specs.rules.Readings.{foundIn, ReadApart}
 use Rattle.lock.specs.laws.Accepted.{accepted, request-tested}
 use Rattle.lock.specs.claim.Parts.{Parts, recordIn, partsOf, record-at, records-count, on-parts}
@@ -101,8 +101,8 @@ run-checked s (k ∷ ks) st inv touch reading read v =
 pub read-at-once : (s : Settings) (st : State) (ks : List Call) (moment : ℕ → ℕ) → TrueMoments (events s st ks) moment → ReadApart s st ks moment moment
 read-at-once s st ks moment v = record {
   never-back = v .never-back;
-  not-slow = λ i j c t u b x y _ _ _. v .steady i j c t u b x y .0;
-  not-fast = λ i j c t u b x y _ _ _. v .steady i j c t u b x y .1;
+  not-slow = λ i j c t u b x y _ _ _. omega (arith, v .steady i j c t u b x y .0);
+  not-fast = λ i j c t u b x y _ _ _. omega (arith, v .steady i j c t u b x y .1);
   read-first = λ _ _ _ _ _. omega arith;
   touched-first = λ _ _ _ _ _. omega arith;
 }

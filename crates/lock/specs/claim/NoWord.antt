@@ -1,13 +1,12 @@
 -- Laws: what touches no word, a request, a release, a cancel, and a step that is out of patience, owes nothing to the invariant. Assumes nothing.
-use mathlib.Core.Path.{_≡_, refl, sym, ap, subst, _∙_}
-use mathlib.Core.Logic.{_≢_, inl, inr}
-use mathlib.Core.Bool.{Bool, true, false}
+use mathlib.Core.Path.{_≡_, refl, sym, ap, _∙_}
+use mathlib.Core.Logic.{_≢_}
+use mathlib.Core.Bool.{false}
 use mathlib.Core.List.{List, [], _∷_}
 use Prim.Native.Nat.{ℕ, _≤_, _<_}
 use native.Mathlib.Omega.{arith}
 use lib.Dec.{eqb, eqb→eq}
 use lib.ListN.{length, getD}
-use Rattle.base.specs.rules.Choice.{choose}
 use Rattle.base.specs.laws.ChoiceLaws.{on-choose, by-lt, neqb→ne}
 use Rattle.cover.specs.rules.Cover.{In}
 use Rattle.cover.specs.rules.Answer.{windowOutside}
@@ -16,33 +15,23 @@ use Rattle.cover.specs.laws.Code.{window-inside}
 use Rattle.cover.specs.laws.Least.{least-cover}
 use Rattle.lock.specs.declared.Record.{Record}
 use Rattle.lock.specs.declared.Settings.{Settings}
-use Rattle.lock.specs.rules.Records.{coverOf, Phase, phaseOf, pieces, pieceAt, gripOf, wordAt, written, idleWith, sentBack}
-use Rattle.lock.specs.laws.Phases.{on-phase}
+use Rattle.lock.specs.rules.Records.{coverOf, pieces, pieceAt, gripOf, idleWith, sentBack}
 use Rattle.lock.specs.laws.Pieces.{piece-first, grip-before, grip-current, first-gripped}
-use Rattle.lock.specs.rules.Steps.{startPhase, touchedIn, movedIn, leaves, ownTouched, ownMoved, outOfPatience, touched, moved}
+use Rattle.lock.specs.rules.Steps.{startPhase}
 use Rattle.lock.specs.rules.Calls.{requested, released, cancelled}
-use Rattle.lock.specs.rules.Table.{State, Call, request, step, release, cancel, clientOf, recordAt, clockAt, withClient, numberOf, after, call}
+use Rattle.lock.specs.rules.Table.{request, step, release, cancel}
 use Rattle.lock.specs.rules.History.{run}
 use Rattle.lock.specs.laws.Active.{Settled}
 use Rattle.lock.specs.laws.ActiveLaws.{pieces-are}
-use Rattle.lock.specs.laws.Accepted.{Tested, accepted, request-tested, step-tested, release-tested, cancel-tested}
-use Rattle.lock.specs.laws.PatienceLaws.{out-of-patience}
 use Rattle.lock.specs.laws.Ready.{Ready, any-grip-leaf, any-grip-most}
 use Rattle.lock.specs.laws.WhenReadable.{asked, readable-begin, readable-returning}
-use Rattle.lock.specs.claim.Fit.{Fit, fit-readable, fit-idle, fit-later, fit-ready, idle-fit}
+use Rattle.lock.specs.claim.Fit.{Fit, fit-readable, idle-fit}
 use Rattle.lock.specs.claim.Effect.{quiet}
 use Rattle.lock.specs.claim.InnerWords.{nobody}
-use Rattle.lock.specs.claim.Parts.{recordIn, partsOf, record-at, records-count, on-parts, clock-own, clock-other}
-use Rattle.lock.specs.claim.Invariant.{Invariant}
 use Rattle.lock.specs.claim.Forward.{kin, entering-unreturned, Empty, empty-same, fresh-empty}
 use Rattle.lock.specs.claim.Onward.{asked-same, Unclaimed, unclaimed-returning, unclaimed-first, timely-none}
-use Rattle.lock.specs.claim.Keeps.{Keeps, keeps-invariant, keeps-stay, keeps-quiet, occ-none, notice-none}
+use Rattle.lock.specs.claim.Keeps.{Keeps, keeps-quiet}
 use Rattle.lock.specs.claim.Taking.{start-low}
-use Rattle.lock.specs.claim.Climbing.{ticket-keeps, turn-keeps, ancestor-node, blocked-keeps, climb-keeps}
-use Rattle.lock.specs.claim.Claiming.{claim-keeps}
-use Rattle.lock.specs.claim.Notifying.{notify-keeps}
-use Rattle.lock.specs.claim.Checking.{wait-keeps, checked-node, check-keeps}
-use Rattle.lock.specs.claim.Returning.{returning-keeps}
 
 -- ---- request: an idle record gets a window
 

@@ -2,7 +2,7 @@
 use mathlib.Core.Path.{_≡_, refl, sym, ap, _∙_}
 use mathlib.Core.Logic.{_≢_, inl, inr}
 use mathlib.Core.List.{List}
-use Prim.Native.Nat.{ℕ, suc, _*_, _-_, _≤_, _<_}
+use Prim.Native.Nat.{ℕ, suc, _-_, _≤_, _<_}
 use native.Mathlib.Omega.{arith}
 use lib.Dec.{ltb, eqb→eq, ltb→lt, nltb→le}
 use lib.ListN.{length, getD}
@@ -17,7 +17,7 @@ use Rattle.lock.specs.declared.Settings.{Settings}
 use Rattle.lock.specs.rules.Records.{pieces, pieceAt, currentPiece, isLeaf, gripOf, toPhase, withPlace, withNotices, withTaken, sentBack}
 use Rattle.lock.specs.rules.Steps.{taken, late, allNotified, noticeGiven}
 use Rattle.lock.specs.laws.Active.{Settled}
-use Rattle.lock.specs.laws.LateLaws.{not-late}
+use Rattle.lock.specs.laws.LateLaws.{InTime, not-late}
 use Rattle.lock.specs.laws.Pieces.{first-gripped}
 use Rattle.lock.specs.laws.Ready.{Ready, any-grip-leaf, any-grip-most}
 use Rattle.lock.specs.laws.WhenReadable.{readable-notify, readable-wait, readable-returning}
@@ -108,7 +108,7 @@ module _ (s : Settings) (rs : List Record) (r : Record) (last now : ℕ) (later 
           time = timely-none s rs nobody r now q (unclaimed-returning q refl);
         }
 
-    module _ (in-time : 10001 * (now - r .t1) < 9999 * s .wait) where
+    module _ (in-time : InTime (s .wait) (r .t1) now) where
       -- all ancestors were passed
       all-passed : level n ≤ suc (passing r)
       all-passed = omega (arith, passing-notify r e, level-pos n)

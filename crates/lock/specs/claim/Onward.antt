@@ -3,17 +3,18 @@ use mathlib.Core.Path.{_≡_, refl, sym, ap, subst, _∙_}
 use mathlib.Core.Logic.{_≢_, _⊎_, inl, inr, ⊎-elim}
 use mathlib.Core.Bool.{false}
 use mathlib.Core.List.{List}
-use Prim.Native.Nat.{ℕ, suc, _*_, _-_, _≤_, _<_}
+use Prim.Native.Nat.{ℕ, suc, _-_, _≤_, _<_}
 use native.Mathlib.Omega.{arith}
 use lib.ListN.{length, getD}
 use Rattle.base.specs.laws.ChoiceLaws.{by-lt, by-eq}
-use Rattle.tree.specs.rules.Tree.{climb, level}
+use Rattle.tree.specs.rules.Tree.{level}
 use Rattle.tree.specs.laws.Check.{checkCount, checkNode}
 use Rattle.lock.specs.declared.Record.{Record}
 use Rattle.lock.specs.declared.Settings.{Settings}
 use Rattle.lock.specs.rules.Records.{pieces, pieceAt, currentPiece}
-use Rattle.lock.specs.claim.Owned.{owns, ownsNotice}
+use Rattle.lock.specs.claim.Owned.{ownsNotice}
 use Rattle.lock.specs.laws.Active.{NoEarlyTime}
+use Rattle.lock.specs.laws.LateLaws.{InTime}
 use Rattle.lock.specs.laws.Ready.{Ready}
 use Rattle.lock.specs.laws.OwnTests.{notBegun}
 use Rattle.lock.specs.laws.WhenReadable.{asked}
@@ -113,7 +114,7 @@ module _ (s : Settings) (rs : List Record) (nobody r : Record) (now : ℕ) where
           → ((l : ℕ) → l < checkedTo s q (r .current)
           → (l < checkedTo s r (r .current)) ⊎ (((d : ℕ) → ownsNotice s (checkNode (currentPiece r) l) (getD rs d nobody) ≡ 0) ⊎ (level (currentPiece r) ≡ s .levels)))
           → (passing q ≡ 0) ⊎ Upward s rs nobody r q now
-          → (7 ≤ q .phase → q .phase ≤ 9 → ((7 ≤ r .phase) × (r .phase ≤ 9)) ⊎ (((level (currentPiece r) ≤ suc (passing r)) × (r .phase ≡ 6) × (10001 * (now - r .t1) < 9999 * s .wait)) ⊎ (currentPiece r ≡ 1)))
+          → (7 ≤ q .phase → q .phase ≤ 9 → ((7 ≤ r .phase) × (r .phase ≤ 9)) ⊎ (((level (currentPiece r) ≤ suc (passing r)) × (r .phase ≡ 6) × InTime (s .wait) (r .t1) now) ⊎ (currentPiece r ≡ 1)))
           → Timely s rs nobody r q now
       onward claims waits checks passes notifies = record {
         claims = λ x y. ⊎-elim (λ z. inl (z .0, z .1, z .2, current-same)) (λ z. inr (⊎-elim inl (λ l. inr (ap level current-same ∙ l)) z)) (claims x y);
@@ -132,7 +133,7 @@ module _ (s : Settings) (rs : List Record) (nobody r : Record) (now : ℕ) where
             (λ e z. (piece (r .current), ⊎-elim inl (λ o. inr (⊎-elim inl (λ w. inr (ap level (piece (r .current)) ∙ w)) o)) (checks l z))) x;
         passes = ⊎-elim inl (λ z. inr (current-same, z)) passes;
         notifies = λ i x y. on-piece (λ j. 7 ≤ phaseAt q j → phaseAt q j ≤ 9 → (pieceAt q j ≡ pieceAt r j) × (((7 ≤ phaseAt r j) × (phaseAt r j ≤ 9))
-            ⊎ (((j ≡ r .current) × (level (currentPiece r) ≤ suc (passing r)) × (r .phase ≡ 6) × (10001 * (now - r .t1) < 9999 * s .wait)) ⊎ (pieceAt q j ≡ 1)))) i (omega arith) y
+            ⊎ (((j ≡ r .current) × (level (currentPiece r) ≤ suc (passing r)) × (r .phase ≡ 6) × InTime (s .wait) (r .t1) now) ⊎ (pieceAt q j ≡ 1)))) i (omega arith) y
             (λ l e f _ _. (piece i, inl (omega arith, omega arith)))
             (λ e o u. (
               piece (r .current),

@@ -3,7 +3,7 @@ use mathlib.Core.Path.{_≡_, refl, sym, ap, subst, _∙_}
 use mathlib.Core.Logic.{_≢_, _⊎_, inl, inr, ⊎-elim}
 use mathlib.Core.Bool.{_&&_}
 use mathlib.Core.List.{List}
-use Prim.Native.Nat.{ℕ, suc, _+_, _*_, _-_, _≤_, _<_}
+use Prim.Native.Nat.{ℕ, suc, _+_, _-_, _≤_, _<_}
 use native.Mathlib.Decide.{ℕ-discrete}
 use native.Mathlib.Omega.{arith}
 use borrow.Author.Tests.{le-leb}
@@ -20,6 +20,7 @@ use Rattle.lock.specs.declared.Settings.{Settings}
 use Rattle.lock.specs.rules.Records.{pieceAt, currentPiece}
 use Rattle.lock.specs.rules.Readings.{NotSlow, NotFast}
 use Rattle.lock.specs.laws.Active.{Settled}
+use Rattle.lock.specs.laws.LateLaws.{InTime}
 use Rattle.lock.specs.claim.Owned.{owns, ownsNotice}
 use Rattle.lock.specs.claim.Fit.{Fit}
 use Rattle.lock.specs.claim.Stage.{phaseAt, passing, checkedTo, stage-current, checked-stage, piece-level, stage-ready, stage-owns, stage-noticed}
@@ -69,7 +70,7 @@ pub record Timely (s : Settings) (rs : List Record) (nobody r q : Record) (now :
   -- it had notified before, or has passed all ancestors and is not late, or is the root
   pub notifies : (j : ℕ) → 7 ≤ phaseAt q j → phaseAt q j ≤ 9
       → (pieceAt q j ≡ pieceAt r j) × (((7 ≤ phaseAt r j) × (phaseAt r j ≤ 9))
-      ⊎ (((j ≡ r .current) × (level (currentPiece r) ≤ suc (passing r)) × (r .phase ≡ 6) × (10001 * (now - r .t1) < 9999 * s .wait)) ⊎ (pieceAt q j ≡ 1)))
+      ⊎ (((j ≡ r .current) × (level (currentPiece r) ≤ suc (passing r)) × (r .phase ≡ 6) × InTime (s .wait) (r .t1) now) ⊎ (pieceAt q j ≡ 1)))
 
 -- ---- who does not step
 

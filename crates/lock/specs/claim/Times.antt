@@ -3,6 +3,7 @@
 use Prim.Native.Nat.{ℕ, _*_, _-_, _≤_, _<_}
 use native.Mathlib.Omega.{arith}
 use Rattle.lock.specs.rules.Readings.{NotSlow, NotFast}
+use Rattle.lock.specs.laws.LateLaws.{InTime}
 
 -- the one read its t1 before the other, who claimed, read t0
 unfoldable pub NotedBefore : ℕ → ℕ → Type 0
@@ -28,6 +29,6 @@ overdue-stays wait m1 present touch a b = omega arith
 
 -- "late unless 10,001 × (clock - t1) < 9,999 × T": who is overdue is late, even by the slowest clock
 pub overdue-late : (wait m1 t1 now present touch reading : ℕ) → Overdue wait m1 present → present ≤ touch → touch ≤ reading → NotSlow wait t1 now m1 reading
-    → 10001 * (now - t1) < 9999 * wait → ⊥
+    → InTime wait t1 now → ⊥
 unfolding Overdue
 overdue-late wait m1 t1 now present touch reading a b c d e = omega (arith, d (omega arith))

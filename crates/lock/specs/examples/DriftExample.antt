@@ -1,6 +1,6 @@
 -- The supposition of 2.3 can be met: HistoryExample.antt's history, in which client 1's clock is as fast as may be, a tick ahead of every 10,000, and client 0's as slow as may
 -- be, has true moments, and both clients hold. By computing, over every pair of its events. Assumes nothing.
-use mathlib.Core.Path.{_≡_, refl, sym, ap, subst, _∙_}
+use mathlib.Core.Path.{refl, sym, subst}
 use mathlib.Core.Bool.{Bool, true, false}
 use mathlib.Core.List.{List, [], _∷_}
 use Prim.Native.Nat.{ℕ, zero, suc, _*_, _-_, _≤_, _<_}

@@ -20,9 +20,9 @@ use Rattle.lock.specs.rules.Records.{phaseOf, pieces, pieceAt, isLeaf, g
 use Rattle.lock.specs.rules.Unreadable.{numberTooLarge, idleFilled, notCovered, noCurrent, ticketTooLarge, fieldsWrong, listLength, placePast, noticesWrong, timeAhead, phaseElsewhere, heldEarly, outcomeWrong, lacksGrip, givingWrong, outOfPatienceFirst, takenFirst, unreadable}
 use Rattle.lock.specs.rules.Steps.{touchedIn, startPhase, begin, firstNoted, taken, ticketTaken, turnAwaited, goUp, climbed, unblocked, bitsClaimed, occClaimed, late, allNotified, noticeGiven, waited, checkPassed, pieceReturned, wordReturned, turnReturned, claimPiece, returnBits, returnInner, giveBack, movedIn, outOfPatience}
 use Rattle.lock.specs.rules.Calls.{firstCause, settingsOutside, treeTests, clientsOutside, clientTests, requestTests, stepTests, releaseTests, cancelTests, requested, released, cancelled}
-use Rattle.lock.specs.rules.Table.{State, Call, request, step, release, cancel, clientOf, clientAt, ownTests, numberOf, after, call, openingNumber, opened, opening}
+use Rattle.lock.specs.rules.Table.{State, Call, request, step, release, clientOf, clientAt, ownTests, numberOf, after, call, openingNumber, opened, opening}
 use Rattle.lock.specs.declared.Settings.{Settings}
-use Rattle.lock.specs.rules.History.{run, Event, events, Some, CallOf, RequestOf, StepOf, ReleaseOf, Accepted, GaveBackIn, LastRequest, Holds, Idle, CleanInner, Clean}
+use Rattle.lock.specs.rules.History.{run, Event, events, Some, CallOf, RequestOf, StepOf, ReleaseOf, GaveBackIn, LastRequest, Holds, Idle, CleanInner, Clean}
 use Rattle.lock.specs.examples.Seen.{seen, isRequest, isRelease, is-request, is-release, noneOf, none, later}
 
 -- ---- the calls

@@ -1,15 +1,14 @@
 -- The supposition of 2.3 is needed. By computing: a history in which one client's clock stands still while the other's goes on, after which the two hold overlapping windows.
 -- No moments are true of it. Assumes nothing.
 use mathlib.Core.Path.{_≡_, refl, sym, subst}
-use mathlib.Core.Logic.{inl, inr}
-use mathlib.Core.List.{List, [], _∷_, _++_}
-use Prim.Native.Nat.{ℕ, zero, suc, _+_, _*_, _<_}
+use mathlib.Core.Logic.{inl}
+use mathlib.Core.List.{List, [], _∷_}
+use Prim.Native.Nat.{ℕ}
 use native.Mathlib.Omega.{arith}
 use lib.Dec.{T}
 use lib.ListN.{take, drop, replicate}
 use Rattle.base.specs.laws.Every.{both}
 use Rattle.base.specs.rules.Choice.{choose}
-use Rattle.base.specs.laws.Sum.{getD-fresh}
 use Rattle.word.specs.rules.Word.{field, putField, addField, matches, replaced, maskedSwap, leafBits, wantedBits, takeBits, giveBits, returnOcc}
 use Rattle.tree.specs.rules.Tree.{climb, leftmost, first, level, levelWithin, size, left, units, holder, wordCount}
 use Rattle.tree.specs.rules.Lists.{upward, ancestors, ancestor, notifies, notifiedFrom, notifyLevels, notifyList, row, descendants, nearest, checkList}
@@ -20,9 +19,9 @@ use Rattle.lock.specs.rules.Records.{phaseOf, pieces, pieceAt, isLeaf, g
 use Rattle.lock.specs.rules.Unreadable.{numberTooLarge, idleFilled, notCovered, noCurrent, ticketTooLarge, fieldsWrong, listLength, placePast, noticesWrong, timeAhead, phaseElsewhere, heldEarly, outcomeWrong, lacksGrip, givingWrong, outOfPatienceFirst, takenFirst, unreadable}
 use Rattle.lock.specs.rules.Steps.{touchedIn, startPhase, begin, firstNoted, taken, ticketTaken, turnAwaited, goUp, climbed, unblocked, bitsClaimed, occClaimed, late, allNotified, noticeGiven, waited, checkPassed, pieceReturned, wordReturned, turnReturned, claimPiece, returnBits, returnInner, giveBack, movedIn, outOfPatience}
 use Rattle.lock.specs.rules.Calls.{firstCause, settingsOutside, treeTests, clientsOutside, clientTests, requestTests, stepTests, releaseTests, cancelTests, requested, released, cancelled}
-use Rattle.lock.specs.rules.Table.{State, Call, request, step, release, cancel, clientOf, clientAt, ownTests, numberOf, after, call, openingNumber, opened, opening}
+use Rattle.lock.specs.rules.Table.{State, Call, request, step, clientOf, clientAt, ownTests, numberOf, after, call, openingNumber, opened, opening}
 use Rattle.lock.specs.declared.Settings.{Settings}
-use Rattle.lock.specs.rules.History.{run, Event, events, Some, CallOf, RequestOf, StepOf, ReleaseOf, Accepted, GaveBackIn, Holds, Overlap, StepAt, TrueMoments}
+use Rattle.lock.specs.rules.History.{run, Event, events, Some, RequestOf, StepOf, ReleaseOf, GaveBackIn, Holds, Overlap, StepAt, TrueMoments}
 use Rattle.lock.specs.examples.Seen.{seen, isRequest, isRelease, is-request, is-release, noneOf, none, later}
 
 -- H 2, m 1, T 2, P 20, two clients

@@ -15,7 +15,6 @@ pub record Settled (s : Settings) : Type 0 where
   pub levels-most : s .levels ≤ 12
   pub distance-some : 1 ≤ s .distance
   pub distance-most : s .distance ≤ 4
-  pub wait-some : 1 ≤ s .wait
   pub wait-most : s .wait ≤ 4294967295
 
 -- a first piece that is not taken has no third time: what a readable record shows of it

@@ -14,8 +14,8 @@ unfolding settingsOutside levelsOutside
 settled s e =
     let p = both-false _ (ltb (s .patience) 1) (both-false _ (ltb 4294967295 (s .patience)) e .0) in
     let w = both-false _ (ltb 4294967295 (s .wait)) (p .0) in
-    let c = both-false _ (ltb (s .wait) 1) (w .0) in
-    let b = both-false _ (ltb 4 (s .distance)) (c .0) in
+    let c = both-false _ (ltb (s .wait) 1) (w .0) .0 in
+    let b = both-false _ (ltb 4 (s .distance)) c in
     let a = both-false (levelsOutside (s .levels)) (ltb (s .distance) 1) (b .0) in
     let l = both-false (ltb (s .levels) 2) (ltb 12 (s .levels)) (a .0) in
     record {
@@ -23,6 +23,5 @@ settled s e =
       levels-most = ltb-false 12 (s .levels) (l .1);
       distance-some = ltb-false (s .distance) 1 (a .1);
       distance-most = ltb-false 4 (s .distance) (b .1);
-      wait-some = ltb-false (s .wait) 1 (c .1);
       wait-most = ltb-false 4294967295 (s .wait) (w .1);
     }

@@ -1,13 +1,13 @@
 -- Laws of the next record of each phase, one for each way through its rule, as the code meets them. Assumes nothing.
 use mathlib.Core.Path.{_≡_, refl, sym, ap, _∙_, subst}
 use mathlib.Core.List.{List, [], _∷_}
-use mathlib.Core.Bool.{Bool, true, false}
+use mathlib.Core.Bool.{Bool, true, false, not}
 use Prim.Native.Nat.{ℕ, suc, _+_, _-_, _≤_, _<_, min}
 use native.Mathlib.Omega.{arith}
-use lib.Dec.{eqb}
+use lib.Dec.{T, eqb}
 use lib.ListN.{length, getD}
 use Rattle.base.specs.rules.Choice.{choose}
-use Rattle.base.specs.laws.ChoiceLaws.{on-choose, choose-eq, choose-ne, choose-lt, choose-ge, choose-le, choose-gt}
+use Rattle.base.specs.laws.ChoiceLaws.{on-choose, choose-yes, choose-no, choose-eq, choose-ne, choose-lt, choose-ge, choose-le, choose-gt}
 use Rattle.word.specs.rules.Word.{occ, tcnt, dcnt, dmax}
 use Rattle.tree.specs.rules.Tree.{climb, level, Node}
 use Rattle.tree.specs.laws.Level.{climb-level, level-pos, level-root, level-root-only}
@@ -151,14 +151,13 @@ module _ (s : Settings) where
     -- ---- 6 notify
 
     pub notified-late : (t : ℕ) → late s r t ≡ true → allNotified s r t ≡ sentBack 2 r
-    unfolding allNotified choose
-    notified-late t e = ap (λ (x : Bool). choose x (sentBack 2 r) (choose (isLeaf s (currentPiece r)) (taken s r t) (toPhase 7 r))) e
+    unfolding allNotified
+    notified-late t e = choose-yes (late s r t) _ _ (subst T (sym e) tt)
 
     -- in time
     notified-by : (t : ℕ) → late s r t ≡ false → (leaf : Bool) → isLeaf s (currentPiece r) ≡ leaf → allNotified s r t ≡ choose leaf (taken s r t) (toPhase 7 r)
-    unfolding allNotified choose
-    notified-by t e leaf f =
-        ap (λ (x : Bool). choose x (sentBack 2 r) (choose (isLeaf s (currentPiece r)) (taken s r t) (toPhase 7 r))) e ∙ ap (λ (x : Bool). choose x (taken s r t) (toPhase 7 r)) f
+    unfolding allNotified
+    notified-by t e leaf f = choose-no (late s r t) _ _ (subst (λ (x : Bool). T (not x)) (sym e) tt) ∙ ap (λ (x : Bool). choose x (taken s r t) (toPhase 7 r)) f
 
     pub notified-leaf : (t : ℕ) → late s r t ≡ false → isLeaf s (currentPiece r) ≡ true → allNotified s r t ≡ taken s r t
     unfolding choose

@@ -1,37 +1,18 @@
 -- `lock::Client::act` meets its contract. Assumes nothing.
-use mathlib.Core.Path.{_≡_, refl, sym, ap, subst, _∙_}
+use mathlib.Core.Path.{refl, sym, ap, _∙_}
 use mathlib.Core.Bool.{_||_}
 use mathlib.Core.List.{[], _∷_}
-use Prim.Native.Nat.{ℕ, _-_}
-use native.Mathlib.Omega.{arith}
+use Prim.Native.Nat.{_-_}
 use lib.Dec.{eqb}
-use Rattle.tree.specs.rules.Tree.{Node}
-use Rattle.cover.specs.rules.Answer.{windowOutside}
 use Rattle.lock.specs.declared.Record.{Record}
-use Rattle.lock.specs.rules.Records.{written, isLeaf, clientWith}
+use Rattle.lock.specs.rules.Records.{clientWith}
 use Rattle.lock.specs.rules.Unreadable.{differ, unreadable}
 use Rattle.lock.specs.rules.Calls.{firstCause, answered, released, cancelled}
 use Rattle.lock.specs.rules.Table.{request, step, release, cancel}
-use Rattle.lock.specs.laws.PatienceLaws.{own-touched}
-use Rattle.lock.specs.laws.LateLaws.{late-waited, late-by}
-use Rattle.lock.specs.laws.StepLaws.{notified-late, notified-leaf, notified-inner}
-use Rattle.lock.specs.laws.Touched.{touched-counted, readable}
-use Rattle.lock.specs.laws.CallLaws.{cause-hit, cause-skip, refused-by, answer-accepted}
-use Rattle.lock.specs.laws.CoverLaws.{inside-window}
-use Rattle.lock.specs.laws.ByKind.{restOf, nextBy, wordsBy, step-onward, kind-request, kind-step, kind-release, kind-cancel, refuses-tree, settles, counts, refuses-back, refuses-unreadable, gives, step-work, step-refused, step-taken, step-sent-back}
+use Rattle.lock.specs.laws.ByKind.{restOf, nextBy, wordsBy, step-onward, kind-request, kind-step, kind-release, kind-cancel, refuses-tree, settles, counts, refuses-back, refuses-unreadable, gives}
 use borrow.Author.Needs.{needs}
 use Rattle.lock.proofs.Client.act.Statement.{statement}
 use Rattle.lock.proofs.Client.act.Tie as tie
-use Rattle.lock.proofs.Client.act.Reads as reads
-use Rattle.lock.proofs.Client.act.Lts as lts
-use Rattle.lock.proofs.Client.refused.Reads as refused-reads
-use Rattle.lock.proofs.Client.request.Reads as request-reads
-use Rattle.lock.proofs.Client.step.Reads as step-reads
-use Rattle.lock.proofs.Client.unless.Reads as unless-reads
-use Rattle.lock.proofs.Record.cancelled.Reads as cancelled-reads
-use Rattle.lock.proofs.Record.sent_back.Reads as sent-back-reads
-use Rattle.lock.proofs.Record.unreadable.Reads as unreadable-reads
-use Rattle.lock.proofs.Settings.tree_cause.Reads as tree-cause-reads
 
 tree-cause-requires : tie.Need-tree-cause-requires
 tree-cause-requires c κs = search needs

@@ -1,36 +1,15 @@
 -- `lock::Client::step` meets its contract. Assumes nothing.
-use mathlib.Core.Path.{_≡_, refl, sym, ap, subst, _∙_}
-use mathlib.Core.Bool.{_||_}
-use mathlib.Core.List.{[], _∷_}
+use mathlib.Core.Path.{sym, ap, _∙_}
 use Prim.Native.Nat.{ℕ, _-_}
 use native.Mathlib.Omega.{arith}
-use lib.Dec.{eqb}
-use Rattle.tree.specs.rules.Tree.{Node}
-use Rattle.cover.specs.rules.Answer.{windowOutside}
-use Rattle.lock.specs.declared.Record.{Record}
-use Rattle.lock.specs.rules.Records.{written, isLeaf, clientWith}
-use Rattle.lock.specs.rules.Unreadable.{differ, unreadable}
-use Rattle.lock.specs.rules.Calls.{firstCause, answered, released, cancelled}
-use Rattle.lock.specs.rules.Table.{request, step, release, cancel}
+use Rattle.lock.specs.rules.Records.{written}
+use Rattle.lock.specs.rules.Table.{step}
 use Rattle.lock.specs.laws.PatienceLaws.{own-touched}
-use Rattle.lock.specs.laws.LateLaws.{late-waited, late-by}
-use Rattle.lock.specs.laws.StepLaws.{notified-late, notified-leaf, notified-inner}
 use Rattle.lock.specs.laws.Touched.{touched-counted, readable}
-use Rattle.lock.specs.laws.CallLaws.{cause-hit, cause-skip, refused-by, answer-accepted}
-use Rattle.lock.specs.laws.CoverLaws.{inside-window}
-use Rattle.lock.specs.laws.ByKind.{restOf, nextBy, wordsBy, step-onward, kind-request, kind-step, kind-release, kind-cancel, refuses-tree, settles, counts, refuses-back, refuses-unreadable, gives, step-work, step-refused, step-taken, step-sent-back}
+use Rattle.lock.specs.laws.ByKind.{step-work, step-refused, step-taken, step-sent-back}
 use borrow.Author.Needs.{needs}
 use Rattle.lock.proofs.Client.step.Statement.{statement}
 use Rattle.lock.proofs.Client.step.Tie as tie
-use Rattle.lock.proofs.Client.step.Reads as reads
-use Rattle.lock.proofs.Client.step.Lts as lts
-use Rattle.lock.proofs.Client.refused.Reads as refused-reads
-use Rattle.lock.proofs.Record.out_of_patience.Reads as out-of-patience-reads
-use Rattle.lock.proofs.Record.own_moved.Reads as own-moved-reads
-use Rattle.lock.proofs.Record.own_touched.Reads as own-touched-reads
-use Rattle.lock.proofs.Record.sent_back.Reads as sent-back-reads
-use Rattle.lock.proofs.calls.put_word.Reads as put-word-reads
-use Rattle.lock.proofs.calls.word_at.Reads as word-at-reads
 
 out-of-patience-requires : tie.Need-out-of-patience-requires
 out-of-patience-requires c κs =
