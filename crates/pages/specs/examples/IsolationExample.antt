@@ -1,12 +1,12 @@
 -- Examples, closed by computing: tables of readable records, each left by a history of two clients. In two of them the other client has another window, another phase and another clock, the
 -- run's clock and record and the number of clients in phase 9 are the same, and so is the run's page. In the third the other client holds too: that number differs, and so does the page.
--- Assumes nothing.
+-- And the run's own clock is its own: by an earlier one its record is unreadable. Assumes nothing.
 use mathlib.Core.Path.{_≡_, refl, sym, ap, _∙_}
 use mathlib.Core.Bool.{false}
 use mathlib.Core.List.{List, [], _∷_, _++_}
 use Prim.Native.Nat.{ℕ}
 use native.Mathlib.Omega.{arith}
-use lib.ListN.{length, getD}
+use lib.ListN.{length, getD, set}
 use Rattle.base.specs.rules.Choice.{choose}
 use Rattle.word.specs.rules.Word.{field, putField, addField, matches, replaced, maskedSwap, leafBits, wantedBits, takeBits, giveBits, returnOcc}
 use Rattle.tree.specs.rules.Tree.{climb, leftmost, first, level, levelWithin, size, left, units, holder, wordCount}
@@ -14,7 +14,7 @@ use Rattle.tree.specs.rules.Lists.{upward, ancestors, ancestor, notifies, notif
 use Rattle.cover.specs.rules.Cover.{part, over, total, rank}
 use Rattle.cover.specs.rules.Search.{before, lesser, behind, leastOf, rest, search, found, leastCover}
 use Rattle.cover.specs.rules.Answer.{levelsOutside, windowOutside}
-use Rattle.lock.specs.rules.Records.{phaseOf, pieces, pieceAt, isLeaf, gripOf, noticesOf, wordAt, written, idleClient}
+use Rattle.lock.specs.rules.Records.{phaseOf, pieces, pieceAt, isLeaf, gripOf, noticesOf, wordAt, written, clientWith, idleClient}
 use Rattle.lock.specs.rules.Unreadable.{numberTooLarge, idleFilled, notCovered, noCurrent, ticketTooLarge, fieldsWrong, listLength, placePast, noticesWrong, timeAhead, phaseElsewhere, heldEarly, outcomeWrong, lacksGrip, givingWrong, outOfPatienceFirst, takenFirst, unreadable}
 use Rattle.lock.specs.rules.Steps.{touchedIn, startPhase, begin, firstNoted, taken, ticketTaken, turnAwaited, goUp, climbed, unblocked, bitsClaimed, occClaimed, late, allNotified, noticeGiven, waited, checkPassed, pieceReturned, wordReturned, turnReturned, claimPiece, returnBits, returnInner, giveBack, movedIn, outOfPatience}
 use Rattle.lock.specs.rules.Calls.{firstCause, settingsOutside, treeTests, clientsOutside, clientTests, requestTests, stepTests, releaseTests, cancelTests, requested, released, cancelled}
@@ -54,6 +54,10 @@ seen calls = runPage settings (table calls) 0
 abbrev pub other : List Client → List ℕ
 other clients = let c = getD clients 1 idleClient in let r = c .«record» in c .clock ∷ r .phase ∷ r .left ∷ r .right ∷ []
 
+-- a table whose run has a clock of 0
+abbrev pub set-back : List Client → List Client
+set-back clients = set clients 0 (clientWith 0 (ownClient clients 0 .«record»))
+
 -- ---- what comes out of them
 
 computed :
@@ -62,9 +66,9 @@ computed :
     × (length (table climbing) ≡ length (table ticketed)) × (ownClient (table climbing) 0 ≡ ownClient (table ticketed) 0) × (heldCount (table climbing) ≡ heldCount (table ticketed))
     × (ownClient (table climbing) 0 ≡ ownClient (table holding) 0)
     × (seen climbing .number ≡ 0) × (seen climbing .held ≡ 1) × (seen holding .number ≡ 0) × (seen holding .held ≡ 2)
-    × (ownClient (table climbing) 0 .clock ≡ 1)
+    × (ownClient (set-back (table climbing)) 0 .«record» ≡ ownClient (table climbing) 0 .«record») × (runPage settings (set-back (table climbing)) 0 .number ≡ 6)
 unfolding run call numberOf after ownTests clientAt clientOf opening openingNumber opened firstCause settingsOutside treeTests clientsOutside clientTests requestTests stepTests releaseTests cancelTests requested released cancelled touchedIn startPhase begin firstNoted taken ticketTaken turnAwaited goUp climbed unblocked bitsClaimed occClaimed late allNotified noticeGiven waited checkPassed pieceReturned wordReturned turnReturned claimPiece returnBits returnInner giveBack movedIn numberTooLarge idleFilled notCovered noCurrent ticketTooLarge fieldsWrong listLength placePast noticesWrong timeAhead phaseElsewhere heldEarly outcomeWrong lacksGrip givingWrong outOfPatienceFirst takenFirst unreadable phaseOf pieces pieceAt isLeaf gripOf noticesOf wordAt written levelsOutside windowOutside lesser behind leastOf rest search found leastCover before part over total rank upward ancestors ancestor notifies notifiedFrom notifyLevels notifyList row descendants nearest checkList climb leftmost first level levelWithin size left units holder wordCount field putField addField matches replaced maskedSwap leafBits wantedBits takeBits giveBits returnOcc choose anyUnreadable inPhase9 heldCount runTests runNumber runPage outOfPatience
-computed = (refl, refl, refl, refl, refl, refl, refl, refl, refl, refl, refl, refl, refl, refl, refl)
+computed = (refl, refl, refl, refl, refl, refl, refl, refl, refl, refl, refl, refl, refl, refl, refl, refl)
 
 -- ---- the same page of tables that differ, and pages that differ
 
@@ -77,3 +81,7 @@ same-page = (
 
 pub other-page : (seen holding .number ≡ 0) × (ownClient (table climbing) 0 ≡ ownClient (table holding) 0) × (seen climbing ≡ seen holding → ⊥)
 other-page = (computed .12, computed .9, λ e. omega (arith, sym (computed .11) ∙ ap (λ (p : RunPage). p .held) e ∙ computed .13))
+
+pub own-clock-page : (ownClient (set-back (table climbing)) 0 .«record» ≡ ownClient (table climbing) 0 .«record»)
+    × (runPage settings (set-back (table climbing)) 0 .number ≡ 6) × (seen climbing ≡ runPage settings (set-back (table climbing)) 0 → ⊥)
+own-clock-page = (computed .14, computed .15, λ e. omega (arith, sym (computed .10) ∙ ap (λ (p : RunPage). p .number) e ∙ computed .15))

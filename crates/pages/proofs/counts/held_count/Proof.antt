@@ -1,5 +1,5 @@
--- `pages::counts::held_count` meets its contract: a walk of its MIR, by hand, with a loop and a call in it. In each turn the slice is looked into, the client's record is copied,
--- and `in_phase_9` is called with it. The invariant has the count over the first i clients, which is at most i. Assumes nothing.
+-- `pages::counts::held_count` meets its contract: a walk of its MIR, by hand, with a loop and a call in it. In each turn the slice is looked into, the client is copied,
+-- and `in_phase_9` is called with its record. The invariant has the count over the first i clients, which is at most i. Assumes nothing.
 use mathlib.Core.Path.{_≡_, refl, sym, _∙_, ap}
 use Prim.Native.Nat.{ℕ, zero-le, _+_, _<_, _^_}
 use native.Mathlib.Nat.{lt-of-le-of-lt, le-trans}
