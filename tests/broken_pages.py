@@ -4,8 +4,7 @@ Lent tables and files must find each of them out."""
 from unittest.mock import patch
 
 from model import cover, pages, schedule, table, tree
-from model.calls import settings_outside
-from model.readable import unreadable
+from model.calls import client_unreadable, settings_outside
 from model.record import IDLE
 from model.record import pieces as pieces_of
 
@@ -24,116 +23,124 @@ def of_first_piece(settings, record):
     return cover.over_cover(settings.levels, record.first, record.left, record.right)
 
 
-def three_before_two(settings, records, rows, last):
+def three_before_two(settings, clients, rows):
     """No clients, or over 32,767, tested before the count of rows."""
-    three_first = not settings_outside(settings) and table.clients_outside(records)
-    return 3 if three_first else planners_refused(settings, records, rows, last)
+    three_first = not settings_outside(settings) and table.clients_outside(clients)
+    return 3 if three_first else planners_refused(settings, clients, rows)
 
 
-def more_rows_taken(settings, records, rows, last):
+def more_rows_taken(settings, clients, rows):
     """Rows for more than the clients there are."""
-    return planners_refused(settings, records, rows[:len(records)], last)
+    return planners_refused(settings, clients, rows[:len(clients)])
 
 
-def six_before_three(settings, records, rows, last):
+def any_unreadable(settings, clients):
+    return any(client_unreadable(settings, client) for client in clients)
+
+
+def six_before_three(settings, clients, rows):
     """Unreadable records tested before their count."""
-    number = planners_refused(settings, records, rows, last)
-    return 6 if number == 3 and any(unreadable(settings, record, last) for record in records) else number
+    number = planners_refused(settings, clients, rows)
+    return 6 if number == 3 and any_unreadable(settings, clients) else number
 
 
 def tested_without(place):
     """The record at a place is not tested: 0 the first, -1 the last."""
-    def refused(settings, records, rows, last):
-        number = planners_refused(settings, records, rows, last)
+    def refused(settings, clients, rows):
+        number = planners_refused(settings, clients, rows)
         if number != 6:
             return number
-        others = [*records[:place], *records[place:][1:]]
-        return 6 if any(unreadable(settings, record, last) for record in others) else 0
+        return 6 if any_unreadable(settings, [*clients[:place], *clients[place:][1:]]) else 0
     return refused
 
 
-def first_32767_tested(settings, records, rows, last):
+def first_32767_tested(settings, clients, rows):
     """Of a table with too many clients the first 32,767 are taken."""
-    return planners_refused(settings, records[:table.MOST_CLIENTS], rows[:table.MOST_CLIENTS], last)
+    return planners_refused(settings, clients[:table.MOST_CLIENTS], rows[:table.MOST_CLIENTS])
 
 
-def zeroed_if_refused(settings, records, rows, last):
+def zeroed_if_refused(settings, clients, rows):
     """A refused page zeroes its rows."""
-    number = planners_page(settings, records, rows, last)
+    number = planners_page(settings, clients, rows)
     rows[:] = rows if number == 0 else [pages.Row()] * len(rows)
     return number
 
 
-def four_before_three(settings, records, client, last):
+def four_before_three(settings, clients, client):
     """The client tested before the count of clients."""
-    if not settings_outside(settings) and client >= len(records):
+    if not settings_outside(settings) and client >= len(clients):
         return 4
-    return run_refused(settings, records, client, last)
+    return run_refused(settings, clients, client)
 
 
-def every_record_tested(settings, records, client, last):
+def every_record_tested(settings, clients, client):
     """A run's page tests 6 for every record."""
-    number = run_refused(settings, records, client, last)
-    return number or (6 if any(unreadable(settings, record, last) for record in records) else 0)
+    number = run_refused(settings, clients, client)
+    return number or (6 if any_unreadable(settings, clients) else 0)
 
 
-def own_not_tested(settings, records, client, last):
+def own_not_tested(settings, clients, client):
     """A run's page does not test 6."""
-    number = run_refused(settings, records, client, last)
+    number = run_refused(settings, clients, client)
     return 0 if number == 6 else number
 
 
-def count_when_refused(settings, records, client, last):
+def count_when_refused(settings, clients, client):
     """A refused page has the count."""
-    return run_page(settings, records, client, last)._replace(held=pages.held_count(records))
+    return run_page(settings, clients, client)._replace(held=pages.held_count(clients))
 
 
-def record_when_refused(settings, records, client, last):
+def record_when_refused(settings, clients, client):
     """A refused page has the record."""
-    return run_page(settings, records, client, last)._replace(own=records[client] if client < len(records) else IDLE)
+    return run_page(settings, clients, client)._replace(own=clients[client].record if client < len(clients) else IDLE)
 
 
-def readable_counted(settings, records, client, last):
+def readable_counted(settings, clients, client):
     """Of the clients in phase 9 those are counted whose records are readable."""
-    page = run_page(settings, records, client, last)
-    held = 0 if page.number else sum(record.phase == 9 and not unreadable(settings, record, last) for record in records)
+    page = run_page(settings, clients, client)
+    held = 0 if page.number else sum(each.record.phase == 9 and not client_unreadable(settings, each) for each in clients)
     return page._replace(held=held)
 
 
-def others_counted(settings, records, client, last):
+def others_counted(settings, clients, client):
     """The other clients in phase 9 are counted."""
-    page = run_page(settings, records, client, last)
+    page = run_page(settings, clients, client)
     return page._replace(held=page.held - (page.own.phase == 9))
 
 
 def rows_of(order):
-    """The rows of an accepted page are those of the records in another order."""
-    def page(settings, records, rows, last):
-        number = planners_page(settings, records, rows, last)
-        rows[:] = rows if number else [row(settings, record) for record in order(records)]
+    """The rows of an accepted page are those of the clients in another order."""
+    def page(settings, clients, rows):
+        number = planners_page(settings, clients, rows)
+        rows[:] = rows if number else [row(settings, client.record) for client in order(clients)]
         return number
     return page
 
 
-def in_10_bits(records):
-    return [records[place % 1024] for place in range(len(records))]
+def in_10_bits(clients):
+    return [clients[place % 1024] for place in range(len(clients))]
 
 
-def reversed_above_300(records):
-    return records[::-1] if len(records) > 300 else records
+def reversed_above_300(clients):
+    return clients[::-1] if len(clients) > 300 else clients
 
 
-def ends_tested_above_300(settings, records, rows, last):
+def ends_tested_above_300(settings, clients, rows):
     """Of over 300 records only the first and the last are tested."""
-    number = planners_refused(settings, records, rows, last)
-    tested = [records[0], records[-1]] if number == 6 and len(records) > 300 else records
-    return number if number != 6 or any(unreadable(settings, record, last) for record in tested) else 0
+    number = planners_refused(settings, clients, rows)
+    tested = [clients[0], clients[-1]] if number == 6 and len(clients) > 300 else clients
+    return number if number != 6 or any_unreadable(settings, tested) else 0
 
 
-def own_in_10_bits(settings, records, client, last):
+def own_in_10_bits(settings, clients, client):
     """The own record is found by 10 bits of the client's number."""
-    page = run_page(settings, records, client, last)
-    return page if page.number else page._replace(own=records[client % 1024])
+    page = run_page(settings, clients, client)
+    return page if page.number else page._replace(own=clients[client % 1024].record)
+
+
+def counted(phases):
+    """How many clients are in these phases."""
+    return lambda clients: sum(client.record.phase in phases for client in clients)
 
 
 def in_place(name, value):
@@ -147,7 +154,7 @@ IN_HISTORIES = {
     "no over-cover": in_place("over_cover", lambda settings, record: 0),
     "no second piece": in_place("row", lambda settings, record: row(settings, record)._replace(second=0)),
     "a row only for who holds": in_place("row", lambda settings, record: row(settings, record if record.phase == 9 else IDLE)),
-    "clients that give back counted": in_place("held_count", lambda records: sum(record.phase >= 9 for record in records)),
+    "clients that give back counted": in_place("held_count", counted(range(9, 2 ** 64))),
     "other clients counted": in_place("run_page", others_counted),
 }
 
@@ -170,8 +177,8 @@ RULES = IN_HISTORIES | {
     "a refused page has the count": in_place("run_page", count_when_refused),
     "a refused page has the record": in_place("run_page", record_when_refused),
     "readable clients counted": in_place("run_page", readable_counted),
-    "a count of 8 bits": in_place("held_count", lambda records: sum(record.phase == 9 for record in records) % 256),
-    "a count that 32,767 brings back to 0": in_place("held_count", lambda records: sum(record.phase == 9 for record in records) % 32767),
+    "a count of 8 bits": in_place("held_count", lambda clients: counted({9})(clients) % 256),
+    "a count that 32,767 brings back to 0": in_place("held_count", lambda clients: counted({9})(clients) % 32767),
     "the settings not tested": in_place("settings_outside", lambda settings: False),
 }
 

@@ -66,23 +66,29 @@ def given_up_with(**fields):
     return changed
 
 
-def last_clock_kept(settings, words, record, clock, last):
+def last_clock_kept(settings, words, client, clock):
     """A step whose patience has run out doesn't set the last clock."""
-    answer = by_value(settings, words, record, clock, last)
-    return answer._replace(clock=last) if answer.number == 0 and run_out(settings, record, clock) else answer
+    answer = by_value(settings, words, client, clock)
+    if answer.number == 0 and run_out(settings, client.record, clock):
+        return answer._replace(client=answer.client._replace(clock=client.clock))
+    return answer
 
 
-def cancel_when_run_out(settings, words, record, last):
-    """A cancel at the last clock that has run out gives outcome 4."""
-    answer = cancel(settings, words, record, last)
-    return answer._replace(record=returning(record, 4)) if answer.number == 0 and run_out(settings, record, last) else answer
+def cancel_when_run_out(settings, words, client):
+    """A cancel at a last clock that has run out gives outcome 4."""
+    answer = cancel(settings, words, client)
+    if answer.number == 0 and run_out(settings, client.record, client.clock):
+        return answer._replace(client=client._replace(record=returning(client.record, 4)))
+    return answer
 
 
 def without_its_time(call):
     """A call after which the record has no third time."""
     def changed(*arguments):
         answer = call(*arguments)
-        return answer._replace(record=answer.record._replace(taken=0)) if answer.number == 0 else answer
+        if answer.number != 0:
+            return answer
+        return answer._replace(client=answer.client._replace(record=answer.client.record._replace(taken=0)))
     return changed
 
 

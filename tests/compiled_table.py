@@ -1,4 +1,4 @@
-"""The compiled calls over a lent table of records, from Python: the structs and functions of the binding, with records and words lent
+"""The compiled calls over a lent table of clients, from Python: the structs and functions of the binding, with clients and words lent
 as a test wants them."""
 
 import os
@@ -6,11 +6,11 @@ import sys
 from ctypes import c_uint64
 from functools import lru_cache
 
+from compare import unlike
 from library import ROOT, made
 from model.history import KINDS, Made
 from model.pages import Row, RunPage
 from model.record import Record
-from model.table import Answer
 
 sys.path.insert(0, str(ROOT / "python"))
 
@@ -24,44 +24,49 @@ def library():
     return nolthewyr.library()
 
 
-class Table:
-    """Words and records lent to the compiled calls. It can be driven and watched like the model's opened table."""
+def clients_unlike(mine, others):
+    """How many clocks and how many records of two tables differ."""
+    clocks = ([client.clock for client in table] for table in (mine, others))
+    records = ([tuple(client.record) for client in table] for table in (mine, others))
+    return unlike(*clocks), unlike(*records)
 
-    def __init__(self, settings, words, records):
-        self.settings, self.history, self.clock = settings, [], 0
+
+class Table:
+    """Words and clients lent to the compiled calls. It can be driven and watched like the model's opened table."""
+
+    def __init__(self, settings, words, clients):
+        self.settings, self.history = settings, []
         self.words = (c_uint64 * len(words))(*words)
-        self.records = (nolthewyr.Record * len(records))(*(tuple(record) for record in records))
-        self.lent = self.records, len(records), self.words, len(words), nolthewyr.Settings(*settings)
+        self.clients = (nolthewyr.Client * len(clients))(*((client.clock, tuple(client.record)) for client in clients))
+        self.lent = self.clients, len(clients), self.words, len(words), nolthewyr.Settings(*settings)
 
     def open(self):
         return library().nolthewyr_open(*self.lent)
 
-    def answer(self, call, last, told):
+    def answer(self, call, told):
         """Makes one call by its own function; `told` stands in the field `kind`, at which none looks."""
-        asked = nolthewyr.Call(told, call.client, call.a, call.b, last)
-        return Answer(*getattr(library(), f"nolthewyr_{call.kind}")(*self.lent, asked))
+        return getattr(library(), f"nolthewyr_{call.kind}")(*self.lent, nolthewyr.Call(told, call.client, call.a, call.b))
 
     def make(self, call):
         """Makes the call on what the last one left, and writes it into the history."""
-        number, self.clock = self.answer(call, self.clock, KINDS.index(call.kind))
-        phase = self.records[call.client].phase if call.client < len(self.records) else None
+        number = self.answer(call, KINDS.index(call.kind))
+        phase = self.clients[call.client].record.phase if call.client < len(self.clients) else None
         made = Made(call, number, phase)
         self.history.append(made)
         return made
 
-    def planners_page(self, rows, count, last):
+    def planners_page(self, rows, count):
         """Lends these rows, of which the page is told the first `count`: its number, and all of them after it."""
         lent = (nolthewyr.Row * len(rows))(*(tuple(row) for row in rows))
-        records, clients, _, _, settings = self.lent
-        number = library().nolthewyr_planners_page(records, clients, lent, count, settings, last)
+        clients, length, _, _, settings = self.lent
+        number = library().nolthewyr_planners_page(clients, length, lent, count, settings)
         return number, [Row(*row) for row in lent]
 
-    def run_page(self, client, last):
-        records, clients, _, _, settings = self.lent
-        page = library().nolthewyr_run_page(records, clients, settings, client, last)
+    def run_page(self, client):
+        clients, length, _, _, settings = self.lent
+        page = library().nolthewyr_run_page(clients, length, settings, client)
         return RunPage(page.number, Record(*page.own), page.held)
 
-    def unlike(self, words, records):
-        """How many records and how many words are not these."""
-        found = sum(tuple(mine) != record for mine, record in zip(self.records, records, strict=True))
-        return found, sum(mine != word for mine, word in zip(self.words, words, strict=True))
+    def unlike(self, words, clients):
+        """How many clocks, records and words are not these."""
+        return *clients_unlike(self.clients, clients), unlike(self.words, words)

@@ -1,24 +1,29 @@
-"""Random histories on small trees: contended windows, clocks that stand still, jump or go back, cancels, releases and
-refused calls."""
+"""Random histories on small trees: contended windows, each client's own clock, cancels, releases and refused calls."""
 
 from collections import Counter
+from itertools import combinations
 from random import Random
 from typing import NamedTuple
 
+from clocks import TOP, AnyClocks, TrueClocks
+from contended_windows import contended_windows
+from meetings import HELD, meetings, phases_above
 from model import tree
-from model.history import Call, Opened, held_apart, holds, idle, left_clean
+from model.history import Call, Opened, held_apart, holds, idle, left_clean, overlap
+from model.moments import moments_of, supposition_met
 from model.owned import conserved
-from model.record import IDLE, Settings
+from model.readable import unreadable
+from model.record import IDLE_CLIENT, Record, Settings
 
-TOP = 2 ** 64 - 1
 # The greatest that there may be.
 MOST_PATIENCE = 2 ** 32 - 1
-TICKS = (0, 0.02, 0.1, 0.4)
-JUMPS = (0.03, 0.1, 0.2)
 CANCELS = (0.003, 0.02, 0.1)
 RELEASES = (0.1, 0.4)
 STAYS = (0.3, 0.6, 0.8)
+SLEEPS = (0, 0.2, 0.6)
 BUSY = 80
+LONGEST_SLEEP = 60
+CLAIMING = (5, 6)
 
 
 class Shape(NamedTuple):
@@ -29,75 +34,29 @@ class Shape(NamedTuple):
     calls: int
 
 
-def window_near(rng, h, centre):
-    """A window of any size that has the unit `centre`, or ends or begins beside it."""
-    n = tree.units(h)
-    left, right = (rng.randrange(4 ** rng.randint(0, h + 2)) for _ in range(2))
-    left, right = centre - left, centre + 1 + right
-    left, right = rng.choice([(left, right), (left, right), (left, centre), (centre, right)])
-    left, right = max(left, 0), min(right, n)
-    return (left, right) if left < right else (centre, centre + 1)
-
-
-def windows_at_edges(rng, h):
-    """A few windows about one unit and about the edge of a leaf or of a greater node."""
-    edge = 64 * 4 ** rng.randrange(h - 1)
-    centres = [rng.randrange(tree.units(h)), edge * rng.randrange(1, tree.units(h) // edge)]
-    return [window_near(rng, h, rng.choice(centres)) for _ in range(rng.randint(3, 7))]
-
-
-def nested_windows(rng, h):
-    """A part of a leaf, and the whole ranges of up to three of the nodes above it."""
-    leaf = rng.randint(tree.first_node(h), tree.last_node(h))
-    left = tree.node_range(h, leaf)[0] + rng.randrange(32)
-    above = [tree.node_range(h, n) for n in tree.ancestors(leaf)]
-    return [(left, left + rng.randint(1, 32)), *rng.sample(above, min(rng.randint(1, 3), h - 1))]
-
-
-def contended_windows(rng, h):
-    """Few windows, most of which overlap, so that clients meet."""
-    return rng.choice([windows_at_edges, nested_windows])(rng, h)
-
-
 class Driver:
     """Draws the next call from what the clients are doing. It is busy for a while, then asks for no new window until
     all are idle."""
 
-    def __init__(self, opened, seed):
+    def __init__(self, opened, seed, clocks=AnyClocks):
         self.opened, self.rng = opened, Random(seed)
         self.windows = contended_windows(self.rng, opened.settings.levels)
-        chances = (TICKS, JUMPS, CANCELS, RELEASES, STAYS)
-        self.ticks, self.jumps, self.cancels, self.releases, self.stays = map(self.rng.choice, chances)
-        self.client, self.busy = 0, BUSY
+        chances = (CANCELS, RELEASES, STAYS, SLEEPS)
+        self.cancels, self.releases, self.stays, self.sleeps = map(self.rng.choice, chances)
+        self.clocks = clocks(opened, self.rng)
+        self.client, self.busy, self.asleep = 0, BUSY, {}
 
-    def clock(self):
-        """Clocks have 64 bits."""
-        return min(max(self.drawn_clock(), 0), TOP)
-
-    def drawn_clock(self):
-        """Mostly stands still or goes on by 1, at times by about T or far, at times back."""
-        last, wait, chance = self.opened.clock, self.opened.settings.wait, self.rng.random()
-        if chance < 0.01:
-            return self.rng.randint(0, last)
-        if chance < 0.01 + self.jumps:
-            return max(last, self.rng.choice([*self.moments(), last + wait - 1, last + wait, last + 10 * wait]))
-        return last + (1 if self.rng.random() < self.ticks else 0)
-
-    def moments(self):
-        """When some client's wait is over, its claim is late or, at a second piece, its patience runs out, and one before."""
-        record, settings = self.rng.choice(self.opened.records), self.opened.settings
-        ends = [record.t1 + settings.wait, record.t0 + settings.wait]
-        ends += [record.taken + settings.patience] if record.current > 0 else []
-        return [end - before for end in ends for before in (0, 1)]
+    def phase(self, client):
+        return self.opened.clients[client].record.phase
 
     def refused(self):
         """A call that is often refused: a window outside the tree, a client that there isn't, or a kind at a wrong
         time."""
-        n, clients = tree.units(self.opened.settings.levels), len(self.opened.records)
+        n, clients = tree.units(self.opened.settings.levels), len(self.opened.clients)
         client = self.rng.randrange(clients)
         return self.rng.choice([
             Call("request", client, n - 1, n + 1), Call("request", client, 5, 5), Call("request", client, *self.windows[0]),
-            Call("step", clients, self.opened.clock), Call("release", clients + 2 ** 40),
+            Call("step", clients, self.opened.clients[client].clock), Call("release", clients + 2 ** 40),
             Call("release", client), Call("cancel", client),
         ])
 
@@ -113,23 +72,42 @@ class Driver:
             return Call("release", self.client)
         if 1 <= phase <= 8 and chance < self.cancels:
             return Call("cancel", self.client)
-        return Call("step", self.client, self.clock())
+        return Call("step", self.client, self.clocks.clock(self.client))
+
+    def fall_asleep(self):
+        """At times a client falls asleep in the middle of a claim, so that others come past it."""
+        if self.phase(self.client) in CLAIMING and self.rng.random() < self.sleeps:
+            self.asleep[self.client] = LONGEST_SLEEP
+
+    def awakened(self):
+        """A client that has slept for long, or until an overlapping window above it is held; None if there is none."""
+        records = [client.record for client in self.opened.clients]
+        self.asleep = {client: left - 1 for client, left in self.asleep.items() if self.phase(client) in CLAIMING}
+        over = [client for client, left in self.asleep.items() if left == 0 or HELD in phases_above(self.opened.settings, records, client)]
+        return self.rng.choice(over) if over else None
+
+    def awake(self):
+        """The clients that are not asleep. While no window is asked for, those that are idle are passed over."""
+        clients = [client for client in range(len(self.opened.clients)) if self.busy > 0 or self.phase(client) != 0]
+        return [client for client in clients if client not in self.asleep] or clients
 
     def next_client(self):
-        """Often the same client again. While no window is asked for, clients that are idle are passed over."""
-        clients = range(len(self.opened.records))
-        working = [c for c in clients if self.opened.records[c].phase != 0]
-        if self.busy <= 0 and not working:
+        """Often the same client again; one that has slept at once."""
+        if self.busy <= 0 and all(self.phase(client) == 0 for client in range(len(self.opened.clients))):
             self.busy = BUSY
-        if self.rng.random() > self.stays or self.busy <= 0 and self.client not in working:
-            self.client = self.rng.choice(clients if self.busy > 0 else working)
+        self.fall_asleep()
+        if (client := self.awakened()) is not None:
+            self.client = client
+        elif self.rng.random() > self.stays or self.client not in self.awake():
+            self.client = self.rng.choice(self.awake())
+        self.asleep.pop(self.client, None)
 
     def next_call(self):
         self.busy -= 1
         self.next_client()
         if self.rng.random() < 0.03:
             return self.refused()
-        return self.wanted(self.opened.records[self.client].phase)
+        return self.wanted(self.phase(self.client))
 
 
 class Watch:
@@ -138,43 +116,57 @@ class Watch:
 
     def __init__(self, opened):
         self.opened = opened
-        self.windows = [None] * len(opened.records)
-        self.idles = [True] * len(opened.records)
-        self.phases = [0] * len(opened.records)
-        self.counts = Counter()
+        self.windows = [None] * len(opened.clients)
+        self.idles = [True] * len(opened.clients)
+        self.records = [Record(*client.record) for client in opened.clients]
+        self.counts, self.overlap = Counter(), None
 
     def look(self, made):
         """Looks at the history after a call, and counts the claims that fail then."""
         client, history = made.call.client, self.opened.history
+        self.counts["number", made.number] += 1
         if made.number == 0:
             self.windows[client] = holds(history, client)
             self.idles[client] = idle(history, client)
-        self.counts["claim", 1] += not held_apart(self.windows)
+            self.count_kind(made, Record(*self.opened.clients[client].record))
+        if not held_apart(self.windows):
+            self.counts["claim", 1] += 1
+            self.overlap = self.overlap or self.calls_of_two()
         self.counts["claim", 2] += not left_clean(self.opened.settings, self.opened.words, self.idles)
-        self.count_kind(made)
+
+    def calls_of_two(self):
+        """The calls of two clients that hold overlapping windows, since the request that came first: if no moments meet the supposition for
+        these, none do for the whole history."""
+        windows = [(client, window) for client, window in enumerate(self.windows) if window is not None]
+        pair = next((one, other) for (one, of_one), (other, of_other) in combinations(windows, 2) if overlap(of_one, of_other))
+        made = [made for made in self.opened.history if made.call.client in pair and made.number == 0]
+        asked = [max(place for place, each in enumerate(made) if (each.call.kind, each.call.client) == ("request", client)) for client in pair]
+        return made[min(asked):]
 
     def look_at_owned(self):
-        """Counts when some word is not what the records own of it."""
-        self.counts["unlike what is owned"] += not conserved(self.opened.settings, self.opened.words, self.opened.records)
+        """Counts when some word is not what the records own of it, or some record is not readable."""
+        settings, clients = self.opened.settings, self.opened.clients
+        self.counts["unlike what is owned"] += not conserved(settings, self.opened.words, [client.record for client in clients])
+        self.counts["unreadable"] += any(unreadable(settings, client.record, client.clock) for client in clients)
 
-    def count_kind(self, made):
-        """Counts what the call shows: its phase and outcome, its number, two holders at once, all idle again, and in which phase patience
-        has run out."""
-        self.counts["number", made.number] += 1
-        if made.number == 0:
-            record = self.opened.records[made.call.client]
-            before, self.phases[made.call.client] = self.phases[made.call.client], record.phase
-            self.counts["patience run out in", before] += before != 10 and (record.phase, record.outcome) == (10, 4)
-            self.counts["phase", record.phase] += 1
-            self.counts["outcome", record.outcome] += 1
-            self.counts["both pieces begun"] += record.current
-            self.counts["two holders"] += sum(window is not None for window in self.windows) >= 2
-            self.counts["all idle again"] += all(self.idles)
+    def count_kind(self, made, record):
+        """Counts what an accepted call shows: its phase and outcome, two holders at once, all idle again, in which phase patience has run
+        out, and where clients meet."""
+        client = made.call.client
+        if made.call.kind == "step":
+            self.counts.update(meetings(self.opened.settings, self.records, client, record, made.call.a))
+        before, self.records[client] = self.records[client].phase, record
+        self.counts["patience run out in", before] += before != 10 and (record.phase, record.outcome) == (10, 4)
+        self.counts["phase", record.phase] += 1
+        self.counts["outcome", record.outcome] += 1
+        self.counts["both pieces begun"] += record.current
+        self.counts["two holders"] += sum(window is not None for window in self.windows) >= 2
+        self.counts["all idle again"] += all(self.idles)
 
 
 def opened(shape):
     words = [0] * tree.node_count(shape.settings.levels)
-    return Opened(shape.settings, words, [IDLE] * shape.clients)
+    return Opened(shape.settings, words, [IDLE_CLIENT] * shape.clients)
 
 
 def history_of(shape, seed):
@@ -186,22 +178,30 @@ def history_of(shape, seed):
     return lock
 
 
-def counts_of(shape, seed):
+def supposed(driver):
+    """Whether the history that a driver with true moments drew meets the supposition."""
+    driver.clocks.catch_up()
+    return supposition_met(driver.opened.history, driver.clocks.moments)
+
+
+def counts_of(shape, seed, clocks):
     """The counts of one random history."""
     lock = opened(shape)
-    driver, watch = Driver(lock, seed), Watch(lock)
+    driver, watch = Driver(lock, seed, clocks), Watch(lock)
     for _ in range(shape.calls):
         watch.look(lock.make(driver.next_call()))
         watch.look_at_owned()
+    watch.counts["supposition not met"] += clocks is TrueClocks and not supposed(driver)
+    watch.counts["overlap that moments allow"] += watch.overlap is not None and moments_of(watch.overlap) is not None
     return watch.counts
 
 
 def breaks_a_claim(shape, seed):
-    """Whether a claim fails after some call of one random history."""
+    """Whether a claim fails after some call of one random history that meets the supposition."""
     lock = opened(shape)
-    driver, watch = Driver(lock, seed), Watch(lock)
+    driver, watch = Driver(lock, seed, TrueClocks), Watch(lock)
     for _ in range(shape.calls):
         watch.look(lock.make(driver.next_call()))
         if watch.counts["claim", 1] or watch.counts["claim", 2]:
-            return True
+            return supposed(driver)
     return False

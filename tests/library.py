@@ -14,7 +14,7 @@ RECORDS = ROOT / "tests" / "records.c"
 
 QUERY = 8
 ANSWER = 4
-# Of a query about a record: settings, record, word count, kind, client, a, b and last clock. Of its answer: number, clock, record, how many
+# Of a query about a client: settings, last clock, record, word count, kind, client, a and b. Of its answer: number, clock, record, how many
 # words are changed, and the changed node with its word.
 BEFORE_PAIRS = len(Settings._fields) + len(Record._fields) + 6
 RECORD_ANSWER = len(Record._fields) + 5
@@ -80,7 +80,7 @@ class Probe(Program):
 
 
 class Records(Program):
-    """The calls on one record: a query ends with as many pairs of a node and its word as it says."""
+    """The calls on one client: a query ends with as many pairs of a node and its word as it says."""
 
     def answers(self, cases):
         queries = array("Q")

@@ -1,10 +1,11 @@
 """Cases for the compiled pages of a lent table, the planners' and a forecast run's: held to the model in the middle of histories and on
-tables of any content, refused in order of testing, and the same for a run whatever the other records say."""
+tables of any content, refused in order of testing, and the same for a run whatever the other records and clocks say."""
 
 from collections import Counter
 from random import Random
 
 import lent_tables
+from broken_clocks import PAGES
 from broken_pages import RULES
 from broken_rules import by_broken
 from compare import NAMES, case, unlike
@@ -13,52 +14,52 @@ from history_cases import WHOLE_CASE_SETTINGS
 from lent_tables import CAUSES, MOST, Lent, with_causes
 from model import pages
 from model.pages import Row
-from model.record import IDLE, Record
+from model.record import IDLE, Client, Record
 
-NAMES["planners' page"] = ("place", *Lent._fields[2:]), ("number", "rows unlike", "rows past the lent ones changed", "records changed")
-NAMES["run's page"] = ("place", *Lent._fields[2:]), ("number", "held", "fields unlike", "records changed")
+NAMES["planners' page"] = ("place", *Lent._fields[2:]), ("number", "rows unlike", "rows past the lent ones changed", "clients changed")
+NAMES["run's page"] = ("place", *Lent._fields[2:]), ("number", "held", "fields unlike", "clients changed")
 NAMES["page's refusal"] = ("page", "causes taken away", "clients"), ("number", "number by the model")
 NAMES["pages of the whole case"] = ("client", "by"), ("row as written down", "record as written down", "held")
-NAMES["page with other records"] = ("seed",), ("pages that differ",)
-NAMES["accepted pages with other records"] = (), ("enough of them",)
+NAMES["page with other clients"] = ("seed",), ("pages that differ",)
+NAMES["accepted pages with other clients"] = (), ("enough of them",)
 NAMES["page occurs"] = ("place in the list of what must occur",), ("occurs",)
 NAMES["broken page"] = ("place in the list of broken rules",), ("found out",)
 
 # What stands in the rows before, and in rows that are not lent.
 MARK = Row(*range(101, 107))
 BEYOND = 2
-# So many pages that are compared with those of other records must not be refused.
+# So many pages that are compared with those beside other clients must not be refused.
 ENOUGH_ACCEPTED = 500
 
 
 def by_model(lent):
     """The number and the rows of the planners' page, and the run's page."""
-    settings, records, rows, client, last = lent
+    settings, clients, rows, client = lent
     filled = [MARK] * rows
-    number = pages.planners_page(settings, records, filled, last)
-    return number, filled, pages.run_page(settings, records, client, last)
+    number = pages.planners_page(settings, clients, filled)
+    return number, filled, pages.run_page(settings, clients, client)
 
 
 def planners_case(place, lent, table, number, wanted):
-    """The rows are as the model says, those behind them are not written, and no record is."""
-    before = bytes(table.records)
-    found, rows = table.planners_page([MARK] * (lent.rows + BEYOND), lent.rows, lent.last)
-    answer = found, unlike(rows[:lent.rows], wanted), unlike(rows[lent.rows:], [MARK] * BEYOND), int(bytes(table.records) != before)
+    """The rows are as the model says, those behind them are not written, and no client is."""
+    before = bytes(table.clients)
+    found, rows = table.planners_page([MARK] * (lent.rows + BEYOND), lent.rows)
+    answer = found, unlike(rows[:lent.rows], wanted), unlike(rows[lent.rows:], [MARK] * BEYOND), int(bytes(table.clients) != before)
     return case("planners' page", [place, *lent[2:]], (number, 0, 0, 0)), answer
 
 
 def run_case(place, lent, table, wanted):
-    """Number, count and own record are as the model says, and no record is written."""
-    before = bytes(table.records)
-    page = table.run_page(lent.client, lent.last)
-    answer = page.number, page.held, unlike(page.own, wanted.own), int(bytes(table.records) != before)
+    """Number, count and own record are as the model says, and no client is written."""
+    before = bytes(table.clients)
+    page = table.run_page(lent.client)
+    answer = page.number, page.held, unlike(page.own, wanted.own), int(bytes(table.clients) != before)
     return case("run's page", [place, *lent[2:]], (wanted.number, wanted.held, 0, 0)), answer
 
 
 def compared(tables):
     """Both pages of each lent table."""
     for place, lent in enumerate(tables()):
-        table, (number, rows, page) = Table(lent.settings, [], lent.records), by_model(lent)
+        table, (number, rows, page) = Table(lent.settings, [], lent.clients), by_model(lent)
         yield planners_case(place, lent, table, number, rows)
         yield run_case(place, lent, table, page)
 
@@ -75,8 +76,8 @@ def causes_taken_away():
 def refusals_in_order():
     """The first cause that is left is the number, by the model and by the compiled page; and at last both are accepted."""
     for place, away, outside, number, lent in causes_taken_away():
-        table, (planners, _, run) = Table(lent.settings, [], lent.records), by_model(lent)
-        compiled = table.planners_page([MARK] * lent.rows, lent.rows, lent.last)[0], table.run_page(lent.client, lent.last).number
+        table, (planners, _, run) = Table(lent.settings, [], lent.clients), by_model(lent)
+        compiled = table.planners_page([MARK] * lent.rows, lent.rows)[0], table.run_page(lent.client).number
         yield case("page's refusal", [place, away, outside], (number, number)), (compiled[place], (planners, run.number)[place])
 
 
@@ -85,51 +86,51 @@ def refused_tables():
 
 
 # After the last call of the whole case client 0 is idle with outcome 1. Client 1 holds [0, 256) by the root, of which nothing is beyond it,
-# with Occ as its grip, ticket 0 and no notices, claimed at 3 and taken at 10. It is the only one in phase 9, and the last clock is 10.
-WHOLE_CASE = WHOLE_CASE_SETTINGS, [IDLE._replace(outcome=1), Record(phase=9, right=256, first=1, grip=3, t0=3, taken=10)], 10
+# with Occ as its grip, ticket 0 and no notices, claimed at 3 and taken at 10. It is the only one in phase 9. The last clocks are 9 and 10.
+WHOLE_CASE_CLIENTS = [Client(9, IDLE._replace(outcome=1)), Client(10, Record(phase=9, right=256, first=1, grip=3, t0=3, taken=10))]
 WHOLE_CASE_ROWS = [Row(), Row(9, 0, 256, 1, 0, 0)]
 
 
 def whole_case():
     """The pages of the whole case, by the model and by the compiled pages."""
-    settings, records, last = WHOLE_CASE
-    table = Table(settings, [], records)
-    for client, record in enumerate(records):
-        model_rows, model_page = by_model(Lent(settings, records, 2, client, last))[1:]
-        compiled_rows, compiled_page = table.planners_page([MARK] * 2, 2, last)[1], table.run_page(client, last)
+    table = Table(WHOLE_CASE_SETTINGS, [], WHOLE_CASE_CLIENTS)
+    for client, (_, record) in enumerate(WHOLE_CASE_CLIENTS):
+        model_rows, model_page = by_model(Lent(WHOLE_CASE_SETTINGS, WHOLE_CASE_CLIENTS, 2, client))[1:]
+        compiled_rows, compiled_page = table.planners_page([MARK] * 2, 2)[1], table.run_page(client)
         for by, (rows, page) in enumerate(((model_rows, model_page), (compiled_rows, compiled_page))):
             answer = int(rows[client] == WHOLE_CASE_ROWS[client]), int(page[:2] == (0, record)), page.held
             yield case("pages of the whole case", [client, by], (1, 1, 1)), answer
 
 
-def other_records(rng, lent):
-    """The table with any other records in place of those of the other clients, as many of them in phase 9 as before."""
-    others = len(lent.records) - 1
-    held = pages.held_count(lent.records) - (lent.records[lent.client].phase == 9)
-    drawn = [lent_tables.damaged(rng, lent.settings, rng.choice(lent.records), lent.last) for _ in range(others)]
+def other_clients(rng, lent):
+    """The table with any other records and clocks in place of those of the other clients, as many of them in phase 9 as before."""
+    others = len(lent.clients) - 1
+    held = pages.held_count(lent.clients) - (lent.clients[lent.client].record.phase == 9)
+    drawn = [lent_tables.damaged(rng, lent.settings, rng.choice(lent.clients)) for _ in range(others)]
     phases = rng.sample([9] * held + [rng.choice([0, 3, 8, 10, 11]) for _ in range(others - held)], others)
-    drawn = [record._replace(phase=phase) for record, phase in zip(drawn, phases)]
-    return lent._replace(records=[*drawn[:lent.client], lent.records[lent.client], *drawn[lent.client:]])
+    drawn = [Client(lent_tables.any_clock(rng), each.record._replace(phase=phase)) for each, phase in zip(drawn, phases)]
+    return lent._replace(clients=[*drawn[:lent.client], lent.clients[lent.client], *drawn[lent.client:]])
 
 
 def same_page():
-    """Two tables of one size, under the same settings and last clock, that agree on a run's record and on the number of clients in phase
-    9 give the run the same page. Of these pages many are accepted."""
-    rng, accepted = Random("other records"), 0
-    tables = [lent for lent in lent_tables.of_any_content() if len(lent.records) > 1]
+    """Two tables of one size, under the same settings and last clock of a run, that agree on its record and on the number of clients in
+    phase 9 give the run the same page. Of these pages many are accepted."""
+    rng, accepted = Random("other clients"), 0
+    tables = [lent for lent in lent_tables.of_any_content() if len(lent.clients) > 1]
     for seed, lent in enumerate(tables):
-        other = other_records(rng, lent)
+        other = other_clients(rng, lent)
         if other == lent:
             continue
-        found = {Table(table.settings, [], table.records).run_page(lent.client, lent.last) for table in (lent, other)}
+        found = {Table(table.settings, [], table.clients).run_page(lent.client) for table in (lent, other)}
         accepted += all(page.number == 0 for page in found)
-        yield case("page with other records", [seed], 1), len(found)
-    yield case("accepted pages with other records", [], 1), int(accepted >= ENOUGH_ACCEPTED)
+        yield case("page with other clients", [seed], 1), len(found)
+    yield case("accepted pages with other clients", [], 1), int(accepted >= ENOUGH_ACCEPTED)
 
 
 TABLES = {
     "in the middle of histories": lent_tables.in_histories,
     "of tables of any content": lent_tables.of_any_content,
+    "by each client's own clock": lent_tables.by_own_clocks,
     "of the tables in tests/vectors": lent_tables.of_expected_answers,
     "with settings outside their ranges": lent_tables.settings_outside,
     "of any number of clients, rows and client": lent_tables.clients_and_rows,
@@ -175,7 +176,7 @@ def what_occurs():
 def broken_rules():
     """Of each broken rule some lent table shows it: compiled pages with that fault would not be the model's."""
     tables = [(lent, by_model(lent)) for tables in TABLES.values() for lent in tables()]
-    for place, broken in enumerate(RULES.values()):
+    for place, broken in enumerate((RULES | PAGES).values()):
         with broken():
             found_out = any(by_broken(by_model, lent) != expected for lent, expected in tables)
         yield case("broken page", [place], 1), int(found_out)
@@ -185,7 +186,7 @@ SUITES = {
     "pages, the whole case": whole_case,
     "pages, refused in order of testing": refusals_in_order,
     **{f"pages, {name}": lambda tables=tables: compared(tables) for name, tables in TABLES.items()},
-    "pages, a run's is the same whatever the other records say": same_page,
+    "pages, a run's is the same whatever the other records and clocks say": same_page,
     "pages, all that must occur does": what_occurs,
     "pages, the tables find each broken rule out": broken_rules,
 }

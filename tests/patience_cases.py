@@ -41,7 +41,7 @@ def out_of_patience():
     counts = Counter()
     for state, clock in steps(True):
         words = Sparse(state.count, state.words)
-        number, last, after = answer(state, words, Call("step", 0, clock))
+        number, (last, after) = answer(state, words, Call("step", 0, clock))
         unlike = after != state.record._replace(phase=10, outcome=4, place=0, giving=0)
         counts[state.record.phase] += 1
         yield case("step out of patience", arguments(state.record, clock), 0), (number, last != clock, unlike, words.words != state.words)
@@ -60,7 +60,7 @@ def third_time(record, after, clock):
 def with_patience():
     """Any other step sets no outcome 4. The third time is the clock of the step that takes the first piece, also of a single one."""
     for state, clock in steps(False):
-        number, _, after = answer(state, Sparse(state.count, state.words), Call("step", 0, clock))
+        number, (_, after) = answer(state, Sparse(state.count, state.words), Call("step", 0, clock))
         if number == 0:
             set_4 = after.outcome == 4 and state.record.outcome != 4
             unlike = after.taken != third_time(state.record, after, clock)

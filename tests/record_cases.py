@@ -1,8 +1,10 @@
-"""Cases for the calls on one record: states of random histories, readable records with any words, and lent garbage."""
+"""Cases for the calls on one client: states of random histories, readable records with any words, and lent garbage."""
 
 from itertools import chain
 from random import Random
 
+from clock_states import any_wrapped, late_states
+from clocks import first_late
 from compare import NAMES, Case
 from histories import TOP
 from library import RECORD_ANSWER
@@ -18,8 +20,8 @@ HISTORIES, CALLS = 14, 500
 BUILT, CHANGED, ANY = 9000, 7000, 3000
 
 # Where the phase stands among the arguments.
-PHASE = len(Settings._fields)
-ARGUMENTS = (*Settings._fields, *Record._fields, "count", "kind", "client", "a", "b", "last", *("node", "word") * 200)
+PHASE = len(Settings._fields) + 1
+ARGUMENTS = (*Settings._fields, "last clock", *Record._fields, "count", "kind", "client", "a", "b", *("node", "word") * 200)
 RESULTS = ("number", "clock", *Record._fields, "changed", "node", "word")
 for name in ("request", "step", "release", "cancel", "unreadable"):
     NAMES[name] = ARGUMENTS, RESULTS
@@ -33,13 +35,13 @@ def above_pieces(state):
 
 
 def answer(state, words, call):
-    """What the model gives for a call on this state's record; it writes the words."""
-    lent = state.settings, words, state.record
+    """What the model gives for a call on this state's client; it writes the words."""
+    lent = state.settings, words, state.client
     if call.kind == "request":
-        return calls.request(*lent, call.a, call.b, state.last)
+        return calls.request(*lent, call.a, call.b)
     if call.kind == "step":
-        return calls.step(*lent, call.a, state.last)
-    return {"release": calls.release, "cancel": calls.cancel}[call.kind](*lent, state.last)
+        return calls.step(*lent, call.a)
+    return {"release": calls.release, "cancel": calls.cancel}[call.kind](*lent)
 
 
 def expected(state, call):
@@ -47,17 +49,17 @@ def expected(state, call):
     if call.kind == "unreadable":
         return int(unreadable(state.settings, state.record, state.last)), *(0,) * (RECORD_ANSWER - 1)
     words = Sparse(state.count, state.words)
-    number, clock, record = answer(state, words, call)
+    number, client = answer(state, words, call)
     changed = [(n, w) for n, w in words.words.items() if w != state.words.get(n, 0)]
-    return number, clock, *record, len(changed), *(changed[0] if changed else (0, 0))
+    return number, client.clock, *client.record, len(changed), *(changed[0] if changed else (0, 0))
 
 
 def record_case(rng, state, call):
-    """Kind and client are any numbers: a call on one record does not look at them."""
+    """Kind and client are any numbers: a call on one client does not look at them."""
     pairs = {**dict.fromkeys(above_pieces(state), 0), **state.words}
     flat = [number for pair in pairs.items() for number in pair]
-    beside = state.count, rng.randrange(5), rng.getrandbits(16), call.a, call.b, state.last
-    return Case(call.kind, (*state.settings, *state.record, *beside, *flat), expected(state, call))
+    beside = state.count, rng.randrange(5), rng.getrandbits(16), call.a, call.b
+    return Case(call.kind, (*state.settings, state.last, *state.record, *beside, *flat), expected(state, call))
 
 
 def any_window(rng, h):
@@ -69,11 +71,11 @@ def any_window(rng, h):
 
 
 def step_clock(rng, state):
-    """About the last clock, about the moments at which a wait is over, a claim is late or patience runs out, and far away."""
+    """About the last clock, about the clocks at which a wait is over, a claim is late or patience runs out, and far away."""
     record, settings, last = state.record, state.settings, state.last
-    ends = record.t1 + settings.wait, record.t0 + settings.wait, record.taken + settings.patience
-    moments = [end + beside for end in ends for beside in (-1, 0, 0, 1)]
-    chosen = rng.choice([last, last + 1, last - 1, *moments, TOP, any_clock(rng)])
+    ends = [record.t1 + settings.wait, record.t1 + first_late(settings.wait), record.t0 + settings.wait, record.taken + settings.patience]
+    beside = [end + ticks for end in ends for ticks in (-1, 0, 0, 1)]
+    chosen = rng.choice([last, last + 1, last - 1, *beside, record.t1 + any_wrapped(rng), TOP, any_clock(rng)])
     return min(max(chosen, rng.choice([0, last, last, last])), TOP)
 
 
@@ -173,6 +175,13 @@ def every_outcome_and_third_time():
         yield record_case(rng, state, call)
 
 
+def late_and_not_late():
+    """Claims with so many ticks since t1 that they are just late or just not, or that a product of 64 bits would wrap."""
+    rng = Random("late and not late")
+    for state, call in late_states():
+        yield record_case(rng, state, call)
+
+
 KINDS = {
     "in states that histories reach": cases_reached,
     "in such states with one field changed": cases_reached_and_changed,
@@ -186,4 +195,5 @@ SUITES = {
     "record, settings outside their ranges": settings_refused,
     "record, word count not the tree's": word_count_refused,
     "record, every outcome and third time in every phase": every_outcome_and_third_time,
+    "record, claims that are just late and just not": late_and_not_late,
 }

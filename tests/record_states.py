@@ -1,18 +1,21 @@
-"""States in which a call on one record is made: settings, record, words that are not 0, word count and last clock."""
+"""States in which a call on one client is made: settings, record, words that are not 0, word count and the client's last clock."""
 
 from functools import lru_cache
 from random import Random
 from typing import NamedTuple
 
 import cover_cases
+from clocks import first_late
 from histories import TOP, Driver
 from model import readable, tree, word
 from model import record as records
 from model.history import Call, Opened
-from model.record import IDLE, Record, Settings
+from model.record import IDLE, IDLE_CLIENT, Client, Record, Settings
 from word_cases import random_inner
 
 SMALL_TIMES = (1, 2, 3, 5, 9)
+# Up to 5,000 ticks a claim is late when T has passed, and then sooner.
+LONG_TIMES = (5000, 5001, 10001, 123456)
 GREATEST_TIME = 2 ** 32 - 1
 POOL = 200
 # Numbers outside the range of each setting: just outside it, far, and such as would be inside it cut to 32 bits.
@@ -29,6 +32,10 @@ class State(NamedTuple):
     words: dict
     count: int
     last: int
+
+    @property
+    def client(self):
+        return Client(self.last, self.record)
 
 
 class Sparse:
@@ -53,7 +60,7 @@ def one_outside(settings):
 
 
 def any_settings(rng, h):
-    wait, patience = (rng.choice([*SMALL_TIMES, rng.randint(10, 1000), GREATEST_TIME]) for _ in range(2))
+    wait, patience = (rng.choice([*SMALL_TIMES, *LONG_TIMES, rng.randint(10, 1000), GREATEST_TIME]) for _ in range(2))
     return Settings(h, rng.choice(tree.DISTANCES), wait, patience)
 
 
@@ -81,19 +88,20 @@ class Fresh(Opened):
 
     def __init__(self, settings, clients):
         self.settings, self.words = settings, Sparse(tree.node_count(settings.levels), {})
-        self.records, self.clock, self.history = [IDLE] * clients, 0, []
+        self.clients, self.history = [IDLE_CLIENT] * clients, []
 
 
 def reached(rng, h, calls):
-    """Each call of a random history that names a client of the table, with the state before it. Its clock may start
-    far on."""
+    """Each call of a random history that names a client of the table, with the state before it. Each client's clock may start far on."""
     lock = Fresh(any_settings(rng, h), rng.randint(2, 4))
     driver = Driver(lock, rng.getrandbits(32))
-    lock.make(Call("step", 0, any_clock(rng)))
+    for client in range(len(lock.clients)):
+        lock.make(Call("step", client, any_clock(rng)))
     for _ in range(calls):
         call = driver.next_call()
-        if call.client < len(lock.records):
-            yield State(lock.settings, lock.records[call.client], dict(lock.words.words), len(lock.words), lock.clock), call
+        if call.client < len(lock.clients):
+            last, record = lock.clients[call.client]
+            yield State(lock.settings, record, dict(lock.words.words), len(lock.words), last), call
         lock.make(call)
 
 
@@ -130,7 +138,7 @@ def drawn(rng, settings, last):
         giving=rng.randint(0, current) if phase == 10 else 0,
         grip=rng.choice(readable.grips(settings, record)),
         ticket=rng.choice([0, 1, 32766, 32767, rng.randint(0, 32767)]),
-        t1=noted_time(rng, settings.wait, last),
+        t1=noted_time(rng, rng.choice([settings.wait, first_late(settings.wait)]), last),
         t0=noted_time(rng, settings.wait, last),
         taken=noted_taken(rng, settings, record, last))
     return with_place(rng, settings, record)

@@ -1,5 +1,6 @@
 """Cases for the compiled calls over the lent table: single calls and whole histories held to the model, openings on tables
-of every length, and demand 3 over random histories that the compiled calls make."""
+of every length, and demand 3 over random histories that the compiled calls make, with clocks that keep request 2.3's supposition and with
+any."""
 
 from collections import Counter
 from concurrent.futures import ProcessPoolExecutor
@@ -7,53 +8,65 @@ from functools import lru_cache
 from itertools import cycle
 from random import Random
 
+from clock_states import lent_calls, lent_openings
+from clocks import AnyClocks, TrueClocks
 from compare import NAMES, case
 from compiled_table import Table, library
-from histories import TOP, Driver, Shape, Watch
-from history_cases import CAUSES, MUST_OCCUR, PATIENCES, SHAPE, WHOLE_CASE_SETTINGS, lent_with_causes
+from demand_3_cases import LONG_WAITS, MUST_OCCUR_WITH, PATIENCES, SHAPE, refused_though_readable
+from histories import MOST_PATIENCE, TOP, Driver, Shape, Watch, opened, supposed
+from history_cases import CAUSES, WHOLE_CASE_SETTINGS, lent_with_causes
+from limit_histories import late_by_least, limits, taken_at_last
 from model import table, tree
-from model.history import KINDS, Call, Opened
-from model.record import IDLE, Record, Settings
+from model.history import KINDS, Call
+from model.record import IDLE_CLIENT, Client, Record, Settings
 from record_states import any_clock, one_outside
 
-UNLIKE = ("number", "clock", "records unlike", "words unlike")
-NAMES["compiled opening"] = ("levels", "words", "clients"), ("number", "records unlike", "words unlike")
+UNLIKE = ("number", "clocks unlike", "records unlike", "words unlike")
+NAMES["compiled opening"] = ("levels", "words", "clients"), UNLIKE
 NAMES["compiled call"] = ("seed", "call", "kind told"), UNLIKE
 NAMES["compiled setting outside"] = ("place in the list of settings", "kind"), UNLIKE
 NAMES["compiled refusal"] = ("kind", "causes taken away", "kind told"), UNLIKE
-NAMES["compiled history"] = SHAPE, ("overlaps", "words left", "refused by 6", "refused by 9")
-NAMES["compiled occurs"] = ("place in the list of what must occur",), ("occurs",)
+NAMES["compiled call by own clocks"] = ("place", "kind told"), UNLIKE
+NAMES["compiled call at the limit"] = ("history", "call"), UNLIKE
+NAMES["compiled history"] = ("clocks", *SHAPE), ("overlaps", "supposition not met", "words left", "refused by 6 or 9")
+NAMES["compiled occurs"] = ("clocks", "place in the list of what must occur"), ("occurs",)
 
 # what may stand in a call's field `kind`: its own number, another call's, or none
 TOLD = *range(len(KINDS) + 1), TOP
-FILLED = Record(*range(1, len(Record._fields) + 1))
+FILLED = Client(77, Record(*range(1, len(Record._fields) + 1)))
+
+
+def compared_opening(settings, words, clients):
+    """A case whose answer has the compiled opening's number, and how much of what it leaves is unlike the model's."""
+    compiled, words, clients = Table(settings, words, clients), list(words), list(clients)
+    number, expected = compiled.open(), table.opening(settings, words, clients)
+    arguments = settings.levels, len(words), len(clients)
+    return case("compiled opening", arguments, (expected, 0, 0, 0)), (number, *compiled.unlike(words, clients))
 
 
 def openings():
-    """32,767 clients open, 32,768 are refused 3, and so are none; 1 for settings and 2 for a word count come first."""
+    """32,767 clients open, 32,768 are refused 3, and so are none; 1 for settings and 2 for a word count come first. Every clock is
+    cleared."""
     lent = [(2, 5, clients) for clients in (0, 1, 2, 64, 32766, 32767, 32768, 40000)]
     lent += [(3, 21, 3), (6, 1365, 64), (2, 4, 3), (2, 6, 0), (1, 5, 3), (13, 5, 0), (2, 0, 1)]
     for levels, count, clients in lent:
-        settings, words, records = WHOLE_CASE_SETTINGS._replace(levels=levels), [TOP] * count, [FILLED] * clients
-        compiled = Table(settings, words, records)
-        number = compiled.open()
-        expected = table.opening(settings, words, records, 0).number
-        yield case("compiled opening", [levels, count, clients], (expected, 0, 0)), (number, *compiled.unlike(words, records), 0)
+        yield compared_opening(WHOLE_CASE_SETTINGS._replace(levels=levels), [TOP] * count, [FILLED] * clients)
+    for settings, words, clients in lent_openings():
+        yield compared_opening(settings, words, clients)
 
 
-def model_answer(settings, words, records, call, last):
+def model_answer(settings, words, clients, call):
     others = {"request": (call.a, call.b), "step": (call.a,)}.get(call.kind, ())
-    return getattr(table, call.kind)(settings, words, records, call.client, *others, last)
+    return getattr(table, call.kind)(settings, words, clients, call.client, *others)
 
 
-def compared(name, arguments, lent, call, last, told):
-    """A case whose answer has the compiled call's number and clock, and how much of what it leaves is unlike the
-    model's."""
-    settings, words, records = lent
-    compiled = Table(settings, words, records)
-    answer = compiled.answer(call, last, told)
-    expected = model_answer(settings, words, records, call, last)
-    return case(name, arguments, (*expected, 0, 0)), (*answer, *compiled.unlike(words, records))
+def compared(name, arguments, lent, call, told):
+    """A case whose answer has the compiled call's number, and how much of what it leaves is unlike the model's."""
+    settings, words, clients = lent[0], *map(list, lent[1:])
+    compiled = Table(settings, words, clients)
+    answer = compiled.answer(call, told)
+    expected = model_answer(settings, words, clients, call)
+    return case(name, arguments, (expected, 0, 0, 0)), (answer, *compiled.unlike(words, clients))
 
 
 def refusals_in_order():
@@ -61,47 +74,64 @@ def refusals_in_order():
     for place, (kind, causes) in enumerate(CAUSES.items()):
         for away in range(len(causes)):
             for told in TOLD:
-                settings, words, records, client, *others = lent_with_causes(kind, causes[away:])
-                call = Call(kind, client, *others)
-                yield compared("compiled refusal", [place, away, told], (settings, words, records), call, 9, told)
+                settings, words, clients, client, *others = lent_with_causes(kind, causes[away:])
+                yield compared("compiled refusal", [place, away, told], (settings, words, clients), Call(kind, client, *others), told)
 
 
 def settings_refused():
     """Opening and every call with one setting outside its range."""
     for place, settings in enumerate(one_outside(WHOLE_CASE_SETTINGS)):
-        lent = settings, [TOP] * 5, [FILLED] * 2
-        compiled = Table(*lent)
-        yield case("compiled opening", [settings.levels, 5, 2], (1, 0, 0)), (compiled.open(), *compiled.unlike(*lent[1:]), 0)
+        yield compared_opening(settings, [TOP] * 5, [FILLED] * 2)
         for kind in CAUSES:
-            _, words, records, client, *others = lent_with_causes(kind, ())
+            _, words, clients, client, *others = lent_with_causes(kind, ())
             call, told = Call(kind, client, *others), KINDS.index(kind)
-            yield compared("compiled setting outside", [place, told], (settings, words, records), call, 9, told)
+            yield compared("compiled setting outside", [place, told], (settings, words, clients), call, told)
 
 
-def damaged(rng, record):
-    """One field of a record changed to a number near it or to any number."""
-    place = rng.randrange(len(record))
-    near = max(record[place] + rng.choice([-1, 1, 2]), 0)
-    return Record(*(rng.choice([near, any_clock(rng)]) if at == place else number for at, number in enumerate(record)))
+def damaged(rng, client):
+    """A client with one field of its record, or its clock, changed to a number near it or to any number."""
+    numbers = [client.clock, *client.record]
+    place = rng.randrange(len(numbers))
+    near = max(numbers[place] + rng.choice([-1, 1, 2]), 0)
+    numbers[place] = rng.choice([near, any_clock(rng)])
+    return Client(numbers[0], Record(*numbers[1:]))
 
 
 def single_calls():
-    """Calls in the middle of histories, on records and words as they are or with one of them damaged."""
+    """Calls in the middle of histories, on clients and words as they are or with one of them damaged."""
     for seed in range(60):
         rng = Random(f"table {seed}")
-        settings = Settings(rng.choice([2, 3, 4]), rng.choice(tree.DISTANCES), rng.choice([1, 2, 5, 9]), rng.choice(PATIENCES))
-        lock = Opened(settings, [0] * tree.node_count(settings.levels), [IDLE] * rng.choice([1, 2, 3, 6]))
-        driver = Driver(lock, seed)
+        settings = Settings(rng.choice([2, 3, 4]), rng.choice(tree.DISTANCES), rng.choice([1, 2, 5, 9, 5001]), rng.choice(PATIENCES))
+        lock = opened(Shape(settings, rng.choice([1, 2, 3, 6]), 100))
+        driver = Driver(lock, seed, rng.choice([AnyClocks, TrueClocks]))
         for place in range(100):
             call, told = driver.next_call(), rng.choice(TOLD)
-            yield compared("compiled call", [seed, place, told], (settings, list(lock.words), list(lock.records)), call, lock.clock, told)
-            client = rng.randrange(len(lock.records))
+            yield compared("compiled call", [seed, place, told], (settings, lock.words, lock.clients), call, told)
+            client = rng.randrange(len(lock.clients))
             words = list(lock.words)
             words[rng.randrange(len(words))] ^= 1 << rng.randrange(64)
-            records = [damaged(rng, record) if c == client else record for c, record in enumerate(lock.records)]
+            clients = [damaged(rng, each) if place == client else each for place, each in enumerate(lock.clients)]
             aimed = rng.choice([call, call._replace(client=client)])
-            yield compared("compiled call", [seed, place + 100, told], (settings, words, records), aimed, lock.clock, told)
+            yield compared("compiled call", [seed, place + 100, told], (settings, words, clients), aimed, told)
             lock.make(call)
+
+
+def own_clocks():
+    """A client's clock at, above and below its noted times and the other clients' clocks, near 0 and near 2^64, with every call."""
+    for place, (settings, words, clients, call) in enumerate(lent_calls()):
+        told = place % len(KINDS)
+        yield compared("compiled call by own clocks", [place, told], (settings, words, clients), call, told)
+
+
+def at_the_limit():
+    """Histories at the very limit of the supposition, every call of them."""
+    for place, limit in enumerate(limits(levels=(2, 3))):
+        for history in (late_by_least(limit).lock.history, taken_at_last(limit).lock.history):
+            compiled = Table(limit.settings, [0] * tree.node_count(limit.settings.levels), [IDLE_CLIENT] * 2)
+            lock = opened(Shape(limit.settings, 2, len(history)))
+            for at, made in enumerate(history):
+                answer, expected = compiled.make(made.call).number, lock.make(made.call).number
+                yield case("compiled call at the limit", [place, at], (expected, 0, 0, 0)), (answer, *compiled.unlike(lock.words, lock.clients))
 
 
 def shapes():
@@ -115,15 +145,30 @@ def shapes():
             yield Shape(Settings(6, 1 + clients % 4, wait, next(patience)), clients, 6500)
 
 
+def long_waits():
+    """Small trees with few clients and long waits; P from a part of T up."""
+    patience = cycle((2, 7, 50, 10000))
+    for h, m, clients in [(h, m, clients) for h in (2, 3, 4) for m in (1, 2, 3, 4) for clients in (2, 3)]:
+        for wait in LONG_WAITS:
+            yield Shape(Settings(h, m, wait, min(next(patience) * wait // 4, MOST_PATIENCE)), clients, 3000)
+
+
+def numbered_shapes():
+    """Each shape with a seed and the kind of its clocks, which takes turns where waits are short."""
+    short = [(seed, shape, (TrueClocks, AnyClocks)[seed // 4 % 2]) for seed, shape in enumerate(shapes())]
+    return short + [(seed, shape, TrueClocks) for seed, shape in enumerate(long_waits(), len(short))]
+
+
 def counts_of(numbered_shape):
     """What is counted in one random history made by the compiled calls from an accepted opening."""
-    seed, shape = numbered_shape
+    seed, shape, clocks = numbered_shape
     lock = Table(shape.settings, [TOP] * tree.node_count(shape.settings.levels), [FILLED] * shape.clients)
     if lock.open() != 0:
-        return Counter({("claim", 1): 1})
-    driver, watch = Driver(lock, seed), Watch(lock)
+        return Counter({("claim", 2): 1})
+    driver, watch = Driver(lock, seed, clocks), Watch(lock)
     for _ in range(shape.calls):
         watch.look(lock.make(driver.next_call()))
+    watch.counts["supposition not met"] += clocks is TrueClocks and not supposed(driver)
     return watch.counts
 
 
@@ -131,35 +176,39 @@ def counts_of(numbered_shape):
 def histories():
     """Each history's shape and seed, with what was counted in it, on all processors."""
     library()
-    numbered = list(enumerate(shapes()))
+    numbered = numbered_shapes()
     with ProcessPoolExecutor() as pool:
         return list(zip(numbered, pool.map(counts_of, numbered, chunksize=4)))
 
 
 def demand_3():
-    """After every call of every history that the compiled calls make: no two different clients hold overlapping windows,
-    and if all are idle every word is at rest. No call from an opened tree is refused by 6 or 9."""
-    for (seed, shape), counts in histories():
-        found = counts["claim", 1], counts["claim", 2], counts["number", 6], counts["number", 9]
-        yield case("compiled history", [*shape.settings, shape.clients, shape.calls, seed], 0), found
+    """After every call of every history that the compiled calls make: if the supposition is met no two different clients hold overlapping
+    windows, and if all are idle every word is at rest."""
+    for (seed, shape, clocks), counts in histories():
+        overlaps = counts["claim", 1] if clocks is TrueClocks else 0
+        found = overlaps, counts["supposition not met"], counts["claim", 2], refused_though_readable(counts)
+        arguments = clocks is AnyClocks, *shape.settings, shape.clients, shape.calls, seed
+        yield case("compiled history", arguments, 0), found
 
 
 def what_occurs():
     """The histories have at least 1,000,000 calls, in which everything that must occur does."""
-    total = Counter()
-    for _, counts in histories():
-        total += counts
-    calls = sum(count for kind, count in total.items() if kind[0] == "number")
-    yield case("compiled occurs", [len(MUST_OCCUR)], 1), (int(calls >= 1000000), 0, 0, 0)
-    for place, kind in enumerate(MUST_OCCUR):
-        yield case("compiled occurs", [place], 1), (int(total[kind] > 0), 0, 0, 0)
+    all_counts = sum((counts for _, counts in histories()), Counter())
+    calls = sum(count for kind, count in all_counts.items() if kind[0] == "number")
+    yield case("compiled occurs", [2, 0], 1), int(calls >= 1000000)
+    for at, (clocks, must_occur) in enumerate(MUST_OCCUR_WITH.items()):
+        total = sum((counts for (_, _, of_history), counts in histories() if of_history is clocks), Counter())
+        for place, kind in enumerate(must_occur):
+            yield case("compiled occurs", [at, place], 1), int(total[kind] > 0)
 
 
 SUITES = {
     "compiled table, 32,767 clients open, 32,768 are refused 3": openings,
     "compiled table, refused in order of testing": refusals_in_order,
     "compiled table, settings outside their ranges": settings_refused,
-    "compiled table, calls on lent records and words, damaged ones too": single_calls,
+    "compiled table, calls on lent clients and words, damaged ones too": single_calls,
+    "compiled table, each client's own clock": own_clocks,
+    "compiled table, histories at the limit of the supposition": at_the_limit,
     "compiled table, demand 3 after every call of a history": demand_3,
-    "compiled table, every phase, outcome and refusal occurs in a million calls": what_occurs,
+    "compiled table, every phase, outcome, refusal and meeting occurs in a million calls": what_occurs,
 }

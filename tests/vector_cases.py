@@ -6,10 +6,10 @@ from operator import length_hint
 from typing import NamedTuple
 
 from compare import NAMES, case, unlike
-from compiled_table import Table
+from compiled_table import Table, clients_unlike
 from library import ROOT
 from model.history import KINDS, Call
-from model.record import Record, Settings
+from model.record import Client, Record, Settings
 from programs import PROGRAMS
 from table_cases import model_answer
 
@@ -22,7 +22,7 @@ SCHEDULES = 40
 # In a state stand six settings, of which the last are none yet.
 SETTINGS = 6
 
-NAMES["state"] = ("place", "kind", "by"), ("number", "clock", "records unlike", "words unlike")
+NAMES["state"] = ("place", "kind", "by"), ("number", "clocks unlike", "records unlike", "words unlike")
 NAMES["expected answers"] = ("place",), ("files or states found", "names missing or too many, or numbers left over")
 
 
@@ -31,13 +31,11 @@ class State(NamedTuple):
 
     settings: Settings
     words: list
-    records: list
-    last: int
+    clients: list
     call: Call
     number: int
-    clock: int
     words_after: list
-    records_after: list
+    clients_after: list
 
 
 def taken(numbers, count):
@@ -48,20 +46,26 @@ def taken(numbers, count):
     return found
 
 
-def records_in(numbers, count):
-    return [Record(*taken(numbers, len(Record._fields))) for _ in range(count)]
+def record_in(numbers):
+    return Record(*taken(numbers, len(Record._fields)))
+
+
+def clients_in(numbers):
+    """The count of clients, and of each its clock and its record."""
+    [count] = taken(numbers, 1)
+    return [Client(*taken(numbers, 1), record_in(numbers)) for _ in range(count)]
 
 
 def state_in(numbers):
-    """The state that the next numbers say."""
+    """The state that the next numbers say. After the call all clocks stand before the words, and the records behind them."""
     settings = Settings(*taken(numbers, SETTINGS)[:len(Settings._fields)])
     words = taken(numbers, *taken(numbers, 1))
-    clients, last = taken(numbers, 2)
-    records = records_in(numbers, clients)
+    clients = clients_in(numbers)
     kind, *asked = taken(numbers, 4)
-    number, clock = taken(numbers, 2)
-    after = taken(numbers, len(words)), records_in(numbers, clients)
-    return State(settings, words, records, last, Call(KINDS[kind], *asked), number, clock, *after)
+    number, *clocks = taken(numbers, 1 + len(clients))
+    words_after = taken(numbers, len(words))
+    clients_after = [Client(clock, record_in(numbers)) for clock in clocks]
+    return State(settings, words, clients, Call(KINDS[kind], *asked), number, words_after, clients_after)
 
 
 def states_and_rest():
@@ -82,24 +86,24 @@ def all_states():
 
 
 def by_model(state):
-    words, records = list(state.words), list(state.records)
-    answer = model_answer(state.settings, words, records, state.call, state.last)
-    return *answer, unlike(records, state.records_after), unlike(words, state.words_after)
+    words, clients = list(state.words), list(state.clients)
+    number = model_answer(state.settings, words, clients, state.call)
+    return number, *clients_unlike(clients, state.clients_after), unlike(words, state.words_after)
 
 
 def by_compiled(state):
-    table = Table(state.settings, state.words, state.records)
-    answer = table.answer(state.call, state.last, KINDS.index(state.call.kind))
-    return *answer, *table.unlike(state.words_after, state.records_after)
+    table = Table(state.settings, state.words, state.clients)
+    number = table.answer(state.call, KINDS.index(state.call.kind))
+    return number, *table.unlike(state.words_after, state.clients_after)
 
 
 def states():
-    """Each call gives the number and leaves the clock, the records and the words that are expected, by the model and compiled."""
+    """Each call gives the number and leaves the clocks, the records and the words that are expected, by the model and compiled."""
     found, rest = states_and_rest()
     yield case("expected answers", [0], (STATES, 0)), (len(found), rest)
     for place, state in enumerate(found):
         for by, answer in enumerate((by_model(state), by_compiled(state))):
-            yield case("state", [place, KINDS.index(state.call.kind), by], (state.number, state.clock, 0, 0)), answer
+            yield case("state", [place, KINDS.index(state.call.kind), by], (state.number, 0, 0, 0)), answer
 
 
 def schedules(program):
