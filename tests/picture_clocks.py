@@ -21,7 +21,7 @@ def counted(page, expected, by):
 
 
 def said_of_clocks(page, expected, by):
-    """Where each client has its own clock it is said so, whether they can be true, and what the charts go by; else nothing."""
+    """Where each client has its own clock it is said so, whether there are true moments for them, and what the charts go by; else nothing."""
     own, found = clocks_in_words(expected.history), below(page, "Clocks")
     return len(found), unlike([*own, BY_CALL] if own else [], found)
 

@@ -11,7 +11,7 @@ from model import schedule
 from model.record import Client
 from random_schedules import drawn
 from schedule_files import WHOLE_CASE
-from schedule_runs import CAN_BE_TRUE, CANNOT_BE_TRUE, at, clocks_in_words, held_by_two_in_words, holdings, in_words, made_by_model
+from schedule_runs import NO_TRUE_MOMENTS, TRUE_MOMENTS, at, clocks_in_words, held_by_two_in_words, holdings, in_words, made_by_model
 from schedule_runs import opened_for, run_by_model, section
 from schedule_tool import started
 from scheduling.events import happened
@@ -20,15 +20,15 @@ from scheduling.report import report
 from scheduling.waiting import wait_of
 
 NAMES["report of a schedule"] = ("seed",), ("rows", "unlike the log and the model", "sections unlike", "counts unlike")
-NAMES["reports with"] = (), ("windows given up", "windows held by two", "clocks that can be true", "clocks that cannot")
+NAMES["reports with"] = (), ("windows given up", "windows held by two", "clocks with true moments", "clocks without")
 NAMES["waiting client"] = ("seed", "client"), ("waits", "named clients that are idle or itself")
 NAMES["line of a report"] = ("place in the list of reports", "line"), ("as expected",)
 NAMES["run"] = ("place in the list of files",), ("exit status", "log as rangelog's", "said why")
 
 PHASES = ["idle", "ticket", "turn", "climb", "blocked", "claim", "notify", "wait", "check", "held", "returning"]
 OUTCOMES = ["", "released", "late", "cancelled", "out of patience"]
-# What some report must have: windows given up and held by two, and clocks that can be true and that cannot.
-SHOWN = "Given up, out of patience", "Held by two at the same time", f"  {CAN_BE_TRUE}", f"  {CANNOT_BE_TRUE}"
+# What some report must have: windows given up and held by two, and clocks with true moments and without.
+SHOWN = "Given up, out of patience", "Held by two at the same time", f"  {TRUE_MOMENTS}", f"  {NO_TRUE_MOMENTS}"
 
 
 def lines_of(data):

@@ -11,8 +11,8 @@ from model.record import IDLE, IDLE_CLIENT, Record
 
 EACH_ITS_OWN = ("each client has its own: they go back along the schedule, so that those of two clients cannot be compared; "
                 "the numbers of the calls say what came first")
-CAN_BE_TRUE = "they can be true: there are moments that keep what request 2.3 supposes, so that single holding is promised"
-CANNOT_BE_TRUE = "they cannot be true: no moments keep what request 2.3 supposes, so that single holding is not promised (docs/DEMAND-3.md)"
+TRUE_MOMENTS = "there are moments that keep what request 2.3 supposes of clocks: single holding is promised"
+NO_TRUE_MOMENTS = "no moments keep what request 2.3 supposes of clocks: by it single holding is not promised (docs/DEMAND-3.md)"
 CANNOT_BE = "clocks that keep what request 2.3 supposes cannot do this: docs/DEMAND-3.md says why"
 
 
@@ -66,7 +66,7 @@ def told_clocks(history, clients):
 
 def clocks_in_words(history):
     """What is said of clocks that go back along a schedule."""
-    return [] if one_clock(history) else [EACH_ITS_OWN, CANNOT_BE_TRUE if moments_of(history) is None else CAN_BE_TRUE]
+    return [] if one_clock(history) else [EACH_ITS_OWN, NO_TRUE_MOMENTS if moments_of(history) is None else TRUE_MOMENTS]
 
 
 def run_by_model(read):

@@ -7,8 +7,8 @@ from model.moments import accepted_steps, moments_of
 
 EACH_ITS_OWN = ("each client has its own: they go back along the schedule, so that those of two clients cannot be compared; "
                 "the numbers of the calls say what came first")
-CAN_BE_TRUE = "they can be true: there are moments that keep what request 2.3 supposes, so that single holding is promised"
-NOT_TRUE = "they cannot be true: no moments keep what request 2.3 supposes, so that single holding is not promised (docs/DEMAND-3.md)"
+TRUE_MOMENTS = "there are moments that keep what request 2.3 supposes of clocks: single holding is promised"
+NO_TRUE_MOMENTS = "no moments keep what request 2.3 supposes of clocks: by it single holding is not promised (docs/DEMAND-3.md)"
 
 
 def one_for_all(history):
@@ -37,4 +37,4 @@ def clock_lines(history):
     """What is to be known of clocks that are not those of one clock for all."""
     if not one_for_all(history):
         yield EACH_ITS_OWN
-        yield NOT_TRUE if moments_of(history) is None else CAN_BE_TRUE
+        yield NO_TRUE_MOMENTS if moments_of(history) is None else TRUE_MOMENTS
