@@ -20,6 +20,7 @@ pub mod Moments
 pub mod MomentsKept
 pub mod NoWord
 pub mod Notifying
+pub mod OneClock
 pub mod Onward
 pub mod Owned
 pub mod Parts

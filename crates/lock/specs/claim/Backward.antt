@@ -17,7 +17,7 @@ use Rattle.lock.specs.laws.Pieces.{grip-before, grip-current, grip-after
 use Rattle.lock.specs.rules.Steps.{wordReturned}
 use Rattle.lock.specs.laws.ReturnLaws.{piece-last, piece-next, word-more, word-last}
 use Rattle.lock.specs.laws.Ready.{Ready}
-use Rattle.lock.specs.claim.Owned.{returned, gripped, noticed, owns, outstanding, ownsNotice, returned-before, returned-here, returned-after, gripped-kept, gripped-returned, noticed-begun, noticed-none}
+use Rattle.lock.specs.claim.Owned.{returned, gripped, noticed, outstanding, ownsNotice, returned-before, returned-here, returned-after, gripped-kept, gripped-returned, noticed-begun, noticed-none}
 use Rattle.lock.specs.claim.Fit.{Apart}
 use Rattle.lock.specs.claim.Effect.{Same, Grips, Notices}
 use Rattle.lock.specs.claim.Changes.{alike, grips-at, notices-out, notices-at, notices-less, out-here, out-other, out-returned, out-same}

@@ -155,8 +155,5 @@ module _ (s : Settings) (r : Record) (last : ℕ) where
       pub on-fit : {P : Type 0} → (r ≡ idleWith (r .outcome) → P) → (Ready s r last → P) → P
       on-fit f h = by-eq (r .phase) 0 (λ e. f (fit-idle e)) (λ d. h (fit-ready d))
 
-      pub fit-past : r .t1 ≤ last
-      fit-past = on-fit (λ e. omega (arith, ap (λ x. x .t1) e)) (λ l. l .active .t1-past)
-
 pub idle-fit : (s : Settings) (o last : ℕ) → o ≤ 4 → Fit s (idleWith o) last
 idle-fit s o last b = fit-readable s (idleWith o) last (readable-idle s o last b) (λ x. omega arith)

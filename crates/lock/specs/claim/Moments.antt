@@ -3,7 +3,7 @@
 use mathlib.Core.Path.{_≡_, refl, sym, ap, subst, _∙_}
 use mathlib.Core.Logic.{_≢_, _⊎_, inl, ⊎-elim}
 use mathlib.Core.List.{List, _∷_}
-use Prim.Native.Nat.{ℕ, suc, _≤_, _<_}
+use Prim.Native.Nat.{ℕ, zero, suc, _≤_, _<_}
 use native.Mathlib.Omega.{arith}
 use lib.Dec.{eqb}
 use lib.ListN.{length, getD, set}
@@ -15,20 +15,24 @@ use Rattle.lock.specs.declared.Record.{Record}
 use Rattle.lock.specs.declared.Settings.{Settings}
 use Rattle.lock.specs.rules.Records.{currentPiece}
 use Rattle.lock.specs.rules.Table.{step}
-use Rattle.lock.specs.rules.History.{Event, StepAt}
-use Rattle.lock.specs.rules.Readings.{NotSlow, NotFast}
+use Rattle.lock.specs.rules.History.{Event, RequestOf, Accepted, StepAt}
+use Rattle.lock.specs.rules.Readings.{RequestAt, NotSlow, NotFast}
 use Rattle.lock.specs.claim.InnerWords.{nobody}
 use Rattle.lock.specs.claim.Parts.{Parts, recordIn}
 use Rattle.lock.specs.claim.Stage.{passing, checked-stage}
-use Rattle.lock.specs.claim.Timed.{Timed, Timely, Read, timed-later, parentRead, claimRead, parent-kept, claim-kept, claim-now, timed-above, timed-below}
+use Rattle.lock.specs.claim.Timed.{Timed, Timely, ReadSafely, timed-later, parentRead, claimRead, parent-kept, claim-kept, claim-now, timed-above, timed-below}
 use Rattle.lock.specs.claim.Onward.{Unclaimed}
 use Rattle.lock.specs.claim.Invariant.{Invariant}
+
+-- before place j no request of the client c is accepted
+abbrev pub Unasked : List Event → (j c : ℕ) → Type 0
+Unasked h j c = (k : ℕ) → k < j → RequestAt h k c → ⊥
 
 -- of the client c with the record r, whose t0 was read at the moment m0 and whose t1 at m1, where it has noted them, and of its steps in the rest of the history
 pub record Noted (s : Settings) (r : Record) (m0 m1 present : ℕ) (rest : List Event) (found reading : ℕ → ℕ) (c : ℕ) : Type 0 where
   pub past : passing r ≢ 0 → m1 ≤ present
-  pub not-slow : passing r ≢ 0 → (j u : ℕ) → StepAt rest j c u → found j ≡ 6 → NotSlow (s .wait) (r .t1) u m1 (reading j)
-  pub not-fast : 6 ≤ r .phase → r .phase ≤ 7 → level (currentPiece r) ≢ s .levels → (j u : ℕ) → StepAt rest j c u → found j ≡ 7 → NotFast (s .wait) (r .t0) u m0 (reading j)
+  pub not-slow : passing r ≢ 0 → (j u : ℕ) → StepAt rest j c u → Unasked rest j c → found j ≡ 6 → NotSlow (s .wait) (r .t1) u m1 (reading j)
+  pub not-fast : 6 ≤ r .phase → r .phase ≤ 7 → level (currentPiece r) ≢ s .levels → (j u : ℕ) → StepAt rest j c u → Unasked rest j c → found j ≡ 7 → NotFast (s .wait) (r .t0) u m0 (reading j)
 
 -- `found j` is the phase in which the call at place j of the rest finds its client's record
 pub record Timing (s : Settings) (st : Parts) (rest : List Event) (found touch reading : ℕ → ℕ) : Type 0 where
@@ -73,24 +77,33 @@ module _ (s : Settings) (e : Event) (rest : List Event) (found touch reading : �
   abbrev reading′ : ℕ → ℕ
   reading′ i = reading (suc i)
 
-  noted-later : (r : Record) (m0 m1 present now c : ℕ) → present ≤ now → Noted s r m0 m1 present (e ∷ rest) found reading c → Noted s r m0 m1 now rest found′ reading′ c
+  -- the first event is no accepted request of c
+  abbrev NotAsked : ℕ → Type 0
+  NotAsked c = Accepted (RequestOf c) e → ⊥
+
+  unasked-later : (j c : ℕ) → NotAsked c → Unasked rest j c → Unasked (e ∷ rest) (suc j) c
+  unfolding RequestAt
+  unasked-later j c none v zero b = none
+  unasked-later j c none v (suc k) b = v k (omega arith)
+
+  noted-later : (r : Record) (m0 m1 present now c : ℕ) → NotAsked c → present ≤ now → Noted s r m0 m1 present (e ∷ rest) found reading c → Noted s r m0 m1 now rest found′ reading′ c
   unfolding StepAt
-  noted-later r m0 m1 present now c l v = record {
+  noted-later r m0 m1 present now c none l v = record {
     past = λ d. omega (arith, v .past d);
-    not-slow = λ d j. v .not-slow d (suc j);
-    not-fast = λ a b d j. v .not-fast a b d (suc j);
+    not-slow = λ d j u a w. v .not-slow d (suc j) u a (unasked-later j c none w);
+    not-fast = λ a b d j u z w. v .not-fast a b d (suc j) u z (unasked-later j c none w);
   }
 
   module _ (st : Parts) (v : Timing s st (e ∷ rest) found touch reading) where
     -- a refused call
-    pub timing-refused : Timing s st rest found′ touch′ reading′
+    pub timing-refused : ((c : ℕ) → NotAsked c) → Timing s st rest found′ touch′ reading′
     unfolding StepAt
-    timing-refused = record {
+    timing-refused none = record {
       claim = v .claim;
       parent = v .parent;
       present = v .present;
       later = λ j. v .later (suc j);
-      noted = λ c. noted-later (recordIn st c) (v .claim c) (v .parent c) (v .present) (v .present) c (omega arith) (v .noted c);
+      noted = λ c. noted-later (recordIn st c) (v .claim c) (v .parent c) (v .present) (v .present) c (none c) (omega arith) (v .noted c);
       timed = v .timed;
     }
 
@@ -114,33 +127,33 @@ module _ (s : Settings) (e : Event) (rest : List Event) (found touch reading : �
           checks = λ i j k l x y z. absurd (omega (arith, none .stage j (omega arith)));
         }
 
-        pub timing-unclaimed : Timing s after rest found′ touch′ reading′
-        timing-unclaimed =
-            let w = timing-refused in
+        pub timing-unclaimed : ((d : ℕ) → d ≢ c → NotAsked d) → Timing s after rest found′ touch′ reading′
+        unfolding StepAt
+        timing-unclaimed other =
             record {
-              claim = w .claim;
-              parent = w .parent;
-              present = w .present;
-              later = w .later;
-              noted = λ d. on-set (λ y. Noted s y (w .claim d) (w .parent d) (w .present) rest found′ reading′ d) rs c d q nobody client
+              claim = v .claim;
+              parent = v .parent;
+              present = v .present;
+              later = λ j. v .later (suc j);
+              noted = λ d. on-set (λ y. Noted s y (v .claim d) (v .parent d) (v .present) rest found′ reading′ d) rs c d q nobody client
                   (λ i. record {
                     past = λ n. absurd (n (none .none));
                     not-slow = λ n. absurd (n (none .none));
                     not-fast = λ a b. absurd (omega (arith, none .phase a));
-                  }) (λ i. w .noted d);
+                  }) (λ i. noted-later (recordIn st d) (v .claim d) (v .parent d) (v .present) (v .present) d (other d i) (omega arith) (v .noted d));
               timed = λ a b n.
-                  on-set (λ y. Timed s y (getD (set rs c q) b nobody) (w .claim a) (w .parent b) (w .present)) rs c a q nobody client
-                  (λ i. timed-none s q none (getD (set rs c q) b nobody) (w .claim a) (w .parent b) (w .present))
-                  (λ i. on-set (λ y. Timed s (getD rs a nobody) y (w .claim a) (w .parent b) (w .present)) rs c b q nobody client
-                  (λ j. below-none (getD rs a nobody) (w .claim a) (w .parent b) (w .present)) (λ j. w .timed a b n));
+                  on-set (λ y. Timed s y (getD (set rs c q) b nobody) (v .claim a) (v .parent b) (v .present)) rs c a q nobody client
+                  (λ i. timed-none s q none (getD (set rs c q) b nobody) (v .claim a) (v .parent b) (v .present))
+                  (λ i. on-set (λ y. Timed s (getD rs a nobody) y (v .claim a) (v .parent b) (v .present)) rs c b q nobody client
+                  (λ j. below-none (getD rs a nobody) (v .claim a) (v .parent b) (v .present)) (λ j. v .timed a b n));
             }
 
       -- ---- a step
 
       module _ (inv : Invariant s st) (now : ℕ) (time : Timely s rs nobody r q now) (at : (e .number ≡ 0) × (e .made ≡ step c now))
           (order : (j d u : ℕ) → StepAt rest j d u → touch 0 ≤ touch (suc j)) (is : found 0 ≡ r .phase)
-          (not-slow : (j u : ℕ) → StepAt rest j c u → r .phase ≡ 3 → found (suc j) ≡ 6 → NotSlow (s .wait) now u (reading 0) (reading (suc j)))
-          (not-fast : (j u : ℕ) → StepAt rest j c u → r .phase ≡ 5 → found (suc j) ≡ 7 → NotFast (s .wait) now u (reading 0) (reading (suc j)))
+          (not-slow : (j u : ℕ) → StepAt rest j c u → Unasked rest j c → r .phase ≡ 3 → found (suc j) ≡ 6 → NotSlow (s .wait) now u (reading 0) (reading (suc j)))
+          (not-fast : (j u : ℕ) → StepAt rest j c u → Unasked rest j c → r .phase ≡ 5 → found (suc j) ≡ 7 → NotFast (s .wait) now u (reading 0) (reading (suc j)))
           (read-first : (r .phase ≡ 3) ⊎ (r .phase ≡ 7) → reading 0 ≤ touch 0) (touched-first : (r .phase ≡ 5) ⊎ (r .phase ≡ 6) → touch 0 ≤ reading 0) where
         abbrev m0 : ℕ
         m0 = v .claim c
@@ -148,17 +161,22 @@ module _ (s : Settings) (e : Event) (rest : List Event) (found touch reading : �
         abbrev m1 : ℕ
         m1 = v .parent c
 
+        -- it is no request
+        steps-only : (d : ℕ) → NotAsked d
+        unfolding RequestOf
+        steps-only d x = subst (RequestOf d) (at .1) (x .1)
+
         onward : v .present ≤ touch 0
         unfolding StepAt
         onward = v .later 0 c now at
 
-        read : Read s r now m0 m1 (touch 0) (reading 0)
+        read : ReadSafely s r now m0 m1 (touch 0) (reading 0)
         unfolding StepAt
         read = record {
           read-first = read-first;
           touched-first = touched-first;
-          not-slow = λ d p. v .noted c .not-slow d 0 now at (is ∙ p);
-          not-fast = λ inner p. v .noted c .not-fast (omega arith) (omega arith) inner 0 now at (is ∙ p);
+          not-slow = λ d p. v .noted c .not-slow d 0 now at (λ _ b. absurd (omega arith)) (is ∙ p);
+          not-fast = λ inner p. v .noted c .not-fast (omega arith) (omega arith) inner 0 now at (λ _ b. absurd (omega arith)) (is ∙ p);
         }
 
         abbrev claim′ : ℕ → ℕ
@@ -185,10 +203,10 @@ module _ (s : Settings) (e : Event) (rest : List Event) (found touch reading : �
             (time .passes) in
             record {
               past = λ n. on-parent (λ t m. m ≤ touch 0) n (λ d. omega (arith, old .past d, onward)) (λ z. read-first (inl z));
-              not-slow = λ n j u a f. on-parent (λ t m. NotSlow (s .wait) t u m (reading (suc j))) n (λ d. old .not-slow d (suc j) u a f) (λ z. not-slow j u a z f);
-              not-fast = λ a b inner j u z f. ⊎-elim
-                  (λ o. rw (o .2, claim-kept r m0 (reading 0) (o .0) (o .1)) (old .not-fast (o .0) (o .1) (λ l. inner (ap level (o .3) ∙ l)) (suc j) u z f))
-                  (λ o. ⊎-elim (λ y. rw (y .1, claim-now r m0 (reading 0) (y .0)) (not-fast j u z (y .0) f)) (λ l. absurd (inner l)) o) (time .claims a b);
+              not-slow = λ n j u a w f. on-parent (λ t m. NotSlow (s .wait) t u m (reading (suc j))) n (λ d. old .not-slow d (suc j) u a (unasked-later j c (steps-only c) w) f) (λ z. not-slow j u a w z f);
+              not-fast = λ a b inner j u z w f. ⊎-elim
+                  (λ o. rw (o .2, claim-kept r m0 (reading 0) (o .0) (o .1)) (old .not-fast (o .0) (o .1) (λ l. inner (ap level (o .3) ∙ l)) (suc j) u z (unasked-later j c (steps-only c) w) f))
+                  (λ o. ⊎-elim (λ y. rw (y .1, claim-now r m0 (reading 0) (y .0)) (not-fast j u z w (y .0) f)) (λ l. absurd (inner l)) o) (time .claims a b);
             }
 
         two-timed : (a b : ℕ) → a ≢ b → Timed s (getD (set rs c q) a nobody) (getD (set rs c q) b nobody) (claim′ a) (parent′ b) (touch 0)
@@ -216,6 +234,6 @@ module _ (s : Settings) (e : Event) (rest : List Event) (found touch reading : �
               (λ i. subst (λ (x : ℕ). Noted s q (claim′ x) (parent′ x) (touch 0) rest found′ reading′ x) (sym i)
               (rw (changed-own c (claimRead r m0 (reading 0)) (v .claim) c refl, changed-own c (parentRead r m1 (reading 0)) (v .parent) c refl) own-noted))
               (λ i. rw (changed-other c (claimRead r m0 (reading 0)) (v .claim) d i, changed-other c (parentRead r m1 (reading 0)) (v .parent) d i)
-              (noted-later (recordIn st d) (v .claim d) (v .parent d) (v .present) (touch 0) d onward (v .noted d)));
+              (noted-later (recordIn st d) (v .claim d) (v .parent d) (v .present) (touch 0) d (steps-only d) onward (v .noted d)));
           timed = two-timed;
         }

@@ -3,24 +3,24 @@
 use mathlib.Core.Path.{_≡_, refl, sym, ap, subst, _∙_}
 use mathlib.Core.Logic.{_≢_}
 use mathlib.Core.List.{List, [], _∷_}
-use Prim.Native.Nat.{ℕ, suc}
+use Prim.Native.Nat.{ℕ, zero, suc}
 use native.Mathlib.Omega.{arith}
 use lib.Dec.{eqb, eqb→eq}
-use Rattle.base.specs.laws.ChoiceLaws.{on-choose}
+use Rattle.base.specs.laws.ChoiceLaws.{on-choose, neqb→ne}
 use Rattle.lock.specs.declared.Record.{Record}
 use Rattle.lock.specs.declared.Settings.{Settings}
 use Rattle.lock.specs.rules.Records.{idleWith, sentBack}
 use Rattle.lock.specs.rules.Calls.{requested, released, cancelled}
 use Rattle.lock.specs.rules.Table.{State, Call, request, step, release, cancel, clientOf, recordAt, clockAt, withClient, numberOf, after, call}
-use Rattle.lock.specs.rules.History.{run, event, events, StepAt, TrueMoments}
-use Rattle.lock.specs.rules.Readings.{foundIn, ReadApart}
+use Rattle.lock.specs.rules.History.{run, event, events, RequestOf, StepAt, TrueMoments}
+use Rattle.lock.specs.rules.Readings.{RequestAt, foundIn, WithinRequest, ReadApart}
 use Rattle.lock.specs.laws.Accepted.{accepted, request-tested}
 use Rattle.lock.specs.claim.Parts.{Parts, recordIn, partsOf, record-at, records-count, on-parts}
 use Rattle.lock.specs.claim.Timed.{Checked}
 use Rattle.lock.specs.claim.Onward.{Unclaimed, unclaimed-returning, unclaimed-first}
 use Rattle.lock.specs.claim.Invariant.{Invariant}
 use Rattle.lock.specs.claim.NoWord.{requested-unclaimed}
-use Rattle.lock.specs.claim.Moments.{Timing, timing-refused, timing-unclaimed, timing-stepped}
+use Rattle.lock.specs.claim.Moments.{Unasked, Timing, timing-refused, timing-unclaimed, timing-stepped}
 use Rattle.lock.specs.claim.Keeping.{stepped, stepped-by, call-keeps}
 
 cancelled-unclaimed : (r : Record) → Unclaimed (cancelled r)
@@ -28,19 +28,37 @@ unfolding cancelled
 cancelled-unclaimed r =
     on-choose Unclaimed _ (idleWith 3) (sentBack 3 r) (λ _. unclaimed-first (idleWith 3) refl (omega arith) (λ _. refl)) (λ _. unclaimed-returning (sentBack 3 r) refl)
 
+within-later : (s : Settings) (st : State) (k : Call) (ks : List Call) (i j c : ℕ) → WithinRequest (events s (call s st k .state) ks) i j c → WithinRequest (events s st (k ∷ ks)) (suc i) (suc j) c
+unfolding events RequestAt
+within-later s st k ks i j c v zero a b = absurd (omega arith)
+within-later s st k ks i j c v (suc n) a b = v n (omega arith) (omega arith)
+
+-- before place j of the rest, where the call before it is at place 0
+within-first : (s : Settings) (st : State) (k : Call) (ks : List Call) (j c : ℕ) → Unasked (events s (call s st k .state) ks) j c → WithinRequest (events s st (k ∷ ks)) 0 (suc j) c
+unfolding events RequestAt
+within-first s st k ks j c v zero a b = absurd (omega arith)
+within-first s st k ks j c v (suc n) a b = v n (omega arith)
+
 -- what is supposed of a history is supposed of its rest
 read-later : (s : Settings) (st : State) (k : Call) (ks : List Call) (touch reading : ℕ → ℕ) → ReadApart s st (k ∷ ks) touch reading
     → ReadApart s (call s st k .state) ks (λ i. touch (suc i)) (λ i. reading (suc i))
-unfolding events StepAt foundIn
+unfolding events StepAt RequestAt foundIn
 read-later s st k ks touch reading v = record {
   never-back = λ i j c d t u b. v .never-back (suc i) (suc j) c d t u (omega arith);
-  not-slow = λ i j c t u b. v .not-slow (suc i) (suc j) c t u (omega arith);
-  not-fast = λ i j c t u b. v .not-fast (suc i) (suc j) c t u (omega arith);
+  not-slow = λ i j c t u b x y w. v .not-slow (suc i) (suc j) c t u (omega arith) x y (within-later s st k ks i j c w);
+  not-fast = λ i j c t u b x y w. v .not-fast (suc i) (suc j) c t u (omega arith) x y (within-later s st k ks i j c w);
   read-first = λ i. v .read-first (suc i);
   touched-first = λ i. v .touched-first (suc i);
 }
 
 -- ---- one call
+
+request-client : (c : ℕ) (k : Call) → RequestOf c k → clientOf k ≡ c
+unfolding RequestOf clientOf
+request-client c (request d l r) e = e
+request-client c (step d t) e = absurd e
+request-client c (release d) e = absurd e
+request-client c (cancel d) e = absurd e
 
 module _ (s : Settings) (st : State) (inv : Invariant s (partsOf st)) (ks : List Call) (touch reading : ℕ → ℕ) where
   abbrev Before : Call → Type 0
@@ -59,7 +77,8 @@ module _ (s : Settings) (st : State) (inv : Invariant s (partsOf st)) (ks : List
   quiet-timing k v n q none =
       let c = clientOf k in
       on-parts st (st .words) c (clockAt st c) q (Rest k)
-      (timing-unclaimed s (event s st k) (events s (call s st k .state) ks) (foundIn s st (k ∷ ks)) touch reading (partsOf st) v c (rw (records-count (st .clients)) (accepted s st k n .client)) q (st .words) _ none)
+      (timing-unclaimed s (event s st k) (events s (call s st k .state) ks) (foundIn s st (k ∷ ks)) touch reading (partsOf st) v c (rw (records-count (st .clients)) (accepted s st k n .client)) q (st .words) _ none
+      (λ d other x. other (sym (request-client d k (x .1)))))
 
   step-timing : (c t : ℕ) → ReadApart s st (step c t ∷ ks) touch reading → Before (step c t) → numberOf s st (step c t) ≡ 0 → Then (step c t) (stepped s st inv c (recordAt st c) t)
   unfolding events StepAt foundIn clientOf call
@@ -71,7 +90,8 @@ module _ (s : Settings) (st : State) (inv : Invariant s (partsOf st)) (ks : List
       (timing-stepped s (event s st (step c t)) (events s (call s st (step c t) .state) ks) (foundIn s st (step c t ∷ ks)) touch reading (partsOf st) v c (rw (records-count (st .clients)) (a .client)) _ _ _ inv t
       (stepped-by s st inv c t a .time) (n, refl)
       (λ j d u. read .never-back 0 (suc j) c d t u (omega arith) (n, refl)) (sym phase)
-      (λ j u a p. read .not-slow 0 (suc j) c t u (omega arith) (n, refl) a (sym phase ∙ p)) (λ j u a p. read .not-fast 0 (suc j) c t u (omega arith) (n, refl) a (sym phase ∙ p))
+      (λ j u a w p. read .not-slow 0 (suc j) c t u (omega arith) (n, refl) a (within-first s st (step c t) ks j c w) (sym phase ∙ p))
+      (λ j u a w p. read .not-fast 0 (suc j) c t u (omega arith) (n, refl) a (within-first s st (step c t) ks j c w) (sym phase ∙ p))
       (rw phase (read .read-first 0 c t (n, refl))) (rw phase (read .touched-first 0 c t (n, refl)))))
 
   accepted-timing : (k : Call) → ReadApart s st (k ∷ ks) touch reading → Before k → numberOf s st k ≡ 0 → Then k (after s st k)
@@ -86,7 +106,7 @@ module _ (s : Settings) (st : State) (inv : Invariant s (partsOf st)) (ks : List
   call-timing k read v =
       on-choose (Then k) (eqb (numberOf s st k) 0) (after s st k) st
       (λ t. accepted-timing k read v (eqb→eq (numberOf s st k) 0 t))
-      (λ _. timing-refused s (event s st k) (events s (call s st k .state) ks) (foundIn s st (k ∷ ks)) touch reading (partsOf st) v)
+      (λ t. timing-refused s (event s st k) (events s (call s st k .state) ks) (foundIn s st (k ∷ ks)) touch reading (partsOf st) v (λ c x. neqb→ne (numberOf s st k) 0 t (x .0)))
 
 -- ---- a whole history
 
@@ -101,8 +121,8 @@ run-checked s (k ∷ ks) st inv touch reading read v =
 pub read-at-once : (s : Settings) (st : State) (ks : List Call) (moment : ℕ → ℕ) → TrueMoments (events s st ks) moment → ReadApart s st ks moment moment
 read-at-once s st ks moment v = record {
   never-back = v .never-back;
-  not-slow = λ i j c t u b x y _ _ _. omega (arith, v .steady i j c t u b x y .0);
-  not-fast = λ i j c t u b x y _ _ _. omega (arith, v .steady i j c t u b x y .1);
+  not-slow = λ i j c t u b x y _ _ _ _. omega (arith, v .steady i j c t u b x y .0);
+  not-fast = λ i j c t u b x y _ _ _ _. omega (arith, v .steady i j c t u b x y .1);
   read-first = λ _ _ _ _ _. omega arith;
   touched-first = λ _ _ _ _ _. omega arith;
 }

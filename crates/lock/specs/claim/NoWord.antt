@@ -19,8 +19,6 @@ use Rattle.lock.specs.rules.Records.{coverOf, pieces, pieceAt, gripOf, i
 use Rattle.lock.specs.laws.Pieces.{piece-first, grip-before, grip-current, first-gripped}
 use Rattle.lock.specs.rules.Steps.{startPhase}
 use Rattle.lock.specs.rules.Calls.{requested, released, cancelled}
-use Rattle.lock.specs.rules.Table.{request, step, release, cancel}
-use Rattle.lock.specs.rules.History.{run}
 use Rattle.lock.specs.laws.Active.{Settled}
 use Rattle.lock.specs.laws.ActiveLaws.{pieces-are}
 use Rattle.lock.specs.laws.Ready.{Ready, any-grip-leaf, any-grip-most}

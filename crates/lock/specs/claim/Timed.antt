@@ -91,7 +91,7 @@ abbrev pub claimRead : Record → ℕ → ℕ → ℕ
 claimRead r m0 reading = choose (leb 6 (r .phase) && leb (r .phase) 7) m0 reading
 
 -- what is supposed of it, with what its client has noted
-pub record Read (s : Settings) (r : Record) (now m0 m1 touch reading : ℕ) : Type 0 where
+pub record ReadSafely (s : Settings) (r : Record) (now m0 m1 touch reading : ℕ) : Type 0 where
   pub read-first : (r .phase ≡ 3) ⊎ (r .phase ≡ 7) → reading ≤ touch
   pub touched-first : (r .phase ≡ 5) ⊎ (r .phase ≡ 6) → touch ≤ reading
   pub not-slow : passing r ≢ 0 → r .phase ≡ 6 → NotSlow (s .wait) (r .t1) now m1 reading
@@ -109,7 +109,7 @@ unfolding choose
 claim-now r m0 reading e = rw e
 
 module _ (s : Settings) (g : Settled s) (rs : List Record) (nobody r q : Record) (now m0 m1 present touch reading : ℕ) (later : present ≤ touch) (m : Timely s rs nobody r q now)
-    (read : Read s r now m0 m1 touch reading) where
+    (read : ReadSafely s r now m0 m1 touch reading) where
   nothing-below : (a b : ℕ) → level b ≤ s .levels → level a ≡ s .levels → Above a b → ⊥
   nothing-below a b x e p = omega (arith, p .higher)
 

@@ -1,6 +1,6 @@
 -- The comparisons of moments that safety rests on, behind names, with the laws by which they are used. `m1` and `m0` are the moments at which a t1 and a t0 were read; a step
 -- touches its word at the moment `touch` and reads its clock, `now`, at the moment `reading`; `present` is the moment of the last touch before it. Assumes nothing.
-use Prim.Native.Nat.{ℕ, _*_, _-_, _≤_, _<_}
+use Prim.Native.Nat.{ℕ, _*_, _-_, _≤_}
 use native.Mathlib.Omega.{arith}
 use Rattle.lock.specs.rules.Readings.{NotSlow, NotFast}
 use Rattle.lock.specs.laws.LateLaws.{InTime}

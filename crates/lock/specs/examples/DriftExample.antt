@@ -1,5 +1,5 @@
 -- The supposition of 2.3 can be met: HistoryExample.antt's history, in which client 1's clock is as fast as may be, a tick ahead of every 10,000, and client 0's as slow as may
--- be, has true moments, and both clients hold. By computing, over every pair of its events. Assumes nothing.
+-- be, has true moments, and both clients hold; and the longer one, after which both are idle, has them too. By computing, over every pair of its events. Assumes nothing.
 use mathlib.Core.Path.{refl, sym, subst}
 use mathlib.Core.Bool.{Bool, true, false}
 use mathlib.Core.List.{List, [], _∷_}
@@ -12,11 +12,13 @@ use Rattle.base.specs.laws.ChoiceLaws.{choose-eq}
 use Rattle.base.specs.laws.Every.{both, both-l, both-r}
 use Rattle.lock.specs.rules.Table.{Call, request, step, release, cancel}
 use Rattle.lock.specs.rules.History.{Event, events, StepAt, Steady, TrueMoments, Holds}
-use Rattle.lock.specs.examples.HistoryExample.{settings, fresh, holding, events-holding, computed, both-hold}
+use Rattle.lock.specs.examples.HistoryExample.{settings, fresh, holding, returned, events-holding, events-returned, computed, both-hold}
 
--- the moments of the calls; those of the requests do not matter
+-- the moments of the calls; those of requests and releases do not matter
 abbrev pub moments : List ℕ
-moments = 0 ∷ 0 ∷ 0 ∷ 0 ∷ 0 ∷ 0 ∷ 10000 ∷ 10000 ∷ 10000 ∷ 10000 ∷ 10000 ∷ 10000 ∷ 30002 ∷ 30002 ∷ 0 ∷ []
+moments =
+    0 ∷ 0 ∷ 0 ∷ 0 ∷ 0 ∷ 0 ∷ 10000 ∷ 10000 ∷ 10000 ∷ 10000 ∷ 10000 ∷ 10000 ∷ 30002 ∷ 30002 ∷ 0
+    ∷ 0 ∷ 30003 ∷ 30003 ∷ 0 ∷ 40000 ∷ 40000 ∷ 40000 ∷ []
 
 abbrev pub moment : ℕ → ℕ
 moment i = getD moments i 0
@@ -79,15 +81,18 @@ order-shows : (c d m n t u : ℕ) → T (pairTest m n (step c t) (step d u)) →
 unfolding pairTest
 order-shows c d m n t u x = leb→le m n (both-l _ _ x)
 
-passes : T (everyTest events-holding moments)
+passes : T (everyTest events-holding moments) × T (everyTest events-returned moments)
 unfolding everyTest laterTest pairTest steadyTest both choose
-passes = tt
+passes = (tt, tt)
 
-true-moments : TrueMoments events-holding moment
-true-moments = record {
-  never-back = λ i j c d t u. every-shows (λ m n _ _. m ≤ n) c d (order-shows c d) events-holding moments passes i j t u;
-  steady = λ i j c t u. every-shows (λ m n x y. Steady x y m n) c c (steady-shows c) events-holding moments passes i j t u;
+true-moments : (h : List Event) → T (everyTest h moments) → TrueMoments h moment
+true-moments h p = record {
+  never-back = λ i j c d t u. every-shows (λ m n _ _. m ≤ n) c d (order-shows c d) h moments p i j t u;
+  steady = λ i j c t u. every-shows (λ m n x y. Steady x y m n) c c (steady-shows c) h moments p i j t u;
 }
 
 pub both-hold-in-time : TrueMoments (events settings fresh holding) moment × Holds (events settings fresh holding) 0 0 256 × Holds (events settings fresh holding) 1 300 310
-both-hold-in-time = (subst (λ h. TrueMoments h moment) (sym (computed .1)) true-moments, both-hold .1, both-hold .2)
+both-hold-in-time = (subst (λ h. TrueMoments h moment) (sym (computed .1)) (true-moments events-holding (passes .0)), both-hold .1, both-hold .2)
+
+pub both-return-in-time : TrueMoments (events settings fresh returned) moment
+both-return-in-time = subst (λ h. TrueMoments h moment) (sym (computed .2)) (true-moments events-returned (passes .1))

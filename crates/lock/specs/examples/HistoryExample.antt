@@ -55,7 +55,7 @@ events-holding =
     ∷ seen (step 1 1000000) 0 6 ∷ seen (step 1 1010001) 0 9 ∷ seen (step 0 7) 0 2 ∷ seen (step 0 7) 0 3 ∷ seen (step 0 7) 0 5 ∷ seen (step 0 7) 0 6
     ∷ seen (step 0 7) 0 7 ∷ seen (step 0 20007) 0 8 ∷ seen (step 0 20007) 0 9 ∷ seen (request 0 0 64) 8 9 ∷ []
 
-abbrev events-returned : List Event
+abbrev pub events-returned : List Event
 events-returned =
     events-holding ++ (seen (release 0) 0 10 ∷ seen (step 0 20008) 0 10 ∷ seen (step 0 20008) 0 0
     ∷ seen (release 1) 0 10 ∷ seen (step 1 1040004) 0 10 ∷ seen (step 1 1040004) 0 10 ∷ seen (step 1 1040004) 0 0 ∷ [])

@@ -5,7 +5,6 @@ use mathlib.Core.Logic.{inl}
 use mathlib.Core.List.{List, [], _∷_}
 use Prim.Native.Nat.{ℕ}
 use native.Mathlib.Omega.{arith}
-use lib.Dec.{T}
 use lib.ListN.{take, drop, replicate}
 use Rattle.base.specs.laws.Every.{both}
 use Rattle.base.specs.rules.Choice.{choose}

@@ -1,7 +1,7 @@
 -- To be believed: document 01, section "Refused calls" and the last paragraph of "Phases", and document 02, requests 2.2 and 2.3: the tests of each call in their order, and
 -- what an accepted call makes of the client, its clock and its record, and of the words. The calls are by value, on one client; Table.antt has the same over the table. `last`
 -- is the client's last clock. Assumes nothing.
-use mathlib.Core.Bool.{Bool, not, _||_}
+use mathlib.Core.Bool.{Bool, _||_}
 use mathlib.Core.List.{List, [], _∷_, _++_}
 use Prim.Native.Nat.{ℕ}
 use lib.Dec.{eqb, leb, ltb}

@@ -1,6 +1,6 @@
 -- To be believed: document 01, section "Refused calls", the paragraph "Unreadable", clause by clause in its order, and what document 02's request 2.2 adds to it. Each
 -- test is true where the record is unreadable by that clause; `last` is its client's last clock (2.3, "noted times belong to it"). Assumes nothing.
-use mathlib.Core.Bool.{Bool, true, false, not, _&&_, _||_}
+use mathlib.Core.Bool.{Bool, false, not, _&&_, _||_}
 use Prim.Native.Nat.{ℕ, suc}
 use lib.Dec.{eqb, leb, ltb}
 use lib.ListN.{length, getD}

@@ -7,7 +7,7 @@ use lib.ListN.{take}
 use Rattle.base.specs.rules.Choice.{choose}
 use Rattle.word.specs.rules.Word.{field, putField, addField, matches, replaced, maskedSwap, leafBits, wantedBits, takeBits}
 use Rattle.tree.specs.rules.Tree.{climb, leftmost, first, level, levelWithin, size, left, units, holder, wordCount}
-use Rattle.tree.specs.rules.Lists.{upward, ancestors, ancestor, notifies, notifiedFrom, notifyLevels, notifyList, row}
+use Rattle.tree.specs.rules.Lists.{upward, ancestors, ancestor, notifies, notifiedFrom, notifyLevels, notifyList}
 use Rattle.cover.specs.rules.Cover.{part, over, total, rank}
 use Rattle.cover.specs.rules.Search.{before, lesser, behind, leastOf, rest, search, found, leastCover}
 use Rattle.cover.specs.rules.Answer.{levelsOutside, windowOutside}
