@@ -1,4 +1,4 @@
-"""Cases for what docs/LINKING.md and docs/WAITING.md say of clocks: how true a clock must be and how far apart its steps, and from where on
+"""Cases for what docs/LINKING.md and docs/WAITING.md say of clocks: how true a clock must be and how long the wait, and from where on
 a claim is late."""
 
 import re
@@ -8,7 +8,7 @@ from random import Random
 
 from compare import NAMES, case
 from library import ROOT
-from model.moments import greatest_elapse, least_elapse, steady
+from model.moments import greatest_elapse, least_elapse
 from model.record import IDLE, Settings
 from model.step import late
 
@@ -17,8 +17,9 @@ WAITING = (ROOT / "docs" / "WAITING.md").read_text()
 # Parts of a tick: none, and nearly a whole one.
 PARTS = Fraction(0), Fraction(999, 1000)
 
-NAMES["clock rounded down to whole ticks"] = ("ticks that truly go by", "place in the list of readings"), ("keeps the supposition",)
-NAMES["clock whose steps are closer"] = (), ("readings that do not keep it",)
+NAMES["wait with such a delay"] = ("delay",), ("wait",)
+NAMES["clock rounded down to whole ticks"] = ("wait", "delay"), ("keeps what is asked",)
+NAMES["clock with a wait that is shorter"] = ("wait", "delay"), ("keeps what is asked",)
 NAMES["ticks without a tick to either side"] = ("ticks",), ("least true elapse", "greatest")
 NAMES["claim of so many ticks"] = ("wait", "ticks"), ("late", "late with one tick less")
 
@@ -29,37 +30,48 @@ def said(text, pattern):
     return [int(number.replace(",", "")) for number in ([found] if isinstance(found, str) else found)]
 
 
-def rate_and_gap():
-    return said(LINKING, r"rate is true within 1 part in ([\d,]+), read as the step is made and rounded down to whole ticks, will do if every step "
-                         r"of a client comes ([\d,]+) ticks or more")
+def rate_and_wait():
+    return said(LINKING, r"rate is true within 1 part in ([\d,]+), read as the step is made and rounded down to whole ticks, will do if T is ([\d,]+) ticks "
+                         r"or more")
 
 
-def kept(elapse, rate, true_part, clock_part):
-    """Whether two readings keep the supposition: with the true time rounded down for the moments, and a clock of this rate rounded down too.
-    The parts of a tick are those that had gone by at the first reading."""
-    return steady(floor(clock_part + elapse * rate), floor(true_part + elapse))
+def kept(wait, elapse, rate, true_part, clock_part, delay):
+    """Whether two readings keep what `read-apart-holding` asks of them: with the true time rounded down for the moments, and a clock of this rate rounded down
+    too. The parts of a tick are those that had gone by at the first reading, and the delay is by how much the second was read too late or too early."""
+    true = floor(true_part + elapse)
+    ticks = floor(clock_part + (elapse + delay) * rate)
+    not_slow = 10_000 * wait > 10_001 * true or 9_999 * true <= 10_000 * ticks
+    not_fast = wait > ticks or 10_000 * ticks <= 10_001 * true
+    return not_slow and not_fast
 
 
-def readings(part):
-    """By the fastest and the slowest clock, with every part of a tick at the first reading."""
-    return [(1 + sign * Fraction(1, part), true_part, clock_part) for sign in (1, -1) for true_part in PARTS for clock_part in PARTS]
+def readings(part, delay):
+    """By the fastest and the slowest clock, with every part of a tick at the first reading, read late and early."""
+    return [(1 + sign * Fraction(1, part), true_part, clock_part, late)
+            for sign in (1, -1) for true_part in PARTS for clock_part in PARTS for late in {delay, -delay}]
 
 
-def elapses(gap):
-    """From the gap on: at each end of a whole tick, about each 500th and drawn at random."""
+def elapses(wait, delay):
+    """About the wait, at each end of a whole tick, and drawn at random."""
     rng = Random("true clocks")
-    ticks = [*range(gap, 5 * gap, 500), *(rng.randrange(gap, 1000 * gap) for _ in range(200))]
+    near = range(wait - delay - 12, wait + delay + 12, max(1, delay // 20))
+    ticks = [*near, *(rng.randrange(wait) for _ in range(100)), *(rng.randrange(wait, 1000 * wait) for _ in range(100))]
     return [tick + part for tick in ticks for part in PARTS]
 
 
+def all_kept(wait, part, delay):
+    return [kept(wait, elapse, *reading) for elapse in elapses(wait, delay) for reading in readings(part, delay)]
+
+
 def true_enough():
-    """A clock as the document says keeps the supposition, and with steps that are closer by a part of a tick some readings do not."""
-    part, gap = rate_and_gap()
-    for elapse in elapses(gap):
-        for place, reading in enumerate(readings(part)):
-            yield case("clock rounded down to whole ticks", [floor(elapse), place], 1), int(kept(elapse, *reading))
-    closer = [kept(gap - 1 + PARTS[1], *reading) for reading in readings(part)]
-    yield case("clock whose steps are closer", [], 1), int(not all(closer))
+    """Clocks as the document says keep what is asked, with a wait as long as it says, and with one that is a tick shorter some readings do not."""
+    part, wait = rate_and_wait()
+    longer, delay, longest = said(LINKING, r"T has to be that many times ([\d,]+) ticks longer: with d ([\d,]+) ticks, ([\d,]+)")
+    yield case("wait with such a delay", [delay], longest), wait + longer * delay
+    for late in (0, 1, 2, 5, delay):
+        least = wait + longer * late
+        yield case("clock rounded down to whole ticks", [least, late], 1), int(all(all_kept(least, part, late)))
+        yield case("clock with a wait that is shorter", [least - 1, late], 0), int(all(all_kept(least - 1, part, late)))
 
 
 def few_ticks():
@@ -83,7 +95,7 @@ def lateness():
 
 
 SUITES = {
-    "clocks, one that is as true as the document says keeps the supposition": true_enough,
+    "clocks, one that is as true as the document says, with such a wait": true_enough,
     "clocks, over few ticks a clock must be exact": few_ticks,
     "clocks, from where on a claim is late": lateness,
 }

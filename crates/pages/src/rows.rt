@@ -10,7 +10,7 @@ use lock::Client;
 use lock::Record;
 use lock::Settings;
 
-// The row of a readable record. Its pieces are its window's cover, so their over-cover is the cover's. (Only the contract speaks of the last clock.)
+// The row of a readable record. Its pieces are its window's cover, so their over-cover is the cover's. (Only the contract speaks of the client's clock.)
 pub fn row_of(one: Record, settings: Settings, last: u64) -> Row
     requires { ⌜ Settled settings × (unreadable settings one last ≡ false) ⌝ }
     ensures { λ r. ⌜ r ≡ rowOf settings one ⌝ }

@@ -1,6 +1,6 @@
 -- Examples, closed by computing: tables of readable records, each left by a history of two clients. In two of them the other client has another window, another phase and another clock, the
 -- run's clock and record and the number of clients in phase 9 are the same, and so is the run's page. In the third the other client holds too: that number differs, and so does the page.
--- And the run's own clock is its own: by an earlier one its record is unreadable. Assumes nothing.
+-- And the page goes by the run's own clock: with an earlier one beside it, the same record is unreadable. Assumes nothing.
 use mathlib.Core.Path.{_≡_, refl, sym, ap, _∙_}
 use mathlib.Core.Bool.{false}
 use mathlib.Core.List.{List, [], _∷_, _++_}
@@ -26,7 +26,7 @@ use Rattle.pages.specs.declared.RunPage.{RunPage}
 use Rattle.pages.specs.rules.Pages.{anyUnreadable, inPhase9, heldCount, ownClient, runTests, runNumber, runPage}
 use Rattle.pages.specs.laws.Isolation.{isolation}
 
--- ---- the histories, with H 3, m 1, T 5, P 20 and two clients
+-- ---- the histories, with the settings of lock's HistoryExample.antt and two clients
 
 -- the run, client 0, takes [0, 64), the leaf 6
 abbrev taking : List Call

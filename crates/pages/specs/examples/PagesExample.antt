@@ -23,8 +23,8 @@ use Rattle.pages.specs.declared.Row.{Row}
 use Rattle.pages.specs.rules.Pages.{rowOf, rowsOf, anyUnreadable, plannersTests, plannersNumber, page, plannersPage}
 
 -- after call 7: client 0 holds [10, 20), and client 1 waits for [0, 256)
-abbrev moment : State
-moment = run settings (opening settings lent .state) (take 8 (calls 5))
+abbrev middle : State
+middle = run settings (opening settings lent .state) (take 8 (calls 5))
 
 abbrev row-with : (phase left right first second over : ℕ) → Row
 row-with p l r f c o = record { phase = p; left = l; right = r; first = f; second = c; over = o }
@@ -33,8 +33,8 @@ row-with p l r f c o = record { phase = p; left = l; right = r; first = f; secon
 abbrev old : Row
 old = row-with 11 12 13 14 15 16
 
-pub planners-whole-case : (plannersPage settings (moment .clients) (old ∷ old ∷ []) ≡ page 0 (row-with 9 10 20 2 0 0 ∷ row-with 7 0 256 1 0 0 ∷ []))
-    × (plannersPage settings (moment .clients) (old ∷ []) ≡ page 2 (old ∷ []))
+pub planners-whole-case : (plannersPage settings (middle .clients) (old ∷ old ∷ []) ≡ page 0 (row-with 9 10 20 2 0 0 ∷ row-with 7 0 256 1 0 0 ∷ []))
+    × (plannersPage settings (middle .clients) (old ∷ []) ≡ page 2 (old ∷ []))
 unfolding plannersPage plannersNumber plannersTests anyUnreadable rowsOf rowOf run call numberOf after ownTests clientAt clientOf opening openingNumber opened firstCause settingsOutside treeTests clientsOutside clientTests requestTests stepTests requested touchedIn startPhase firstNoted taken ticketTaken turnAwaited goUp climbed bitsClaimed occClaimed late allNotified noticeGiven claimPiece movedIn numberTooLarge idleFilled notCovered noCurrent ticketTooLarge fieldsWrong listLength placePast noticesWrong timeAhead phaseElsewhere heldEarly outcomeWrong lacksGrip givingWrong outOfPatienceFirst takenFirst unreadable phaseOf pieces pieceAt isLeaf gripOf noticesOf wordAt written levelsOutside windowOutside lesser behind leastOf rest search found leastCover before part over total rank upward ancestors ancestor notifies notifiedFrom notifyLevels notifyList climb leftmost first level levelWithin size left units holder wordCount field putField addField matches replaced maskedSwap leafBits wantedBits takeBits choose outOfPatience
 planners-whole-case = (refl, refl)
 
