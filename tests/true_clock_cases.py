@@ -71,7 +71,10 @@ def true_enough():
     for late in (0, 1, 2, 5, delay):
         least = wait + longer * late
         yield case("clock rounded down to whole ticks", [least, late], 1), int(all(all_kept(least, part, late)))
-        yield case("clock with a wait that is shorter", [least - 1, late], 0), int(all(all_kept(least - 1, part, late)))
+    # With few ticks of delay every tick about the wait is tried, so that the one that fails is found.
+    for late in (0, 1, 2, 5):
+        shorter = wait + longer * late - 1
+        yield case("clock with a wait that is shorter", [shorter, late], 0), int(all(all_kept(shorter, part, late)))
 
 
 def few_ticks():
