@@ -30,12 +30,17 @@ def steady(ticks, elapse):
     return 9999 * elapse <= 10000 * ticks <= 10001 * elapse
 
 
-def supposition_met(history, moments):
-    """Whether the supposition is met, with a moment for each call of the history."""
+def any_two(steps):
+    return combinations(steps, 2)
+
+
+def supposition_met(history, moments, pairs_of=any_two):
+    """Whether the supposition is met, with a moment for each call of the history. For long histories `pairwise` may take the place of
+    `any_two`: what is supposed of each step of a client and the next follows for any two of them, by adding up."""
     steps = accepted_steps(history)
     if any(moments[after.place] < moments[before.place] for before, after in pairwise(steps)):
         return False
-    pairs = (pair for own in of_each_client(steps) for pair in combinations(own, 2))
+    pairs = (pair for own in of_each_client(steps) for pair in pairs_of(own))
     return all(steady(after.clock - before.clock, moments[after.place] - moments[before.place]) for before, after in pairs)
 
 

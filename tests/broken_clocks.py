@@ -4,8 +4,10 @@ meet its supposition, states, lent tables and files must find each of them out."
 from contextlib import contextmanager
 from unittest.mock import patch
 
+from histories import MOST_PATIENCE, Shape
 from model import calls, pages, step, table
 from model.readable import unreadable
+from model.record import Settings
 
 by_value, of_client, opening, table_step = calls.step, table.of_client, table.opening, table.step
 
@@ -28,6 +30,12 @@ TOO_LATE = {
     "late one tick too late": late(lambda wait, ticks: not 10001 * (ticks - 1) < 9999 * wait),
     "the wait shortened by the factors": of_step(
         "waited", lambda settings, record, clock: 10001 * (clock - record.t0) >= 9999 * settings.wait),
+}
+
+# Settings and clients with which a few ten random histories find these out.
+SHAPES = {
+    "late by document 01's rule": Shape(Settings(2, 1, 123456, MOST_PATIENCE), 3, 600),
+    "late with the factors exchanged": Shape(Settings(2, 1, 123456, MOST_PATIENCE), 3, 600),
 }
 
 LATE = TOO_LATE | {

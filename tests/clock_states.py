@@ -1,5 +1,5 @@
-"""States in which the clients' own clocks matter: claims that are just late or just not, whatever the size of clock and T; and lent tables in
-which a client's clock is at, above or below its noted times and the other clients' clocks, with every call that may tell them apart."""
+"""States in which the clients' own clocks matter: claims that are just late or just not, waits and patience that are just over or just not,
+whatever the size of clock, T and P; and lent tables in which a client's clock is at, above or below its noted times and the other clients' clocks, with every call that may tell them apart."""
 
 from itertools import product
 from typing import NamedTuple
@@ -11,10 +11,13 @@ from model.history import Call
 from model.record import IDLE, Client, Record, Settings
 from record_states import State
 
-# H 3, m 1: a leaf, with its second and last notice to come; and node 2, whose only notice is to the root.
-LAST_NOTICES = (
-    Record(phase=6, left=3, right=9, first=6, grip=3, place=1, notices=1),
-    Record(phase=6, left=0, right=256, first=2, grip=3, ticket=7),
+# H 3, m 1: a noted time with a record that is held to it. A leaf with its last notice to come, and node 2, whose only one that is; a wait; and
+# the first step of a second leaf.
+TIMED = (
+    ("t1", Record(phase=6, left=3, right=9, first=6, grip=3, place=1, notices=1)),
+    ("t1", Record(phase=6, left=0, right=256, first=2, grip=3, ticket=7)),
+    ("t0", Record(phase=7, left=0, right=256, first=2, grip=3, ticket=7, notices=1)),
+    ("taken", Record(phase=3, left=60, right=70, first=6, second=7, current=1)),
 )
 
 
@@ -27,21 +30,26 @@ def any_wrapped(rng):
     return wrapped(rng.randint(1, 10000))
 
 
-def ticks_since_t1(wait):
-    """About the first with which a claim is late, about T, where a product or an elapse of fewer bits would be small again, and far."""
-    near = {end + beside for end in (first_late(wait), wait) for beside in (-1, 0, 1)}
+def ticks_since(length):
+    """About the first with which a claim is late, about T or P, where a product or an elapse of fewer bits would be small again, and far."""
+    near = {end + beside for end in (first_late(length), length) for beside in (-1, 0, 1)}
     return sorted(near | {0, 2 ** 32, 2 ** 32 + 1, 2 ** 63, TOP} | {wrapped(times) for times in (1, 2, 5000, 9999, 10000)})
 
 
-def late_states():
-    """Each of these with t1 near 0, at 2^32 and such that the clock is the greatest; the client's last clock is t1, or the step's."""
-    for record, wait in product(LAST_NOTICES, EDGE_WAITS):
-        for ticks in ticks_since_t1(wait):
-            for t1 in sorted({0, 7, 2 ** 32, TOP - ticks}):
-                if t1 + ticks <= TOP:
-                    settings, call = Settings(3, 1, wait, MOST_PATIENCE), Call("step", 0, t1 + ticks)
-                    noted = record._replace(t1=t1)
-                    yield from ((State(settings, noted, {}, tree.node_count(3), last), call) for last in {t1, t1 + ticks})
+def at_time(name, record, length, time, clock):
+    """A step of a client that noted this time. Its last clock is that time, or the step's own; T or P is the length that is asked."""
+    lengths = (MOST_PATIENCE, length) if name == "taken" else (length, MOST_PATIENCE)
+    state = State(Settings(3, 1, *lengths), record._replace(**{name: time}), {}, tree.node_count(3), time)
+    return [(state._replace(last=last), Call("step", 0, clock)) for last in sorted({time, clock})]
+
+
+def timed_states():
+    """Each of these with the time near 0, at 2^32 and such that the clock is the greatest."""
+    for (name, record), length in product(TIMED, EDGE_WAITS):
+        for ticks in ticks_since(length):
+            for time in sorted({0, 7, 2 ** 32, TOP - ticks}):
+                if time + ticks <= TOP:
+                    yield from at_time(name, record, length, time, time + ticks)
 
 
 class LentCall(NamedTuple):

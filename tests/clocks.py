@@ -9,7 +9,7 @@ TICKS = (0, 0.02, 0.1, 0.4)
 JUMPS = (0.05, 0.2, 0.4)
 BACK = 0.01
 # How many waits a history with true moments may last: where that is little, clocks that began near their end come to it.
-LASTING = (20, 200, 2000)
+LASTING = (100, 500, 2000)
 # T from the least to the greatest: up to 5,000 ticks a claim is late when T has passed, and then sooner; between two steps of a client that
 # are less than 10,000 apart no drift can be seen; and multiples of 10,001, at which both sides of the late test can be equal.
 EDGE_WAITS = (1, 2, 9, 4999, 5000, 5001, 9999, 10000, 10001, 20002, 123456, 2 ** 31, 2 ** 32 - 2, 2 ** 32 - 1)
@@ -81,15 +81,15 @@ class TrueClocks:
     def __init__(self, opened, rng):
         self.opened, self.rng = opened, rng
         self.ticks, self.jumps = rng.choice(TICKS), rng.choice(JUMPS)
-        self.last_moment = (opened.settings.wait + 10000) * rng.choice(LASTING)
+        self.last_moment = opened.settings.wait * rng.choice(LASTING)
         self.rates = [rng.choice(["fast", "slow", *RATES]) for _ in opened.clients]
-        self.offsets = [self.offset() for _ in opened.clients]
         self.moment, self.moments, self.stepped = 0, [], {}
 
-    def offset(self):
-        """Near 0, near 2^32, or so near 2^64 that the fastest clock ends at the greatest number."""
-        near_top = TOP - most_ticks(self.last_moment)
-        return self.rng.choice([self.rng.randrange(5), 2 ** 32 - self.rng.randrange(5), near_top - self.rng.randrange(5), near_top])
+    def first_clock(self, rate):
+        """Near 0, near 2^32, or so near 2^64 that the clock comes to the greatest number, or nearly, at the last moment."""
+        left = self.last_moment - self.moment
+        near_top = TOP - (most_ticks(left) if rate in ("fast", "changing") else left)
+        return self.rng.choice([self.rng.randrange(5), 2 ** 32 - self.rng.randrange(5), near_top])
 
     def catch_up(self):
         """Notes the moments of the calls that were made since, and of accepted steps clock and moment."""
@@ -107,10 +107,11 @@ class TrueClocks:
 
     def reading(self, client):
         """What this client's clock says at the moment."""
+        rate = self.rates[client]
         if client not in self.stepped:
-            return self.offsets[client]
+            return self.first_clock(rate)
         clock, since = self.stepped[client]
-        return clock + RATES[self.rates[client]](self.rng, self.moment - since)
+        return clock + RATES[rate](self.rng, self.moment - since)
 
     def drawn_moment(self):
         """Mostly stands still or goes on by 1, at times to about an end that some client comes to, at times by a part of T or far."""

@@ -5,7 +5,8 @@ from collections import Counter
 from functools import lru_cache
 from itertools import cycle
 
-from broken_rules import RULES, SHAPES, broken
+import broken_clocks
+import broken_rules
 from clocks import AnyClocks, TrueClocks
 from compare import NAMES, case
 from histories import MOST_PATIENCE, Shape, breaks_a_claim, counts_of, history_of
@@ -40,7 +41,7 @@ def shapes():
 
 def long_waits():
     """The same trees with few clients and long waits; P from a part of T up."""
-    patience = cycle((2, 7, 50, 10000))
+    patience = cycle((2, 5, 7, 50))
     for h, m, clients in [(h, m, 2 + (h + m) % 3) for h in (2, 3, 4) for m in (1, 2, 3)] + [(5, 4, 3), (6, 4, 4)]:
         for wait in LONG_WAITS:
             yield Shape(Settings(h, m, wait, min(next(patience) * wait // 4, MOST_PATIENCE)), clients, 800)
@@ -98,14 +99,14 @@ def changed_words():
 MUST_OCCUR = [
     *(("phase", phase) for phase in range(11)),
     *(("outcome", outcome) for outcome in range(5)),
-    *(("patience run out in", phase) for phase in range(1, 9)),
     *(("number", number) for number in (0, 4, 5, 7, 8)),
     "both pieces begun", "two holders", "all idle again",
 ]
-
-
-# With any clocks two clients also come to hold overlapping windows.
-MUST_OCCUR_WITH = {TrueClocks: [*MUST_OCCUR, *MEETINGS], AnyClocks: [*MUST_OCCUR, ("claim", 1)]}
+# With true moments clients also meet wherever waits and late claims are for; with any clocks two also come to hold overlapping windows.
+MUST_OCCUR_WITH = {
+    TrueClocks: [*MUST_OCCUR, *MEETINGS, "a step at the greatest clock"],
+    AnyClocks: [*MUST_OCCUR, *(("patience run out in", phase) for phase in range(1, 9)), ("claim", 1)],
+}
 
 
 def what_occurs():
@@ -119,15 +120,19 @@ def what_occurs():
 
 
 SEEDS = 200
+# Each rule that is broken, as a `with` that breaks it, and the shape of the histories that find it out.
+BROKEN = {rule: (lambda rule=rule: broken_rules.broken(rule), shape) for rule, shape in broken_rules.SHAPES.items()}
+BROKEN |= {rule: (broken_clocks.TOO_LATE[rule], shape) for rule, shape in broken_clocks.SHAPES.items()}
 
 
 def caught(rule):
-    """With the rule broken, some history breaks a claim; with the model's own rule the history of the same seed does
-    not."""
-    with broken(rule):
-        seed = next((seed for seed in range(SEEDS) if breaks_a_claim(SHAPES[rule], seed)), None)
-    caught_then = seed is not None, seed is not None and breaks_a_claim(SHAPES[rule], seed)
-    yield case("broken rule", [list(RULES).index(rule)], (1, 0)), tuple(map(int, caught_then))
+    """With the rule broken, some history that meets the supposition breaks a claim; with the model's own rule the history of the same seed
+    does not."""
+    broken, shape = BROKEN[rule]
+    with broken():
+        seed = next((seed for seed in range(SEEDS) if breaks_a_claim(shape, seed)), None)
+    caught_then = seed is not None, seed is not None and breaks_a_claim(shape, seed)
+    yield case("broken rule", [list(BROKEN).index(rule)], (1, 0)), tuple(map(int, caught_then))
 
 
 SUITES = {
@@ -136,5 +141,5 @@ SUITES = {
     "histories, each word holds what the records own of it, and every record is readable": owned,
     "histories, a word with one bit changed is unlike what the records own": changed_words,
     "histories, every phase, outcome, refusal and meeting occurs": what_occurs,
-    **{f"histories, a claim fails with a broken rule: {rule}": lambda rule=rule: caught(rule) for rule in RULES},
+    **{f"histories, a claim fails with a broken rule: {rule}": lambda rule=rule: caught(rule) for rule in BROKEN},
 }

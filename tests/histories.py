@@ -1,13 +1,13 @@
 """Random histories on small trees: contended windows, each client's own clock, cancels, releases and refused calls."""
 
 from collections import Counter
-from itertools import combinations
+from itertools import combinations, pairwise
 from random import Random
 from typing import NamedTuple
 
 from clocks import TOP, AnyClocks, TrueClocks
 from contended_windows import contended_windows
-from meetings import HELD, meetings, phases_above
+from meetings import HELD, WAIT, meetings, phases_above
 from model import tree
 from model.history import Call, Opened, held_apart, holds, idle, left_clean, overlap
 from model.moments import moments_of, supposition_met
@@ -23,7 +23,8 @@ STAYS = (0.3, 0.6, 0.8)
 SLEEPS = (0, 0.2, 0.6)
 BUSY = 80
 LONGEST_SLEEP = 60
-CLAIMING = (5, 6)
+# What awakens a client that sleeps in one of these phases: above its climb a node waits, or above its claim one is held.
+AWAKENED = {3: WAIT, 4: WAIT, 5: HELD, 6: HELD}
 
 
 class Shape(NamedTuple):
@@ -75,16 +76,19 @@ class Driver:
         return Call("step", self.client, self.clocks.clock(self.client))
 
     def fall_asleep(self):
-        """At times a client falls asleep in the middle of a claim, so that others come past it."""
-        if self.phase(self.client) in CLAIMING and self.rng.random() < self.sleeps:
+        """At times a client falls asleep in the middle of a claim, more rarely of a climb, so that others come past it."""
+        phase = self.phase(self.client)
+        if phase in AWAKENED and self.rng.random() < self.sleeps * (1 if phase in (5, 6) else 0.2):
             self.asleep[self.client] = LONGEST_SLEEP
 
     def awakened(self):
-        """A client that has slept for long, or until an overlapping window above it is held; None if there is none."""
-        records = [client.record for client in self.opened.clients]
-        self.asleep = {client: left - 1 for client, left in self.asleep.items() if self.phase(client) in CLAIMING}
-        over = [client for client, left in self.asleep.items() if left == 0 or HELD in phases_above(self.opened.settings, records, client)]
+        """A client that has slept for long, or until an overlapping window above it was where it awakens it; None if there is none."""
+        self.asleep = {client: left - 1 for client, left in self.asleep.items() if self.phase(client) in AWAKENED}
+        over = [client for client, left in self.asleep.items() if left == 0 or AWAKENED[self.phase(client)] in self.phases_above(client)]
         return self.rng.choice(over) if over else None
+
+    def phases_above(self, client):
+        return phases_above(self.opened.settings, [each.record for each in self.opened.clients], client)
 
     def awake(self):
         """The clients that are not asleep. While no window is asked for, those that are idle are passed over."""
@@ -147,7 +151,7 @@ class Watch:
         """Counts when some word is not what the records own of it, or some record is not readable."""
         settings, clients = self.opened.settings, self.opened.clients
         self.counts["unlike what is owned"] += not conserved(settings, self.opened.words, [client.record for client in clients])
-        self.counts["unreadable"] += any(unreadable(settings, client.record, client.clock) for client in clients)
+        self.counts["unreadable"] += any(unreadable(settings, client.record, client.clock) for client in clients if client.record.phase)
 
     def count_kind(self, made, record):
         """Counts what an accepted call shows: its phase and outcome, two holders at once, all idle again, in which phase patience has run
@@ -155,6 +159,7 @@ class Watch:
         client = made.call.client
         if made.call.kind == "step":
             self.counts.update(meetings(self.opened.settings, self.records, client, record, made.call.a))
+            self.counts["a step at the greatest clock"] += made.call.a == TOP
         before, self.records[client] = self.records[client].phase, record
         self.counts["patience run out in", before] += before != 10 and (record.phase, record.outcome) == (10, 4)
         self.counts["phase", record.phase] += 1
@@ -181,7 +186,7 @@ def history_of(shape, seed):
 def supposed(driver):
     """Whether the history that a driver with true moments drew meets the supposition."""
     driver.clocks.catch_up()
-    return supposition_met(driver.opened.history, driver.clocks.moments)
+    return supposition_met(driver.opened.history, driver.clocks.moments, pairwise)
 
 
 def counts_of(shape, seed, clocks):

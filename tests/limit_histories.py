@@ -74,11 +74,10 @@ def both_under_way(limit):
     return maker
 
 
-def finish_higher(maker):
-    """The first moment at which a wait may be over: it is over, and the nodes are checked."""
-    wait = maker.limit.settings.wait
-    maker.moment = least_elapse(wait)
-    maker.step_while(HIGHER, wait, lambda record: record.phase in (WAIT, CHECK))
+def finish_higher(maker, ticks):
+    """The first moment at which so many ticks may have passed: if its wait is over, the nodes are checked."""
+    maker.moment = least_elapse(ticks)
+    maker.step_while(HIGHER, ticks, lambda record: record.phase in (WAIT, CHECK))
 
 
 def finish_lower(maker, ticks):
@@ -88,8 +87,17 @@ def finish_lower(maker, ticks):
 
 def late_by_least(limit):
     """The higher piece is held at the first moment at which it can be; then the lower one's last notice comes by the slowest clock."""
+    return lower_last(limit, limit.settings.wait)
+
+
+def one_tick_short(limit):
+    """The same where one tick of the higher piece's wait is left: it is not held."""
+    return lower_last(limit, limit.settings.wait - 1)
+
+
+def lower_last(limit, ticks):
     maker = both_under_way(limit)
-    finish_higher(maker)
+    finish_higher(maker, ticks)
     finish_lower(maker, fewest_ticks(maker.moment))
     return Finished(maker.lock, maker.moments)
 
@@ -100,7 +108,7 @@ def taken_at_last(limit):
     maker, ticks = both_under_way(limit), first_late(limit.settings.wait) - 1
     maker.moment = greatest_elapse(ticks)
     finish_lower(maker, ticks)
-    finish_higher(maker)
+    finish_higher(maker, limit.settings.wait)
     return Finished(maker.lock, maker.moments)
 
 

@@ -3,7 +3,7 @@
 from itertools import chain
 from random import Random
 
-from clock_states import any_wrapped, late_states
+from clock_states import any_wrapped, timed_states
 from clocks import first_late
 from compare import NAMES, Case
 from histories import TOP
@@ -175,10 +175,11 @@ def every_outcome_and_third_time():
         yield record_case(rng, state, call)
 
 
-def late_and_not_late():
-    """Claims with so many ticks since t1 that they are just late or just not, or that a product of 64 bits would wrap."""
-    rng = Random("late and not late")
-    for state, call in late_states():
+def just_over_and_just_not():
+    """Claims with so many ticks since t1 that they are just late or just not, or that a product of 64 bits would wrap; and the same of waits
+    and patience."""
+    rng = Random("just over and just not")
+    for state, call in timed_states():
         yield record_case(rng, state, call)
 
 
@@ -195,5 +196,5 @@ SUITES = {
     "record, settings outside their ranges": settings_refused,
     "record, word count not the tree's": word_count_refused,
     "record, every outcome and third time in every phase": every_outcome_and_third_time,
-    "record, claims that are just late and just not": late_and_not_late,
+    "record, claims that are just late, waits and patience that are just over, and just not": just_over_and_just_not,
 }

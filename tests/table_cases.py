@@ -92,7 +92,7 @@ def damaged(rng, client):
     """A client with one field of its record, or its clock, changed to a number near it or to any number."""
     numbers = [client.clock, *client.record]
     place = rng.randrange(len(numbers))
-    near = max(numbers[place] + rng.choice([-1, 1, 2]), 0)
+    near = min(max(numbers[place] + rng.choice([-1, 1, 2]), 0), TOP)
     numbers[place] = rng.choice([near, any_clock(rng)])
     return Client(numbers[0], Record(*numbers[1:]))
 
@@ -139,15 +139,15 @@ def shapes():
     patience = cycle(PATIENCES)
     for h, m, clients in [(h, m, clients) for h in (2, 3, 4) for m in (1, 2, 3, 4) for clients in (2, 3, 5, 8)]:
         for wait in (1, 2, 4, 9):
-            yield Shape(Settings(h, m, wait, next(patience)), clients, 3000)
+            yield Shape(Settings(h, m, wait, next(patience)), clients, 2200)
     for clients in (2, 3, 4, 5, 6, 8, 12, 16):
         for wait in (1, 3, 8, 20, 60, 200, 3, 8, 20):
-            yield Shape(Settings(6, 1 + clients % 4, wait, next(patience)), clients, 6500)
+            yield Shape(Settings(6, 1 + clients % 4, wait, next(patience)), clients, 5000)
 
 
 def long_waits():
     """Small trees with few clients and long waits; P from a part of T up."""
-    patience = cycle((2, 7, 50, 10000))
+    patience = cycle((2, 5, 7, 50))
     for h, m, clients in [(h, m, clients) for h in (2, 3, 4) for m in (1, 2, 3, 4) for clients in (2, 3)]:
         for wait in LONG_WAITS:
             yield Shape(Settings(h, m, wait, min(next(patience) * wait // 4, MOST_PATIENCE)), clients, 3000)
