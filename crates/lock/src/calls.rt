@@ -14,7 +14,8 @@ ghost use Rattle.lock.specs.rules.Unreadable.{differ, unreadable};
 ghost use Rattle.lock.specs.rules.Calls.{firstCause, treeTests, requested, cancelled, answered};
 ghost use Rattle.lock.specs.rules.ByValue.{callOf, answerTo, wordsAfter};
 ghost use Rattle.lock.specs.laws.Active.{Settled};
-ghost use Rattle.lock.specs.laws.ByKind.{clearBit, leftBy};
+ghost use Rattle.lock.specs.laws.ByKind.{steppedOf, clearBit, leftBy};
+use crate::Acted;
 use crate::Call;
 use crate::Client;
 use crate::Record;
@@ -102,6 +103,98 @@ impl Record {
         }
         self.sent_back(3)
     }
+
+    // "As it was": a refused call gives its number only.
+    fn refused(self, number: u64, last: u64) -> Acted
+        ensures { λ s. ⌜ s ≡ record { number = number; clock = last; next = self } ⌝ }
+    {
+        Acted {
+            number: number,
+            clock: last,
+            next: self,
+        }
+    }
+
+    // What is left of a step after 1, 2, 5 and 6: patience, else 9 and the work on the one word. "An accepted step sets the last clock."
+    fn step(self, words: &mut [u64], settings: Settings, last: u64, clock: u64) -> Acted
+        requires { ⌜ Settled settings × (length (now words) ≡ wordCount (settings .levels)) × (unreadable settings self last ≡ false) × (last ≤ clock) ⌝ }
+        ensures answer { λ s. ⌜ steppedOf s ≡ answered (clearBit settings self (now (words .entry)) clock) (clientWith last self) (clientWith clock (moved settings self (wordAt (now (words .entry)) (touched settings self clock)) clock .next)) ⌝ }
+        ensures words { λ s. ⌜ now (words .exit) ≡ leftBy settings self (now (words .entry)) clock ⌝ }
+    {
+        if self.out_of_patience(settings, clock) {
+            return Acted {
+                number: 0,
+                clock: clock,
+                next: self.sent_back(4),
+            };
+        }
+        let n = self.own_touched(settings);
+        let m = self.own_moved(settings, n, word_at(words, n), clock);
+        if m.number != 0 {
+            return self.refused(9, last);
+        }
+        put_word(words, n, m.word);
+        let next = m.next;
+        Acted {
+            number: 0,
+            clock: clock,
+            next: next,
+        }
+    }
+
+    // The end of a call that touches no word: 8, where the phase is wrong for the call, or the next record. The clock stays.
+    fn unless(self, wrong: bool, next: Record, last: u64) -> Acted
+        ensures { λ s. ⌜ steppedOf s ≡ answered (firstCause ((wrong, 8) ∷ [])) (clientWith last self) (clientWith last next) ⌝ }
+    {
+        if wrong {
+            return self.refused(8, last);
+        }
+        Acted {
+            number: 0,
+            clock: last,
+            next: next,
+        }
+    }
+
+    // What is left of a request after 1, 2 and 6: 7, "request with l ≥ r or r > N", and 8.
+    fn request(self, settings: Settings, last: u64, a: u64, b: u64) -> Acted
+        requires { ⌜ Settled settings ⌝ }
+        ensures { λ s. ⌜ steppedOf s ≡ answered (firstCause ((windowOutside (settings .levels) a b, 7) ∷ (differ (self .phase) 0, 8) ∷ [])) (clientWith last self) (clientWith last (requested settings a b)) ⌝ }
+    {
+        if cover::outside(settings.levels, a, b) {
+            return self.refused(7, last);
+        }
+        let pieces = cover::piece_numbers(settings.levels, a, b);
+        let next = Record::requested(settings, a, b, pieces.first, pieces.second);
+        self.unless(self.phase != 0, next, last)
+    }
+
+    // The call that its kind names: 0 request, 1 step, 2 release, any other number cancel. All begin with 1, 2, 5 (only a step) and 6, tested here for all; what comes
+    // after is the kind's own.
+    fn act(self, words: &mut [u64], settings: Settings, call: Call, last: u64, kind: u64) -> Acted
+        ensures answer { λ s. ⌜ steppedOf s ≡ answerTo settings (clientWith last self) (now (words .entry)) (callOf kind (call .client) (call .a) (call .b)) ⌝ }
+        ensures words { λ s. ⌜ now (words .exit) ≡ wordsAfter settings (clientWith last self) (now (words .entry)) (callOf kind (call .client) (call .a) (call .b)) ⌝ }
+    {
+        let cause = settings.tree_cause(words.len() as u64);
+        if cause != 0 {
+            return self.refused(cause, last);
+        }
+        if (kind == 1) & (call.a < last) {
+            return self.refused(5, last);
+        }
+        if self.unreadable(settings, last) {
+            return self.refused(6, last);
+        }
+        match kind {
+            0 => self.request(settings, last, call.a, call.b),
+            1 => self.step(words, settings, last, call.a),
+            2 => self.unless(self.phase != 9, self.sent_back(1), last),
+            _ => {
+                let wrong = (self.phase == 0) | (self.phase == 9) | (self.phase == 10);
+                self.unless(wrong, self.cancelled(), last)
+            }
+        }
+    }
 }
 
 impl Client {
@@ -115,102 +208,20 @@ impl Client {
         }
     }
 
-    // "As it was": a refused call gives its number only.
-    fn refused(self, number: u64) -> Stepped
-        ensures { λ s. ⌜ s ≡ record { number = number; next = self } ⌝ }
-    {
-        Stepped {
-            number: number,
-            next: self,
-        }
-    }
-
-    // What is left of a step after 1, 2, 5 and 6: patience, else 9 and the work on the one word. "An accepted step sets the last clock."
-    fn step(self, words: &mut [u64], settings: Settings, clock: u64) -> Stepped
-        requires { ⌜ Settled settings × (length (now words) ≡ wordCount (settings .levels)) × (unreadable settings (self .«record») (self .clock) ≡ false) × (self .clock ≤ clock) ⌝ }
-        ensures answer { λ s. ⌜ s ≡ answered (clearBit settings (self .«record») (now (words .entry)) clock) self (clientWith clock (moved settings (self .«record») (wordAt (now (words .entry)) (touched settings (self .«record») clock)) clock .next)) ⌝ }
-        ensures words { λ s. ⌜ now (words .exit) ≡ leftBy settings (self .«record») (now (words .entry)) clock ⌝ }
-    {
-        let own = self.record;
-        if own.out_of_patience(settings, clock) {
-            return Stepped {
-                number: 0,
-                next: Client {
-                    clock: clock,
-                    record: own.sent_back(4),
-                },
-            };
-        }
-        let n = own.own_touched(settings);
-        let m = own.own_moved(settings, n, word_at(words, n), clock);
-        if m.number != 0 {
-            return self.refused(9);
-        }
-        put_word(words, n, m.word);
-        let next = m.next;
-        Stepped {
-            number: 0,
-            next: Client {
-                clock: clock,
-                record: next,
-            },
-        }
-    }
-
-    // The end of a call that touches no word: 8, where the phase is wrong for the call, or the next record. The clock stays.
-    fn unless(self, wrong: bool, next: Record) -> Stepped
-        ensures { λ s. ⌜ s ≡ answered (firstCause ((wrong, 8) ∷ [])) self (clientWith (self .clock) next) ⌝ }
-    {
-        if wrong {
-            return self.refused(8);
-        }
-        Stepped {
-            number: 0,
-            next: Client {
-                clock: self.clock,
-                record: next,
-            },
-        }
-    }
-
-    // What is left of a request after 1, 2 and 6: 7, "request with l ≥ r or r > N", and 8.
-    fn request(self, settings: Settings, a: u64, b: u64) -> Stepped
-        requires { ⌜ Settled settings ⌝ }
-        ensures { λ s. ⌜ s ≡ answered (firstCause ((windowOutside (settings .levels) a b, 7) ∷ (differ (self .«record» .phase) 0, 8) ∷ [])) self (clientWith (self .clock) (requested settings a b)) ⌝ }
-    {
-        if cover::outside(settings.levels, a, b) {
-            return self.refused(7);
-        }
-        let pieces = cover::piece_numbers(settings.levels, a, b);
-        let next = Record::requested(settings, a, b, pieces.first, pieces.second);
-        self.unless(self.record.phase != 0, next)
-    }
-
-    // The call that its kind names: 0 request, 1 step, 2 release, any other number cancel. All begin with 1, 2, 5 (only a step) and 6, tested here for all; what comes
-    // after is the kind's own.
+    // The call that its kind names, on the record, by the client's own clock.
     pub fn act(self, words: &mut [u64], settings: Settings, call: Call, kind: u64) -> Stepped
         ensures answer { λ s. ⌜ s ≡ answerTo settings self (now (words .entry)) (callOf kind (call .client) (call .a) (call .b)) ⌝ }
         ensures words { λ s. ⌜ now (words .exit) ≡ wordsAfter settings self (now (words .entry)) (callOf kind (call .client) (call .a) (call .b)) ⌝ }
     {
-        let cause = settings.tree_cause(words.len() as u64);
-        if cause != 0 {
-            return self.refused(cause);
-        }
-        if (kind == 1) & (call.a < self.clock) {
-            return self.refused(5);
-        }
         let own = self.record;
-        if own.unreadable(settings, self.clock) {
-            return self.refused(6);
-        }
-        match kind {
-            0 => self.request(settings, call.a, call.b),
-            1 => self.step(words, settings, call.a),
-            2 => self.unless(own.phase != 9, own.sent_back(1)),
-            _ => {
-                let wrong = (own.phase == 0) | (own.phase == 9) | (own.phase == 10);
-                self.unless(wrong, own.cancelled())
-            }
+        let acted = own.act(words, settings, call, self.clock, kind);
+        let next = acted.next;
+        Stepped {
+            number: acted.number,
+            next: Client {
+                clock: acted.clock,
+                record: next,
+            },
         }
     }
 }

@@ -47,6 +47,13 @@ pub struct Call {
     pub b: u64,
 }
 
+// What a call on a record gives: its number (0 accepted), the clock and the record after it.
+pub struct Acted {
+    pub number: u64,
+    pub clock: u64,
+    pub next: Record,
+}
+
 // What a call answers: its number (0 accepted), and the client after it.
 #[repr(C)]
 pub struct Stepped {

@@ -11,6 +11,7 @@ use Rattle.base.specs.rules.Choice.{choose}
 use Rattle.base.specs.laws.ChoiceLaws.{choose-eq, choose-ne, by-eq, on-choose}
 use Rattle.tree.specs.rules.Tree.{wordCount}
 use Rattle.cover.specs.rules.Answer.{windowOutside}
+use Rattle.lock.specs.declared.Acted.{Acted}
 use Rattle.lock.specs.declared.Call.{Call as Asked}
 use Rattle.lock.specs.declared.Client.{Client}
 use Rattle.lock.specs.declared.Record.{Record}
@@ -50,6 +51,10 @@ module _ (kind client a b : ℕ) where
   client-of-kind =
       on-choose (λ (k : Call). clientOf k ≡ client) (eqb kind 0) _ _ (λ _. refl)
       (λ _. on-choose (λ (k : Call). clientOf k ≡ client) (eqb kind 1) _ _ (λ _. refl) (λ _. on-choose (λ (k : Call). clientOf k ≡ client) (eqb kind 2) _ _ (λ _. refl) (λ _. refl)))
+
+-- what a call on a record gives, as that on its client
+abbrev pub steppedOf : Acted → Stepped
+steppedOf x = record { number = x .number; next = clientWith (x .clock) (x .next) }
 
 -- ---- the first tests
 
