@@ -1,5 +1,5 @@
-"""Request 2.3 broken on purpose: one of its sentences read wrongly, put in the place of the model's own while a `with` lasts. Histories that
-meet its supposition, states, lent tables and files must find each of them out."""
+"""Request 2.3 broken on purpose: one of its sentences read wrongly, put in the place of the model's own while a `with` lasts. Histories
+that meet its supposition, states, lent tables and files must find each of them out."""
 
 from unittest.mock import patch
 

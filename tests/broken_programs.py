@@ -1,5 +1,5 @@
-"""Programs broken on purpose: the model with one sentence of "The schedule program" or of request 2.1, 2.2 or 2.3 read wrongly, or one rule of
-the lock broken. The files must find each of them out."""
+"""Programs broken on purpose: the model with one sentence of "The schedule program" or of request 2.1, 2.2 or 2.3 read wrongly, or one
+rule of the lock broken. The files must find each of them out."""
 
 from collections import ChainMap
 from contextlib import contextmanager
@@ -197,5 +197,6 @@ def broken(name):
 BROKEN = {
     "rangelog": [*READING, *LOGS, *broken_rules.RULES, *broken_patience.IN_LOGS, *broken_clocks.IN_LOGS],
     "rangepages": [
-        *READING, *broken_pages.PRINTED, *broken_pages.IN_HISTORIES, *broken_rules.RULES, *broken_patience.IN_PAGES, *broken_clocks.IN_PAGES],
+        *READING, *broken_pages.PRINTED, *broken_pages.IN_HISTORIES, *broken_rules.RULES, *broken_patience.IN_PAGES,
+        *broken_clocks.IN_PAGES],
 }

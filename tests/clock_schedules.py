@@ -1,5 +1,5 @@
-"""Schedules in which each client's own clock matters, by name: clocks before and after those of others, what sets them and what doesn't, claims
-that are just late and just not, and histories at the limit of request 2.3's supposition and outside it."""
+"""Schedules in which each client's own clock matters, by name: clocks before and after those of others, what sets them and what doesn't,
+claims that are just late and just not, and histories at the limit of request 2.3's supposition and outside it."""
 
 from clock_states import wrapped
 from clocks import EDGE_WAITS, TOP, first_late
@@ -36,7 +36,8 @@ def clocks_apart():
     yield "a request of a client behind the others", of_two(*TAKEN, Call("request", 1, 20, 30), *steps(1, 1, 2, 3))
     yield "a release of a client behind the others", of_two(
         Call("request", 1, 20, 30), *steps(1, 1, 1, 1), *TAKEN, Call("release", 1), *steps(1, 1, 2))
-    yield "a cancel of a client behind the others", of_two(Call("request", 1, 20, 30), *steps(1, 1), *TAKEN, Call("cancel", 1), *steps(1, 1, 2))
+    yield "a cancel of a client behind the others", of_two(
+        Call("request", 1, 20, 30), *steps(1, 1), *TAKEN, Call("cancel", 1), *steps(1, 1, 2))
 
 
 def claim_after(wait, t1, ticks):

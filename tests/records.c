@@ -1,5 +1,5 @@
-/* Answers queries about the compiled calls on one record. A query is the call's place in the table below, how many pairs
-   end the query, settings, record, word count and call, and then the pairs: a node and its word. Every word that is not in
+/* Answers queries about the compiled calls on one client. A query is the call's place in the table below, how many pairs
+   end the query, settings, client, word count and call, and then the pairs: a node and its word. Every word that is not in
    a pair is 0. An answer is what the call gives, how many words it changed, and of these the lowest node and its word after
    the call. All are 64-bit numbers. Queries are read from standard input to its end and answered in order on standard
    output. With the argument `names` it writes the table's names in order instead, one to a line.
@@ -22,7 +22,7 @@ enum { UNREADABLE = 4, ENTRIES = sizeof table / sizeof *table };
 struct query {
     uint64_t place, pairs;
     nolthewyr_settings settings;
-    nolthewyr_record record;
+    nolthewyr_client client;
     uint64_t count;
     nolthewyr_call call;
 };
@@ -68,9 +68,9 @@ static void note_change(struct answer *answer, uint64_t node, uint64_t word)
 static void make_call(const struct query *q, uint64_t *words, struct answer *answer)
 {
     if (q->place == UNREADABLE)
-        answer->stepped.number = probe_unreadable(q->record, q->settings, q->call.last);
+        answer->stepped.number = probe_unreadable(q->client.record, q->settings, q->client.clock);
     else
-        answer->stepped = probe_act(q->record, words, q->count, q->settings, q->call, q->place);
+        answer->stepped = probe_act(q->client, words, q->count, q->settings, q->call, q->place);
 }
 
 static int write_pairs(const struct query *q, const struct pair *pairs, uint64_t *words, size_t nodes)

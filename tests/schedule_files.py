@@ -208,7 +208,8 @@ def patience():
     for name, calls in {"one piece": single, "two inner pieces": inner}.items():
         yield f"P 11, {name} given back", File(of_calls(*calls, Call("release", 0), *steps(0, 41, 1), levels=3, patience=11))
     for since in (19, 20, 21, 2 ** 32, TOP - 10):
-        end = [Call("step", 0, 3 + since), *(Call("step", client, 2 + since) for client in (0, 1)), *steps(0, 4 + since, 2), *steps(1, 6 + since, 2)]
+        back = [Call("step", client, 2 + since) for client in (0, 1)]
+        end = [Call("step", 0, 3 + since), *back, *steps(0, 4 + since, 2), *steps(1, 6 + since, 2)]
         yield f"both wait, P 20, a step {since} after the first piece", File(of_calls(*BOTH_WAIT, *end, patience=20))
     asked_again = [*steps(0, 23, 3), *steps(1, 26, 1), Call("request", 0, 60, 70), Call("release", 1), *steps(1, 27, 2), *steps(0, 29, 6)]
     yield "both wait, P 20, and both windows are taken", File(of_calls(*BOTH_WAIT, *asked_again, patience=20))
