@@ -1,6 +1,6 @@
-"""The supposition of request 2.3, over the calls of a history and their moments alone: "Suppose accepted steps have true whole-number moments
-that never go back along a history, and between any two accepted steps of one client 10,000 times its own elapsed ticks lies between 9,999
-and 10,001 times the true elapse." Of other calls, of refused ones and of a client's first step nothing is supposed."""
+"""The supposition of request 2.3, over the calls of a history and their moments alone: "Suppose accepted steps have true whole-number
+moments that never go back along a history, and between any two accepted steps of one client 10,000 times its own elapsed ticks lies between
+9,999 and 10,001 times the true elapse." Of other calls, of refused ones and of a client's first step nothing is supposed."""
 
 from itertools import combinations, pairwise
 from typing import NamedTuple

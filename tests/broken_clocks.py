@@ -1,7 +1,6 @@
-"""Request 2.3 broken on purpose: one of its sentences read wrongly, put in the place of the model's own while a `with` lasts. Histories that
-meet its supposition, states, lent tables and files must find each of them out."""
+"""Request 2.3 broken on purpose: one of its sentences read wrongly, put in the place of the model's own while a `with` lasts. Histories
+that meet its supposition, states, lent tables and files must find each of them out."""
 
-from contextlib import contextmanager
 from unittest.mock import patch
 
 from histories import MOST_PATIENCE, Shape
@@ -175,22 +174,35 @@ TABLES = {
 OPENINGS = {"an opening that leaves the clocks": of_table("opening", clocks_left)}
 
 
-@contextmanager
-def page_by(clock_of):
-    """Pages that hold noted times to another clock than the client's own."""
-    def with_clock(function):
-        def changed(settings, clients, *arguments):
-            last = clock_of(clients)
-            with patch.object(pages, "client_unreadable", lambda settings, client: unreadable(settings, client.record, last)):
-                return function(settings, clients, *arguments)
-        return changed
-    changes = {name: with_clock(getattr(pages, name)) for name in ("planners_refused", "run_refused")}
-    with patch.multiple(pages, **changes):
-        yield
+def least(clients):
+    return min((client.clock for client in clients), default=0)
+
+
+def page_by(name, clock_of):
+    """A page that holds noted times to another clock than the client's own."""
+    refused = getattr(pages, name)
+
+    def changed(settings, clients, *arguments):
+        last = clock_of(clients)
+        with patch.object(pages, "client_unreadable", lambda settings, client: unreadable(settings, client.record, last)):
+            return refused(settings, clients, *arguments)
+    return lambda: patch.object(pages, name, changed)
 
 
 PAGES = {
-    "pages by the first client's clock": lambda: page_by(first),
-    "pages by the greatest of all clocks": lambda: page_by(greatest),
-    "pages by the least of all clocks": lambda: page_by(lambda clients: min((client.clock for client in clients), default=0)),
+    "the planners' page by the first client's clock": page_by("planners_refused", first),
+    "the planners' page by the greatest of all clocks": page_by("planners_refused", greatest),
+    "the planners' page by the least of all clocks": page_by("planners_refused", least),
+    "a run's page by the first client's clock": page_by("run_refused", first),
+    "a run's page by the greatest of all clocks": page_by("run_refused", greatest),
+    "a run's page by the least of all clocks": page_by("run_refused", least),
 }
+
+RULES = LATE | BY_VALUE | TABLES | OPENINGS | PAGES
+# What no history from a fresh table shows.
+ONLY_LENT = {
+    "noted times readable by the greatest of all clocks", "an opening that leaves the clocks",
+    "the planners' page by the greatest of all clocks", "a run's page by the greatest of all clocks",
+}
+IN_LOGS = [rule for rule in RULES if rule not in ONLY_LENT and rule not in PAGES]
+IN_PAGES = [rule for rule in RULES if rule not in ONLY_LENT]

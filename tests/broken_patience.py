@@ -193,15 +193,15 @@ SETTINGS = {
 
 RULES = STEPS | UNREADABLE | SETTINGS
 
-# What no history from an opening shows, nor a header, whose P has 32 bits.
+# What no history from an opening shows, in which a step finds patience over before a cancel can; nor a header, whose P has 32 bits.
 ONLY_LENT = {
     "outcome 5 readable", "idle with a third time readable", "4 at a first piece readable", "4 in 1 to 9 of a second piece readable",
     "a time at a first piece readable", "a time at a first piece in 10 readable", "a third time after the last clock readable",
-    "P 2^32 taken",
+    "P 2^32 taken", "a cancel with outcome 4",
 }
 # What a log does not show, which has neither outcomes nor noted times.
 NOT_IN_LOGS = {
-    "outcome 2 in place of 4", "outcome 3 in place of 4", "the third time zeroed when patience has run out", "a cancel with outcome 4",
+    "outcome 2 in place of 4", "outcome 3 in place of 4", "the third time zeroed when patience has run out",
     "a third time that a window of one piece lacks", "the third time noted again when the second piece is taken",
     "the third time zeroed by a cancel", "the third time zeroed by a release",
 }

@@ -1,10 +1,12 @@
-"""Programs broken on purpose: the model with one sentence of "The schedule program" or of request 2.1 or 2.2 read wrongly, or one rule of
-the lock broken. The files must find each of them out."""
+"""Programs broken on purpose: the model with one sentence of "The schedule program" or of request 2.1, 2.2 or 2.3 read wrongly, or one
+rule of the lock broken. The files must find each of them out."""
 
+from collections import ChainMap
 from contextlib import contextmanager
 from struct import Struct
 from unittest.mock import patch
 
+import broken_clocks
 import broken_pages
 import broken_patience
 import broken_rules
@@ -186,12 +188,15 @@ def broken(name):
         with broken_rules.broken(name):
             yield
     else:
-        with {**READING, **LOGS, **broken_pages.RULES, **broken_pages.PRINTED, **broken_patience.RULES}[name]():
+        others = broken_pages.RULES, broken_pages.PRINTED, broken_patience.RULES, broken_clocks.RULES
+        with ChainMap(READING, LOGS, *others)[name]():
             yield
 
 
 # The broken programs that each program's files must find out.
 BROKEN = {
-    "rangelog": [*READING, *LOGS, *broken_rules.RULES, *broken_patience.IN_LOGS],
-    "rangepages": [*READING, *broken_pages.PRINTED, *broken_pages.IN_HISTORIES, *broken_rules.RULES, *broken_patience.IN_PAGES],
+    "rangelog": [*READING, *LOGS, *broken_rules.RULES, *broken_patience.IN_LOGS, *broken_clocks.IN_LOGS],
+    "rangepages": [
+        *READING, *broken_pages.PRINTED, *broken_pages.IN_HISTORIES, *broken_rules.RULES, *broken_patience.IN_PAGES,
+        *broken_clocks.IN_PAGES],
 }

@@ -1,5 +1,5 @@
-"""Request 2.3, "Each run brings its own clock", in the model: when a claim is late, and which clock a call sets; and that the states to which
-the compiled code is held find each of its sentences out when it is broken. The library takes no part."""
+"""Request 2.3, "Each run brings its own clock", in the model: when a claim is late, and which clock a call sets; and that the states to
+which the compiled code is held find each of its sentences out when it is broken. The library takes no part."""
 
 from itertools import product
 

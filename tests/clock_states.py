@@ -1,5 +1,6 @@
-"""States in which the clients' own clocks matter: claims that are just late or just not, waits and patience that are just over or just not,
-whatever the size of clock, T and P; and lent tables in which a client's clock is at, above or below its noted times and the other clients' clocks, with every call that may tell them apart."""
+"""States in which the clients' own clocks matter: claims that are just late or just not, waits and patience that are just over or just
+not, whatever the size of clock, T and P; and lent tables in which a client's clock is at, above or below its noted times and the other
+clients' clocks, with every call that may tell them apart."""
 
 from itertools import product
 from typing import NamedTuple
@@ -11,8 +12,8 @@ from model.history import Call
 from model.record import IDLE, Client, Record, Settings
 from record_states import State
 
-# H 3, m 1: a noted time with a record that is held to it. A leaf with its last notice to come, and node 2, whose only one that is; a wait; and
-# the first step of a second leaf.
+# H 3, m 1: a noted time with a record that is held to it. A leaf with its last notice to come, and node 2, whose only one that is; a
+# wait; and the first step of a second leaf.
 TIMED = (
     ("t1", Record(phase=6, left=3, right=9, first=6, grip=3, place=1, notices=1)),
     ("t1", Record(phase=6, left=0, right=256, first=2, grip=3, ticket=7)),
@@ -31,7 +32,8 @@ def any_wrapped(rng):
 
 
 def ticks_since(length):
-    """About the first with which a claim is late, about T or P, where a product or an elapse of fewer bits would be small again, and far."""
+    """About the first with which a claim is late, about T or P, where a product or an elapse of fewer bits would be small again, and
+    far."""
     near = {end + beside for end in (first_late(length), length) for beside in (-1, 0, 1)}
     return sorted(near | {0, 2 ** 32, 2 ** 32 + 1, 2 ** 63, TOP} | {wrapped(times) for times in (1, 2, 5000, 9999, 10000)})
 

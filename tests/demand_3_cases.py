@@ -1,5 +1,5 @@
-"""Demand 3 in the model over random histories, with clocks that keep request 2.3's supposition and with any; and that rules broken on purpose
-are caught by it. The library takes no part."""
+"""Demand 3 in the model over random histories, with clocks that keep request 2.3's supposition and with any; and that rules broken on
+purpose are caught by it. The library takes no part."""
 
 from collections import Counter
 from functools import lru_cache

@@ -144,8 +144,8 @@ class Watch:
         windows = [(client, window) for client, window in enumerate(self.windows) if window is not None]
         pair = next((one, other) for (one, of_one), (other, of_other) in combinations(windows, 2) if overlap(of_one, of_other))
         made = [made for made in self.opened.history if made.call.client in pair and made.number == 0]
-        asked = [max(place for place, each in enumerate(made) if (each.call.kind, each.call.client) == ("request", client)) for client in pair]
-        return made[min(asked):]
+        requests = {each.call.client: place for place, each in enumerate(made) if each.call.kind == "request"}
+        return made[min(requests.values()):]
 
     def look_at_owned(self):
         """Counts when some word is not what the records own of it, or some record is not readable."""

@@ -2,6 +2,7 @@
 taken by as little as the supposition leaves. The client of the higher piece has the fastest clock that there may be, and that of the lower
 piece the slowest."""
 
+from itertools import combinations, product
 from typing import NamedTuple
 
 from clocks import EDGE_WAITS, TOP, fewest_ticks, first_late
@@ -121,7 +122,7 @@ def limits(waits=EDGE_WAITS, levels=range(2, 6)):
     """Every pair of levels in trees of 2 to 5 levels, with every m and T; the first clocks are near 0, near 2^32, and such that the last
     clock is the greatest number."""
     for h in levels:
-        for m, higher, lower in [(m, higher, lower) for m in tree.DISTANCES for higher in range(1, h) for lower in range(higher + 1, h + 1)]:
+        for m, (higher, lower) in product(tree.DISTANCES, combinations(range(1, h + 1), 2)):
             for wait in waits:
                 ended = TOP - fewest_ticks(least_elapse(wait)), TOP - wait
                 for first_clocks in ((0, 1), (2 ** 32 - 1, 3), ended):

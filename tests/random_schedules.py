@@ -3,6 +3,7 @@ damaged."""
 
 from random import Random
 
+from clocks import AnyClocks, TrueClocks
 from histories import MOST_PATIENCE, TOP, Driver, Shape, opened
 from model import tree
 from model.history import KINDS, Call
@@ -13,9 +14,10 @@ MOST_CLIENT = 2 ** 16 - 1
 
 
 def driven(shape, seed):
-    """A schedule of the calls that the driver draws; a client's number is cut to its 16 bits."""
+    """A schedule of the calls that the driver draws, with any clocks and with true moments in turn; a client's number is cut to its 16
+    bits."""
     lock = opened(shape)
-    driver, calls = Driver(lock, seed), []
+    driver, calls = Driver(lock, seed, (AnyClocks, TrueClocks)[seed % 2]), []
     for _ in range(shape.calls):
         call = driver.next_call()
         calls.append(call._replace(client=min(call.client, MOST_CLIENT)))
@@ -32,7 +34,7 @@ def contended(rng, seed):
 
 def well_formed(rng, seed):
     """Every H up to 6 and up to 64 clients, with any bytes between header and first call and after the last."""
-    wait, patience = rng.choice([1, 3, 20, 2 ** 32 - 1]), rng.choice([1, 20, 300, MOST_PATIENCE])
+    wait, patience = rng.choice([1, 3, 20, 5001, 123456, 2 ** 32 - 1]), rng.choice([1, 20, 300, MOST_PATIENCE])
     settings = Settings(rng.randint(2, 6), rng.choice(tree.DISTANCES), wait, patience)
     schedule = driven(Shape(settings, rng.choice([1, 2, 16, 63, 64]), rng.choice([0, 1, 5, 50, 300])), seed)
     return encode(schedule, *(rng.randbytes(rng.choice([0, 0, 1, 24, 333])) for _ in range(2)))

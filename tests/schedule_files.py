@@ -3,6 +3,7 @@ before any call is made, its number stands beside it."""
 
 from typing import NamedTuple
 
+import clock_schedules
 from histories import MOST_PATIENCE, TOP
 from model.history import KINDS, Call
 from model.record import Settings
@@ -201,11 +202,14 @@ def patience():
     for allowed in range(1, 5):
         yield f"P {allowed}, two leaves", File(of_calls(*leaves, patience=allowed))
         yield f"P {allowed}, two leaves, to the end of P", File(of_calls(*leaves[:4 + allowed], patience=allowed))
+    for allowed in range(1, 7):
+        yield f"P {allowed}, two leaves at H 3, to the end of P", File(of_calls(*leaves[:6 + allowed], levels=3, patience=allowed))
     yield "P 1, one piece", File(of_calls(*single, levels=3, patience=1))
     for name, calls in {"one piece": single, "two inner pieces": inner}.items():
         yield f"P 11, {name} given back", File(of_calls(*calls, Call("release", 0), *steps(0, 41, 1), levels=3, patience=11))
     for since in (19, 20, 21, 2 ** 32, TOP - 10):
-        end = [Call("step", 0, 3 + since), Call("step", 1, 2 + since), *steps(0, 4 + since, 2), *steps(1, 6 + since, 2)]
+        back = [Call("step", client, 2 + since) for client in (0, 1)]
+        end = [Call("step", 0, 3 + since), *back, *steps(0, 4 + since, 2), *steps(1, 6 + since, 2)]
         yield f"both wait, P 20, a step {since} after the first piece", File(of_calls(*BOTH_WAIT, *end, patience=20))
     asked_again = [*steps(0, 23, 3), *steps(1, 26, 1), Call("request", 0, 60, 70), Call("release", 1), *steps(1, 27, 2), *steps(0, 29, 6)]
     yield "both wait, P 20, and both windows are taken", File(of_calls(*BOTH_WAIT, *asked_again, patience=20))
@@ -216,9 +220,14 @@ def patience():
     yield "both wait, P 20, and a cancel after 47", File(of_calls(*BOTH_WAIT, *cancelled, patience=20))
 
 
+def own_clocks():
+    """Each client's own clock."""
+    yield from ((name, File(encode(schedule))) for name, schedule in clock_schedules.schedules())
+
+
 def by_group():
     """Each group of files, by name."""
     groups = {"lengths": lengths, "offsets": offsets, "kinds and zero fields": kinds_and_zero_fields,
               "settings and clients": openings, "calls of every kind": calls,
-              "clients in the middle": standing, "patience": patience}
+              "clients in the middle": standing, "patience": patience, "own clocks": own_clocks}
     return {group: dict(files()) for group, files in groups.items()}

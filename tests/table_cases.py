@@ -130,8 +130,9 @@ def at_the_limit():
             compiled = Table(limit.settings, [0] * tree.node_count(limit.settings.levels), [IDLE_CLIENT] * 2)
             lock = opened(Shape(limit.settings, 2, len(history)))
             for at, made in enumerate(history):
-                answer, expected = compiled.make(made.call).number, lock.make(made.call).number
-                yield case("compiled call at the limit", [place, at], (expected, 0, 0, 0)), (answer, *compiled.unlike(lock.words, lock.clients))
+                number, expected = compiled.make(made.call).number, lock.make(made.call).number
+                answer = number, *compiled.unlike(lock.words, lock.clients)
+                yield case("compiled call at the limit", [place, at], (expected, 0, 0, 0)), answer
 
 
 def shapes():

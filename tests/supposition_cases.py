@@ -1,5 +1,5 @@
-"""The supposition of request 2.3 in the model: when it is met and whether there are moments for a history; and single holding in histories at
-its very limit and outside it. The library takes no part."""
+"""The supposition of request 2.3 in the model: when it is met and whether there are moments for a history; and single holding in histories
+at its very limit and outside it. The library takes no part."""
 
 from itertools import pairwise, product
 from random import Random
@@ -21,7 +21,8 @@ NAMES["moments occur"] = ("there are some",), ("occurs",)
 NAMES["at the limit"] = ("place",), ("supposition met", "lower piece's phase", "its outcome", "higher piece's phase")
 NAMES["T 123,456"] = (), ("last moment", "lower piece's ticks since t1", "its outcome", "higher piece's phase")
 NAMES["outside the supposition"] = (), ("clients that hold", "held apart", "moments that meet it")
-NAMES["broken late rule"] = ("place in the list of broken rules",), ("two hold overlapping windows", "supposition met", "with the model's own")
+NAMES["broken late rule"] = (
+    ("place in the list of broken rules",), ("two hold overlapping windows", "supposition met", "they do by the model's own rule"))
 
 
 def stepped(*clients_and_clocks):
@@ -116,8 +117,8 @@ def moments():
 
 
 def at_the_limit(history_of, late, higher):
-    """Histories that meet the supposition. By T and the ticks since t1, of which `late` tells, the lower piece's client is late and returns,
-    or a leaf is held and an inner node waits; the higher piece's client ends in this phase."""
+    """Histories that meet the supposition. By T and the ticks since t1, of which `late` tells, the lower piece's client is late and
+    returns, or a leaf is held and an inner node waits; the higher piece's client ends in this phase."""
     for place, limit in enumerate(limits()):
         lock, moments = history_of(limit)
         (below, above), ticks = lock.records, lock.clients[LOWER].clock - limit.first_clocks[LOWER]
@@ -150,8 +151,8 @@ def short_by_a_tick():
 
 
 def untrue_clocks():
-    """H 2, m 1, T 2: request 0 [0, 10); 0 steps twice; request 1 [0, 256); 1 steps three times, its clock + 2, steps twice and holds; 0 steps
-    at its old clock and holds."""
+    """H 2, m 1, T 2: request 0 [0, 10); 0 steps twice; request 1 [0, 256); 1 steps three times, its clock + 2, steps twice and holds; 0
+    steps at its old clock and holds."""
     steps = [Call("step", client, clock) for client, clock in ((1, 5), (1, 5), (1, 5), (1, 7), (1, 7), (0, 40))]
     calls = [Call("request", 0, 0, 10), Call("step", 0, 40), Call("step", 0, 40), Call("request", 1, 0, 256), *steps]
     lock = Opened(Settings(2, 1, 2, MOST_PATIENCE), [0] * 5, [IDLE_CLIENT] * 2)
