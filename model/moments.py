@@ -64,15 +64,21 @@ def later_by(steps):
     return found
 
 
+def put_off(moments, asked):
+    """The moments, each put off as far as others ask."""
+    moments = list(moments)
+    for earlier, later, by in asked:
+        moments[later] = max(moments[later], moments[earlier] + by)
+    return moments
+
+
 def moments_of(history):
-    """Moments that meet the supposition, one for each call; None if there are none. Each moment is put off as far as those before it ask;
-    if that has no end after as many rounds as there are steps, it never has."""
+    """Moments that meet the supposition, one for each call; None if there are none: if putting off has no end after as many rounds as there
+    are steps, it never has."""
     steps, moments = accepted_steps(history), [0] * len(history)
     asked = later_by(steps)
     for _ in range(len(steps) + 1):
-        before = list(moments)
-        for earlier, later, by in asked:
-            moments[later] = max(moments[later], moments[earlier] + by)
+        before, moments = moments, put_off(moments, asked)
         if moments == before:
             return moments
     return None

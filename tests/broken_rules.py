@@ -8,6 +8,7 @@ from histories import MOST_PATIENCE, Shape
 from model import record as records
 from model import step, tree
 from model.record import Settings
+from passed_claims import IN_A_CLIMB, WHILE_BLOCKED
 
 notify_levels = tree.notify_levels
 
@@ -91,12 +92,13 @@ SHAPES = {
     "no notice at level m": Shape(Settings(3, 1, 2, MOST_PATIENCE), 3, 600),
     "a node checks only itself": Shape(Settings(3, 2, 2, MOST_PATIENCE), 3, 600),
     "a cancelled ticket passed on out of turn": Shape(Settings(2, 1, 2, MOST_PATIENCE), 5, 600),
-    "a climb that goes on after a wait": Shape(Settings(4, 1, 40, MOST_PATIENCE), 3, 600),
-    "t1 noted at the root": Shape(Settings(4, 2, 9, MOST_PATIENCE), 3, 600),
     "bits taken without comparing": Shape(Settings(2, 1, 9, MOST_PATIENCE), 3, 600),
     "a taken first piece gives 9": Shape(Settings(2, 1, 2, MOST_PATIENCE), 3, 600),
     "no notice is given back": Shape(Settings(2, 1, 2, MOST_PATIENCE), 3, 600),
 }
+
+# And those for which a history is made, since random ones hardly come to what finds them out.
+HISTORIES = {"a climb that goes on after a wait": WHILE_BLOCKED, "t1 noted at the root": IN_A_CLIMB}
 
 
 def forget_lists():

@@ -1,6 +1,8 @@
 """Schedules in which each client's own clock matters, by name: clocks before and after those of others, what sets them and what doesn't,
 claims that are just late and just not, and histories at the limit of request 2.3's supposition and outside it."""
 
+from itertools import product
+
 from clock_states import wrapped
 from clocks import EDGE_WAITS, TOP, first_late
 from histories import MOST_PATIENCE
@@ -55,27 +57,33 @@ def patience_of(patience, taken, ticks):
     return of_two(Call("request", 0, 60, 70), *steps(0, taken, taken, taken, taken + ticks), patience=patience)
 
 
+def about_the_end(length):
+    """The ticks with which a claim is first late, and those of T or P, and one fewer of each."""
+    return sorted({end - fewer for end in (first_late(length), length) for fewer in (0, 1)})
+
+
 def edges():
     """Claims just late and just not, waits and patience just over and just not, of every length; near 0 and up to the greatest clock."""
-    for length in EDGE_WAITS:
-        for ticks in sorted({end + beside for end in (first_late(length), length) for beside in (-1, 0)}):
-            for time in (3, TOP - ticks):
-                beside = f"of {length}, {ticks} after {time}"
-                yield f"late, T {beside}", claim_after(length, time, ticks)
-                yield f"wait {beside}", wait_of(length, time, ticks)
-                yield f"patience {beside}", patience_of(length, time, ticks)
+    ends = [(length, ticks) for length in EDGE_WAITS for ticks in about_the_end(length)]
+    for length, ticks, time in [(length, ticks, time) for length, ticks in ends for time in (3, TOP - ticks)]:
+        when = f"of {length}, {ticks} after {time}"
+        yield f"late, T {when}", claim_after(length, time, ticks)
+        yield f"wait {when}", wait_of(length, time, ticks)
+        yield f"patience {when}", patience_of(length, time, ticks)
     for ticks in (2 ** 32, 2 ** 32 + 1, wrapped(1), wrapped(5000), wrapped(10000), 2 ** 63):
         yield f"late, T 4294967295, {ticks} after 3", claim_after(2 ** 32 - 1, 3, ticks)
 
 
+AT_LIMITS = {"late by the least": late_by_least, "taken at last": taken_at_last, "a wait one tick short": one_tick_short}
+
+
 def at_limits():
     """Histories at the limit of the supposition, and the one outside it in which two clients hold overlapping windows."""
-    for limit in limits(waits=(5001, 10001, 123456, 2 ** 32 - 1), levels=(2, 3)):
-        if limit.settings.distance == 1:
-            name = f"H {limit.settings.levels}, T {limit.settings.wait}, {limit.lower} below {limit.higher} from {limit.first_clocks}"
-            for made in (late_by_least, taken_at_last, one_tick_short):
-                calls = [each.call for each in made(limit).lock.history]
-                yield f"{made.__name__.replace('_', ' ')}, {name}", Schedule(limit.settings, 2, tuple(calls))
+    near = [limit for limit in limits(waits=(5001, 10001, 123456, 2 ** 32 - 1), levels=(2, 3)) if limit.settings.distance == 1]
+    for limit, (name, made) in product(near, AT_LIMITS.items()):
+        calls = tuple(each.call for each in made(limit).lock.history)
+        when = f"H {limit.settings.levels}, T {limit.settings.wait}, {limit.lower} below {limit.higher} from {limit.first_clocks}"
+        yield f"{name}, {when}", Schedule(limit.settings, 2, calls)
     yield "two clients hold overlapping windows", of_two(
         Call("request", 0, 0, 10), *steps(0, 40, 40), Call("request", 1, 0, 256), *steps(1, 5, 5, 5, 7, 7), *steps(0, 40), wait=2)
 

@@ -114,7 +114,8 @@ class TrueClocks:
         return clock + RATES[rate](self.rng, self.moment - since)
 
     def drawn_moment(self):
-        """Mostly stands still or goes on by 1, at times to about an end that some client comes to, at times by a part of T or far."""
+        """Mostly stands still or goes on by 1, at times to about an end that some client comes to, at times by a part of T or by
+        twice T."""
         chance, wait = self.rng.random(), self.opened.settings.wait
         if chance < self.jumps and (ahead := self.ahead()):
             return self.moment_of(*self.rng.choice(ahead))
@@ -123,7 +124,7 @@ class TrueClocks:
         return self.moment + (1 if self.rng.random() < self.ticks else 0)
 
     def ahead(self):
-        """The ends that clients have still to come to: client and clock."""
+        """The ends that clients have still to come to, client and clock; more often than not those of waits alone, if there are any."""
         clients = {client: self.opened.clients[client] for client in self.stepped}
         found = ((number, end) for number, client in clients.items() for end in ends(self.opened.settings, client.record))
         found = [(number, end) for number, end in found if end > clients[number].clock]

@@ -11,8 +11,11 @@ from clocks import AnyClocks, TrueClocks
 from compare import NAMES, case
 from histories import MOST_PATIENCE, Shape, breaks_a_claim, counts_of, history_of
 from meetings import MEETINGS
+from model.history import held_apart, holds
+from model.moments import supposition_met
 from model.owned import conserved
 from model.record import Settings
+from passed_claims import made
 
 SHAPE = (*Settings._fields, "clients", "calls", "seed")
 NAMES["history with true moments"] = SHAPE, ("overlaps", "supposition not met", "words left", "refused by 6 or 9")
@@ -121,8 +124,25 @@ def what_occurs():
 
 SEEDS = 200
 # Each rule that is broken, as a `with` that breaks it, and the shape of the histories that find it out.
-BROKEN = {rule: (lambda rule=rule: broken_rules.broken(rule), shape) for rule, shape in broken_rules.SHAPES.items()}
+BROKEN = {
+    rule: (lambda rule=rule: broken_rules.broken(rule), broken_rules.SHAPES[rule])
+    for rule in broken_rules.RULES if rule not in broken_rules.HISTORIES}
 BROKEN |= {rule: (broken_clocks.TOO_LATE[rule], shape) for rule, shape in broken_clocks.SHAPES.items()}
+
+
+def caught_at_once(rule):
+    """With the rule broken, a history that meets the supposition and is made for it breaks single holding; with the model's own rule it
+    does not."""
+    with broken_rules.broken(rule):
+        found = overlapping(broken_rules.HISTORIES[rule])
+    yield case("broken rule", [list(broken_rules.RULES).index(rule)], (1, 0)), (found, overlapping(broken_rules.HISTORIES[rule]))
+
+
+def overlapping(calls):
+    """Whether two clients hold overlapping windows after these calls, which meet the supposition."""
+    lock, moments = made(calls)
+    windows = [holds(lock.history, client) for client in range(len(lock.clients))]
+    return supposition_met(lock.history, moments) and not held_apart(windows)
 
 
 def caught(rule):
@@ -142,4 +162,5 @@ SUITES = {
     "histories, a word with one bit changed is unlike what the records own": changed_words,
     "histories, every phase, outcome, refusal and meeting occurs": what_occurs,
     **{f"histories, a claim fails with a broken rule: {rule}": lambda rule=rule: caught(rule) for rule in BROKEN},
+    **{f"histories, a claim fails with a broken rule: {rule}": lambda rule=rule: caught_at_once(rule) for rule in broken_rules.HISTORIES},
 }

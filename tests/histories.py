@@ -23,6 +23,7 @@ STAYS = (0.3, 0.6, 0.8)
 SLEEPS = (0, 0.2, 0.6)
 BUSY = 80
 LONGEST_SLEEP = 60
+SLEEPINESS = {3: 0.2, 4: 0.6, 5: 1, 6: 1}
 # What awakens a client that sleeps in one of these phases: above its climb a node waits, or above its claim one is held.
 AWAKENED = {3: WAIT, 4: WAIT, 5: HELD, 6: HELD}
 
@@ -77,8 +78,7 @@ class Driver:
 
     def fall_asleep(self):
         """At times a client falls asleep in the middle of a claim, more rarely of a climb, so that others come past it."""
-        phase = self.phase(self.client)
-        if phase in AWAKENED and self.rng.random() < self.sleeps * (1 if phase in (5, 6) else 0.2):
+        if self.rng.random() < self.sleeps * SLEEPINESS.get(self.phase(self.client), 0):
             self.asleep[self.client] = LONGEST_SLEEP
 
     def awakened(self):

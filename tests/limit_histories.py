@@ -121,9 +121,8 @@ def window_of(h, level):
 def limits(waits=EDGE_WAITS, levels=range(2, 6)):
     """Every pair of levels in trees of 2 to 5 levels, with every m and T; the first clocks are near 0, near 2^32, and such that the last
     clock is the greatest number."""
-    for h in levels:
-        for m, (higher, lower) in product(tree.DISTANCES, combinations(range(1, h + 1), 2)):
-            for wait in waits:
-                ended = TOP - fewest_ticks(least_elapse(wait)), TOP - wait
-                for first_clocks in ((0, 1), (2 ** 32 - 1, 3), ended):
-                    yield Limit(Settings(h, m, wait, MOST_PATIENCE), window_of(h, lower), window_of(h, higher), first_clocks)
+    pieces = [(h, higher, lower) for h in levels for higher, lower in combinations(range(1, h + 1), 2)]
+    for (h, higher, lower), m, wait in product(pieces, tree.DISTANCES, waits):
+        windows = window_of(h, lower), window_of(h, higher)
+        at_the_end = TOP - fewest_ticks(least_elapse(wait)), TOP - wait
+        yield from (Limit(Settings(h, m, wait, MOST_PATIENCE), *windows, clocks) for clocks in ((0, 1), (2 ** 32 - 1, 3), at_the_end))
