@@ -14,7 +14,7 @@ and `make` put it, and where the system looks for libraries. It is loaded by the
 """
 
 from ctypes import c_uint64
-from threading import Lock
+from threading import RLock
 
 # All that a program names is found here, whichever of the two files has it.
 from nolthewyr_linked import (
@@ -52,7 +52,7 @@ class Table:
     def __init__(self, settings, clients):
         """Clients are numbered from 0. The library refuses what no table has, and it does so on little memory: it is lent no words for
         levels outside 2..12, and not more clients than the first count that is too high."""
-        self._settings, self._lock = Settings.from_buffer_copy(settings), Lock()
+        self._settings, self._lock = Settings.from_buffer_copy(settings), RLock()
         self._clients = (Client * min(fitting(clients), TOO_MANY_CLIENTS))()
         self._words = (c_uint64 * word_count(settings.levels))()
         self._lent = self._clients, len(self._clients), self._words, len(self._words), self._settings

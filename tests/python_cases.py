@@ -66,15 +66,32 @@ def owned_memory():
     yield case("table in Python", [3], 1), int({table.record(1), table.record(-1), table.clock(1), table.clock(-1)} == {None})
 
 
+def free_for_others(table):
+    """Whether another thread would have its turn at once."""
+    free = []
+
+    def tried():
+        free.append(table._lock.acquire(blocking=False))
+        if free[0]:
+            table._lock.release()
+
+    other = Thread(target=tried)
+    other.start()
+    other.join()
+    return free[0]
+
+
 def clock_read_in_turn():
     """A clock that is given as a function is read when no other call can come between, and a number that does not fit is refused too."""
     library()
     table = nolthewyr.Table(nolthewyr.Settings(2, 1, 5, 9), 1)
     table.request(0, 10, 20)
-    table.step(0, lambda: 7 if table._lock.locked() else 8)
-    yield case("table in Python", [7], 1), int(table.clock(0) == 7 and not table._lock.locked())
+    table.step(0, lambda: 8 if free_for_others(table) else 7)
+    yield case("table in Python", [7], 1), int(table.clock(0) == 7 and free_for_others(table))
     yield case("table in Python", [8], 1), raises(lambda: table.step(0, lambda: TOP + 1))
     yield case("table in Python", [9], 1), int(table.clock(0) == 7)
+    table.step(0, lambda: table.clock(0) + 1)
+    yield case("table in Python", [10], 1), int(table.clock(0) == 8)
 
 
 def shown_by_names():

@@ -172,7 +172,11 @@ WAITS = {
     "the clock, with patience": ("tree 3 m 1 wait 5 patience 20 clients 1\nrequest 0 60 400\n" + "step 0 1\n" * 5 + "step 0 6\n" * 7, 0,
                                  "client 0 [60, 400), phase 7 wait, waits for nobody: until clock 11; its patience is over at clock 26"),
     "nothing, with patience": ("tree 2 m 1 wait 5 patience 20 clients 2\nrequest 0 60 70\nstep 0 2\nstep 0 2\nstep 0 2\nstep 1 22", 0,
-                                 "client 0 [60, 70), phase 3 climb, waits for nobody: it needs steps; its patience is over at clock 22"),
+                                 "client 0 [60, 70), phase 3 climb, waits for nobody: its patience was over at clock 22, and its next step begins to give back"),
+    "nothing, where another's step shows the clock": ("tree 2 m 1 wait 5 patience 20 clients 2\nrequest 0 10 20\nrequest 1 0 256\nstep 1 1\nstep 1 2\nstep 1 3\n"
+                                                      "step 0 100\nstep 0 101", 1, "client 1 [0, 256), phase 7 wait, waits for nobody: it needs steps"),
+    "the clock, by its own": ("tree 2 m 1 wait 5 patience 20 clients 2\nrequest 0 10 20\nrequest 1 0 256\nstep 0 100\nstep 1 1\nstep 1 2\nstep 1 3\nstep 0 101", 1,
+                              "client 1 [0, 256), phase 7 wait, waits for nobody: until clock 8"),
     "steps": ("tree 2 m 1 wait 5 patience 20 clients 2\nrequest 1 0 256", 1, "client 1 [0, 256), phase 1 ticket, waits for nobody: it needs steps"),
 }
 

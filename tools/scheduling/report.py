@@ -2,7 +2,7 @@
 
 from collections import Counter
 
-from scheduling.clocks import clock_lines
+from scheduling.clocks import clock_lines, last_of_all
 from scheduling.columns import in_columns
 from scheduling.events import at, became, holdings, out_of_patience
 from scheduling.given_up import given_up_lines
@@ -53,20 +53,29 @@ def held_lines(events):
         yield f"client {holding.client} held {window(holding.left, holding.right)} from {at(holding.start)} {end}"
 
 
+def clock_by_now(happened, client):
+    """What the client's clock shows by now: where all may read one clock, that of anybody's last step, else that of its own."""
+    one = last_of_all(happened.opened.history)
+    return happened.opened.clients[client].clock if one is None else one
+
+
 def without_patience(happened, client):
     """For whom a client waits, whatever its patience: others, the clock, or only its own next step."""
-    opened, (clock, record) = happened.opened, happened.opened.clients[client]
+    opened, record = happened.opened, happened.opened.clients[client].record
     if wait := wait_of(opened.settings, opened.words, opened.records, client):
         return for_whom(wait, wait.clients())
-    until = waits_until(opened.settings, record, clock)
+    until = waits_until(opened.settings, record, clock_by_now(happened, client))
     return f"for nobody: until clock {until}" if until else "for nobody: it needs steps"
 
 
 def why_waiting(happened, client):
     """For whom a client waits, and until when it has patience."""
     ends = patience_ends(happened.schedule.settings, happened.opened.clients[client].record)
-    patience = "" if ends is None else f"; its patience is over at clock {ends}"
-    return without_patience(happened, client) + patience
+    if ends is None:
+        return without_patience(happened, client)
+    if ends <= clock_by_now(happened, client):
+        return f"for nobody: its patience was over at clock {ends}, and its next step begins to give back"
+    return f"{without_patience(happened, client)}; its patience is over at clock {ends}"
 
 
 def waiting_lines(happened):
