@@ -15,7 +15,7 @@ use Rattle.lock.specs.declared.Record.{Record}
 use Rattle.lock.specs.declared.Settings.{Settings}
 use Rattle.lock.specs.rules.Records.{currentPiece}
 use Rattle.lock.specs.rules.Table.{step}
-use Rattle.lock.specs.rules.History.{Event, RequestOf, Accepted, StepAt}
+use Rattle.lock.specs.rules.History.{Event, RequestOf, Accepted, At, StepAt}
 use Rattle.lock.specs.rules.Readings.{RequestAt, NotSlow, NotFast}
 use Rattle.lock.specs.claim.InnerWords.{nobody}
 use Rattle.lock.specs.claim.Parts.{Parts, recordIn}
@@ -82,12 +82,12 @@ module _ (s : Settings) (e : Event) (rest : List Event) (found touch reading : �
   NotAsked c = Accepted (RequestOf c) e → ⊥
 
   unasked-later : (j c : ℕ) → NotAsked c → Unasked rest j c → Unasked (e ∷ rest) (suc j) c
-  unfolding RequestAt
+  unfolding At
   unasked-later j c none v zero b = none
   unasked-later j c none v (suc k) b = v k (omega arith)
 
   noted-later : (r : Record) (m0 m1 present now c : ℕ) → NotAsked c → present ≤ now → Noted s r m0 m1 present (e ∷ rest) found reading c → Noted s r m0 m1 now rest found′ reading′ c
-  unfolding StepAt
+  unfolding At
   noted-later r m0 m1 present now c none l v = record {
     past = λ d. omega (arith, v .past d);
     not-slow = λ d j u a w. v .not-slow d (suc j) u a (unasked-later j c none w);
@@ -97,7 +97,7 @@ module _ (s : Settings) (e : Event) (rest : List Event) (found touch reading : �
   module _ (st : Parts) (v : Timing s st (e ∷ rest) found touch reading) where
     -- a refused call
     pub timing-refused : ((c : ℕ) → NotAsked c) → Timing s st rest found′ touch′ reading′
-    unfolding StepAt
+    unfolding At
     timing-refused none = record {
       claim = v .claim;
       parent = v .parent;
@@ -128,7 +128,7 @@ module _ (s : Settings) (e : Event) (rest : List Event) (found touch reading : �
         }
 
         pub timing-unclaimed : ((d : ℕ) → d ≢ c → NotAsked d) → Timing s after rest found′ touch′ reading′
-        unfolding StepAt
+        unfolding At
         timing-unclaimed other =
             record {
               claim = v .claim;
@@ -167,11 +167,11 @@ module _ (s : Settings) (e : Event) (rest : List Event) (found touch reading : �
         steps-only d x = subst (RequestOf d) (at .1) (x .1)
 
         onward : v .present ≤ touch 0
-        unfolding StepAt
+        unfolding At
         onward = v .later 0 c now at
 
         read : ReadSafely s r now m0 m1 (touch 0) (reading 0)
-        unfolding StepAt
+        unfolding At
         read = record {
           read-first = read-first;
           touched-first = touched-first;
@@ -187,7 +187,7 @@ module _ (s : Settings) (e : Event) (rest : List Event) (found touch reading : �
 
         -- what the client has noted, before the step or at it
         own-noted : Noted s q (claimRead r m0 (reading 0)) (parentRead r m1 (reading 0)) (touch 0) rest found′ reading′ c
-        unfolding StepAt
+        unfolding At
         own-noted =
             let kept : passing r ≢ 0 → parentRead r m1 (reading 0) ≡ m1 = parent-kept r m1 (reading 0) in
             let old = v .noted c in

@@ -12,8 +12,8 @@ use Rattle.lock.specs.declared.Settings.{Settings}
 use Rattle.lock.specs.rules.Records.{idleWith, sentBack}
 use Rattle.lock.specs.rules.Calls.{requested, released, cancelled}
 use Rattle.lock.specs.rules.Table.{State, Call, request, step, release, cancel, clientOf, recordAt, clockAt, withClient, numberOf, after, call}
-use Rattle.lock.specs.rules.History.{run, event, events, RequestOf, StepAt, TrueMoments}
-use Rattle.lock.specs.rules.Readings.{RequestAt, foundIn, WithinRequest, ReadApart}
+use Rattle.lock.specs.rules.History.{run, event, events, RequestOf, At, TrueMoments}
+use Rattle.lock.specs.rules.Readings.{foundIn, WithinRequest, ReadApart}
 use Rattle.lock.specs.laws.Accepted.{accepted, request-tested}
 use Rattle.lock.specs.claim.Parts.{Parts, recordIn, partsOf, record-at, records-count, on-parts}
 use Rattle.lock.specs.claim.Timed.{Checked}
@@ -29,20 +29,20 @@ cancelled-unclaimed r =
     on-choose Unclaimed _ (idleWith 3) (sentBack 3 r) (λ _. unclaimed-first (idleWith 3) refl (omega arith) (λ _. refl)) (λ _. unclaimed-returning (sentBack 3 r) refl)
 
 within-later : (s : Settings) (st : State) (k : Call) (ks : List Call) (i j c : ℕ) → WithinRequest (events s (call s st k .state) ks) i j c → WithinRequest (events s st (k ∷ ks)) (suc i) (suc j) c
-unfolding events RequestAt
+unfolding events At
 within-later s st k ks i j c v zero a b = absurd (omega arith)
 within-later s st k ks i j c v (suc n) a b = v n (omega arith) (omega arith)
 
 -- before place j of the rest, where the call before it is at place 0
 within-first : (s : Settings) (st : State) (k : Call) (ks : List Call) (j c : ℕ) → Unasked (events s (call s st k .state) ks) j c → WithinRequest (events s st (k ∷ ks)) 0 (suc j) c
-unfolding events RequestAt
+unfolding events At
 within-first s st k ks j c v zero a b = absurd (omega arith)
 within-first s st k ks j c v (suc n) a b = v n (omega arith)
 
 -- what is supposed of a history is supposed of its rest
 read-later : (s : Settings) (st : State) (k : Call) (ks : List Call) (touch reading : ℕ → ℕ) → ReadApart s st (k ∷ ks) touch reading
     → ReadApart s (call s st k .state) ks (λ i. touch (suc i)) (λ i. reading (suc i))
-unfolding events StepAt RequestAt foundIn
+unfolding events At foundIn
 read-later s st k ks touch reading v = record {
   never-back = λ i j c d t u b. v .never-back (suc i) (suc j) c d t u (omega arith);
   not-slow = λ i j c t u b x y w. v .not-slow (suc i) (suc j) c t u (omega arith) x y (within-later s st k ks i j c w);
@@ -81,7 +81,7 @@ module _ (s : Settings) (st : State) (inv : Invariant s (partsOf st)) (ks : List
       (λ d other x. other (sym (request-client d k (x .1)))))
 
   step-timing : (c t : ℕ) → ReadApart s st (step c t ∷ ks) touch reading → Before (step c t) → numberOf s st (step c t) ≡ 0 → Then (step c t) (stepped s st inv c (recordAt st c) t)
-  unfolding events StepAt foundIn clientOf call
+  unfolding events At foundIn clientOf call
   step-timing c t read v n =
       let a = accepted s st (step c t) n in
       let phase : recordIn (partsOf st) c .phase ≡ recordAt st c .phase = ap (λ (x : Record). x .phase) (record-at st c) in

@@ -6,7 +6,7 @@ use Prim.Native.Nat.{ℕ, zero, suc, _≤_, _<_}
 use native.Mathlib.Omega.{arith}
 use Rattle.lock.specs.declared.Settings.{Settings}
 use Rattle.lock.specs.rules.Table.{State, Call, request, step, release, cancel, opening}
-use Rattle.lock.specs.rules.History.{Event, events, StepAt, TrueMoments, SingleHolding}
+use Rattle.lock.specs.rules.History.{Event, events, At, StepAt, TrueMoments, SingleHolding}
 use Rattle.lock.specs.claim.Demand3.{demand-3}
 
 -- no accepted step has a clock before that of an accepted step before it, of whatever client
@@ -26,7 +26,7 @@ clockIn (e ∷ es) zero = clockOf (e .made)
 clockIn (e ∷ es) (suc i) = clockIn es i
 
 clock-in : (h : List Event) (i c t : ℕ) → StepAt h i c t → clockIn h i ≡ t
-unfolding StepAt clockIn clockOf
+unfolding At clockIn clockOf
 clock-in [] i c t a = absurd a
 clock-in (e ∷ es) zero c t a = ap clockOf (a .1)
 clock-in (e ∷ es) (suc i) c t a = clock-in es i c t a

@@ -11,7 +11,7 @@ use Rattle.base.specs.rules.Choice.{choose}
 use Rattle.base.specs.laws.ChoiceLaws.{choose-eq}
 use Rattle.base.specs.laws.Every.{both, both-l, both-r}
 use Rattle.lock.specs.rules.Table.{Call, request, step, release, cancel}
-use Rattle.lock.specs.rules.History.{Event, events, StepAt, Steady, TrueMoments, Holds}
+use Rattle.lock.specs.rules.History.{Event, events, At, StepAt, Steady, TrueMoments, Holds}
 use Rattle.lock.specs.examples.HistoryExample.{settings, fresh, holding, returned, events-holding, events-returned, computed, both-hold}
 
 -- the moments of the calls; those of requests and releases do not matter
@@ -50,20 +50,20 @@ everyTest (e ∷ es) (m ∷ ms) = both (laterTest m (e .made) es ms) (everyTest 
 
 -- ---- what a test that passes shows
 
-abbrev At : List ℕ → ℕ → ℕ
-At ms i = getD ms i 0
+abbrev momentIn : List ℕ → ℕ → ℕ
+momentIn ms i = getD ms i 0
 
 later-shows : (P : (m n t u : ℕ) → Type 0) (c d m t : ℕ) → ((n u : ℕ) → T (pairTest m n (step c t) (step d u)) → P m n t u) → (es : List Event) (ms : List ℕ)
-    → T (laterTest m (step c t) es ms) → (j u : ℕ) → StepAt es j d u → P m (At ms j) t u
-unfolding StepAt laterTest
+    → T (laterTest m (step c t) es ms) → (j u : ℕ) → StepAt es j d u → P m (momentIn ms j) t u
+unfolding At laterTest
 later-shows P c d m t f [] ms x j u a = absurd a
 later-shows P c d m t f (e ∷ es) [] x j u a = absurd x
 later-shows P c d m t f (e ∷ es) (n ∷ ns) x zero u a = f n u (subst (λ (k : Call). T (pairTest m n (step c t) k)) (a .1) (both-l _ _ x))
 later-shows P c d m t f (e ∷ es) (n ∷ ns) x (suc j) u a = later-shows P c d m t f es ns (both-r _ _ x) j u a
 
 every-shows : (P : (m n t u : ℕ) → Type 0) (c d : ℕ) → ((m n t u : ℕ) → T (pairTest m n (step c t) (step d u)) → P m n t u) → (es : List Event) (ms : List ℕ)
-    → T (everyTest es ms) → (i j t u : ℕ) → i < j → StepAt es i c t → StepAt es j d u → P (At ms i) (At ms j) t u
-unfolding StepAt everyTest
+    → T (everyTest es ms) → (i j t u : ℕ) → i < j → StepAt es i c t → StepAt es j d u → P (momentIn ms i) (momentIn ms j) t u
+unfolding At everyTest
 every-shows P c d f [] ms x i j t u b a z = absurd a
 every-shows P c d f (e ∷ es) [] x i j t u b a z = absurd x
 every-shows P c d f (e ∷ es) (m ∷ ms) x i zero t u b a z = absurd (omega arith)

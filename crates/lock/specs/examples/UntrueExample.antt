@@ -20,7 +20,7 @@ use Rattle.lock.specs.rules.Steps.{touchedIn, startPhase, begin, firstNo
 use Rattle.lock.specs.rules.Calls.{firstCause, settingsOutside, treeTests, clientsOutside, clientTests, requestTests, stepTests, releaseTests, cancelTests, requested, released, cancelled}
 use Rattle.lock.specs.rules.Table.{State, Call, request, step, clientOf, clientAt, ownTests, numberOf, after, call, openingNumber, opened, opening}
 use Rattle.lock.specs.declared.Settings.{Settings}
-use Rattle.lock.specs.rules.History.{run, Event, events, Some, RequestOf, StepOf, ReleaseOf, GaveBackIn, Holds, Overlap, StepAt, TrueMoments}
+use Rattle.lock.specs.rules.History.{run, Event, events, Some, RequestOf, StepOf, ReleaseOf, GaveBackIn, Holds, Overlap, At, TrueMoments}
 use Rattle.lock.specs.examples.Seen.{seen, isRequest, isRelease, is-request, is-release, noneOf, none, later}
 
 -- H 2, m 1, T 2, P 20, two clients
@@ -89,7 +89,7 @@ both-hold = (
 
 -- the steps at the places 1 and 9 are of client 0 by one clock, so that no time lies between them; but by client 1's clock, at the places 4 and 7, two ticks do
 pub untrue : (moment : ℕ → ℕ) → TrueMoments (events settings fresh calls) moment → ⊥
-unfolding StepAt
+unfolding At
 untrue moment v =
     let w = subst (λ h. TrueMoments h moment) (computed .1) v in
     omega (

@@ -122,11 +122,15 @@ pub record Clean (s : Settings) (words : List ℕ) : Type 0 where
 
 -- ---- 2.3, "Suppose accepted steps have true whole-number moments": of requests, releases, cancels and refused calls nothing is supposed
 
--- at place i of the history stands an accepted step of the client c by the clock t
-unfoldable pub StepAt : List Event → (i c t : ℕ) → Type 0
-StepAt [] i c t = ⊥
-StepAt (e ∷ es) zero c t = (e .number ≡ 0) × (e .made ≡ step c t)
-StepAt (e ∷ es) (suc i) c t = StepAt es i c t
+-- at place i of the list stands an event that has P
+unfoldable pub At : (Event → Type 0) → List Event → ℕ → Type 0
+At P [] i = ⊥
+At P (e ∷ es) zero = P e
+At P (e ∷ es) (suc i) = At P es i
+
+-- there an accepted step of the client c by the clock t
+abbrev pub StepAt : List Event → (i c t : ℕ) → Type 0
+StepAt h i c t = At (λ e. (e .number ≡ 0) × (e .made ≡ step c t)) h i
 
 -- from the clock t to the clock u, and from the moment m to the moment n: "10,000 times its own elapsed ticks lies between 9,999 and 10,001 times the true elapse"
 abbrev pub Steady : (t u m n : ℕ) → Type 0

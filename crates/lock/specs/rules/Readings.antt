@@ -7,13 +7,11 @@ use mathlib.Core.List.{List, [], _∷_}
 use Prim.Native.Nat.{ℕ, zero, suc, _*_, _-_, _≤_, _<_}
 use Rattle.lock.specs.declared.Settings.{Settings}
 use Rattle.lock.specs.rules.Table.{State, Call, clientOf, recordAt, call}
-use Rattle.lock.specs.rules.History.{Event, events, RequestOf, Accepted, StepAt}
+use Rattle.lock.specs.rules.History.{Event, events, RequestOf, Accepted, At, StepAt}
 
 -- at place i of the history stands an accepted request of the client c
-unfoldable pub RequestAt : List Event → (i c : ℕ) → Type 0
-RequestAt [] i c = ⊥
-RequestAt (e ∷ es) zero c = Accepted (RequestOf c) e
-RequestAt (e ∷ es) (suc i) c = RequestAt es i c
+abbrev pub RequestAt : List Event → (i c : ℕ) → Type 0
+RequestAt h i c = At (Accepted (RequestOf c)) h i
 
 -- the phase in which the call at place i of the history finds its client's record
 unfoldable pub foundIn : Settings → State → List Call → ℕ → ℕ
