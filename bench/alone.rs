@@ -1,8 +1,8 @@
-//! The cover and the unreadable test alone, through the library `probe` and in plain Rust, both by C's convention.
+//! The cover, the step count and the unreadable test alone, through the libraries and in plain Rust, both by C's convention.
 
 use crate::lent::Window;
 use crate::met::met;
-use crate::nolthewyr::{Client, CoverAnswer, Phase, Record, Settings};
+use crate::nolthewyr::{nolthewyr_step_count, Client, CoverAnswer, Phase, Record, Settings, StepCountAnswer};
 use crate::random::Random;
 use crate::row;
 use crate::rust::linked;
@@ -17,9 +17,11 @@ extern "C" {
 }
 
 type Cover = unsafe extern "C" fn(u64, u64, u64) -> CoverAnswer;
+type StepCount = unsafe extern "C" fn(u64, u64, u64, u64) -> StepCountAnswer;
 type Unreadable = unsafe extern "C" fn(Record, Settings, u64) -> bool;
 
 const COVER: [Cover; 2] = [probe_cover, linked::cover];
+const STEP_COUNT: [StepCount; 2] = [nolthewyr_step_count, linked::step_count];
 const UNREADABLE: [Unreadable; 2] = [probe_unreadable, linked::unreadable];
 
 const ROUNDS: usize = 500;
@@ -32,6 +34,15 @@ fn compare_covers(random: &mut Random) {
         let (l, r) = random.window(levels.clamp(2, 12));
         let [rattle, rust] = COVER.map(|cover| unsafe { cover(levels, l, r) });
         assert_eq!(rattle, rust, "cover {levels}, [{l}, {r}): Rattle on the left, Rust on the right");
+    }
+}
+
+fn compare_step_counts(random: &mut Random) {
+    for _ in 0..COMPARED {
+        let (levels, distance) = (random.below(14), random.below(6));
+        let (l, r) = random.window(levels.clamp(2, 12));
+        let [rattle, rust] = STEP_COUNT.map(|step_count| unsafe { step_count(levels, distance, l, r) });
+        assert_eq!(rattle, rust, "steps {levels} {distance}, [{l}, {r}): Rattle on the left, Rust on the right");
     }
 }
 
@@ -68,6 +79,14 @@ fn cover_times(mix: &[Window]) -> [f64; 2] {
     })
 }
 
+fn step_count_times(mix: &[Window]) -> [f64; 2] {
+    black_box(STEP_COUNT).map(|step_count| {
+        time_each(mix, |(l, r)| {
+            black_box(unsafe { step_count(SETTINGS.levels, SETTINGS.distance, l, r) });
+        })
+    })
+}
+
 fn test_times(mix: &[Client]) -> [f64; 2] {
     black_box(UNREADABLE).map(|unreadable| {
         time_each(mix, |Client { clock, record }| {
@@ -85,18 +104,20 @@ fn mixes<T: Clone>(of: impl Fn(Window) -> Vec<T>) -> Vec<(&'static str, Vec<T>)>
 }
 
 pub fn measure() {
-    let covers = mixes(|window| vec![window]);
+    let windows = mixes(|window| vec![window]);
     let tests = mixes(clients);
     compare_covers(&mut Random(1));
     compare_tests(&mut Random(2), &tests[WINDOWS.len()].1);
+    compare_step_counts(&mut Random(3));
     let times = best(ROUNDS, || {
-        let covers = covers.iter().flat_map(|(_, mix)| cover_times(mix));
+        let covers = windows.iter().flat_map(|(_, mix)| cover_times(mix));
+        let step_counts = windows.iter().flat_map(|(_, mix)| step_count_times(mix));
         let tests = tests.iter().flat_map(|(_, mix)| test_times(mix));
-        covers.chain(tests).collect()
+        covers.chain(step_counts).chain(tests).collect()
     });
-    let covers = covers.iter().map(|(name, _)| ("cover", *name));
+    let of_windows = ["cover", "step count"].into_iter().flat_map(|call| windows.iter().map(move |(name, _)| (call, *name)));
     let tests = tests.iter().map(|(name, _)| ("unreadable, each record of the window", *name));
-    let rows = covers.chain(tests).zip(times.chunks(2)).map(|((call, name), times)| {
+    let rows = of_windows.chain(tests).zip(times.chunks(2)).map(|((call, name), times)| {
         let (rattle, rust) = (times[0], times[1]);
         let ratio = rattle / rust;
         row!["{call}", "{name}", "{rattle:.1}", "{rust:.1}", "{ratio:.2}"]

@@ -125,6 +125,16 @@ static void take(uint64_t client, uint64_t left, uint64_t right)
     printf("client %" PRIu64 " holds [%" PRIu64 ", %" PRIu64 ") at %" PRIu64 "\n", client, left, right, now);
 }
 
+/* Says before the client asks how many steps the window needs if nobody is in its way. Levels and distance are enough to know. A window
+ * with an inner node takes more of them here, since this program goes on stepping while the client waits. */
+static void say_steps(uint64_t client, uint64_t left, uint64_t right)
+{
+    nolthewyr_step_count_answer answer = nolthewyr_step_count(settings.levels, settings.distance, left, right);
+    accepted(answer.number);
+    printf("client %" PRIu64 " needs %" PRIu64 " steps for [%" PRIu64 ", %" PRIu64 ") if nobody is in its way\n", client,
+           answer.steps, left, right);
+}
+
 int main(int argc, char **argv)
 {
     if (argc > 1)
@@ -134,7 +144,9 @@ int main(int argc, char **argv)
     if (words == NULL)
         return EXIT_FAILURE;
     accepted(nolthewyr_open(clients, CLIENTS, words, count, settings));
+    say_steps(0, 10, 20);
     take(0, 10, 20);
+    say_steps(1, 15, 30);
     take(1, 15, 30);
     show_planners();
     release(1);

@@ -3,7 +3,7 @@ take.py [LEVELS]: the tree has 3 levels, or as many as are said."""
 
 import sys
 
-from nolthewyr import Phase, Refused, Settings, Table, outcome_text, phase_text
+from nolthewyr import Phase, Refused, Settings, Table, outcome_text, phase_text, step_count
 
 # Longer than a claim takes: from its first climb to its last notice at most 23 steps.
 WAIT = 30
@@ -86,9 +86,18 @@ class Clients:
         print(f"client {client} holds [{left}, {right}) at {self.now}")
 
 
-def run(table):
+def say_steps(settings, client, left, right):
+    """Says before the client asks how many steps the window needs if nobody is in its way. Levels and distance are enough to know. A window
+    with an inner node takes more of them here, since this program goes on stepping while the client waits."""
+    steps = step_count(settings.levels, settings.distance, left, right)
+    print(f"client {client} needs {steps} steps for [{left}, {right}) if nobody is in its way")
+
+
+def run(settings, table):
     clients = Clients(table)
+    say_steps(settings, 0, 10, 20)
     clients.take(0, 10, 20)
+    say_steps(settings, 1, 15, 30)
     clients.take(1, 15, 30)
     clients.show_planners()
     clients.release(1)
@@ -96,8 +105,9 @@ def run(table):
 
 def main():
     levels = int(sys.argv[1]) if len(sys.argv) > 1 else 3
+    settings = Settings(levels, distance=2, wait=WAIT, patience=PATIENCE)
     try:
-        run(Table(Settings(levels, distance=2, wait=WAIT, patience=PATIENCE), clients=2))
+        run(settings, Table(settings, clients=2))
     except Refused as refused:
         sys.exit(str(refused))
 

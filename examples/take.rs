@@ -1,7 +1,7 @@
 //! Client 0 takes [10, 20) and works. Client 1 wants [15, 30): it gives up, pauses, asks anew, and has it once client 0 has released.
 //! take [LEVELS]: the tree has 3 levels, or as many as are said.
 
-use nolthewyr::{Cause, Phase, Record, Settings, Table};
+use nolthewyr::{step_count, Cause, Phase, Record, Settings, Table};
 use std::process::exit;
 
 /// Longer than a claim takes: from its first climb to its last notice at most 23 steps.
@@ -112,10 +112,20 @@ impl Clients {
     }
 }
 
+/// Says before the client asks how many steps the window needs if nobody is in its way. Levels and distance are enough to know. A window
+/// with an inner node takes more of them here, since this program goes on stepping while the client waits.
+fn say_steps(settings: Settings, client: usize, left: u64, right: u64) -> Result<(), Cause> {
+    let steps = step_count(settings.levels, settings.distance, left, right)?;
+    println!("client {client} needs {steps} steps for [{left}, {right}) if nobody is in its way");
+    Ok(())
+}
+
 fn run(levels: u64) -> Result<(), Cause> {
-    let table = Table::open(Settings { levels, distance: 2, wait: WAIT, patience: PATIENCE }, 2)?;
-    let mut clients = Clients { table, now: 0, state: 88172645463325252 };
+    let settings = Settings { levels, distance: 2, wait: WAIT, patience: PATIENCE };
+    let mut clients = Clients { table: Table::open(settings, 2)?, now: 0, state: 88172645463325252 };
+    say_steps(settings, 0, 10, 20)?;
     clients.take(0, 10, 20)?;
+    say_steps(settings, 1, 15, 30)?;
     clients.take(1, 15, 30)?;
     clients.show_planners()?;
     clients.release(1)

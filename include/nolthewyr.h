@@ -27,7 +27,7 @@ extern "C" {
 
 /* The version of this header. Structs grow between versions: a program goes with a library whose first two numbers are the same, and
  * whose third, which grows with new functions, is not lower if the program calls one of these. */
-#define NOLTHEWYR_VERSION "0.3.0"
+#define NOLTHEWYR_VERSION "0.4.0"
 
 /* Where a client is. It holds its window exactly while its phase is 9. */
 enum nolthewyr_phase {
@@ -119,8 +119,14 @@ typedef struct nolthewyr_cover_answer {
     uint64_t over;
 } nolthewyr_cover_answer;
 
-/* What planners see of a client: its phase, its window [left, right), the nodes of it (second 0 for none), and how many units these have
- * beyond it; all 0 for an idle client. */
+/* The number, and how many steps a window needs; 0 in a refused answer. */
+typedef struct nolthewyr_step_count_answer {
+    uint64_t number;
+    uint64_t steps;
+} nolthewyr_step_count_answer;
+
+/* What planners see of a client: its phase, its window [left, right), the nodes of it (second 0 for none), how many units these have
+ * beyond it, and how many steps the window needs with nobody in its way, whatever the phase; all 0 for an idle client. */
 typedef struct nolthewyr_row {
     uint64_t phase;
     uint64_t left;
@@ -128,6 +134,7 @@ typedef struct nolthewyr_row {
     uint64_t first;
     uint64_t second;
     uint64_t over;
+    uint64_t steps;
 } nolthewyr_row;
 
 /* What a forecast run sees: the number, its own record, and how many clients are in phase 9; the last two all 0 in a refused answer. */
@@ -173,6 +180,10 @@ nolthewyr_run_page_answer nolthewyr_run_page(const nolthewyr_client *clients, si
 
 /* The nodes that a request for [left, right) would take. Tests the levels, then the window. */
 nolthewyr_cover_answer nolthewyr_cover(uint64_t levels, uint64_t left, uint64_t right);
+
+/* How many accepted steps [left, right) needs from its request until it is held, with nobody else in the tree: if each wait is over before
+ * it is stepped, no claim is late and patience does not run out. Tests the levels and the distance, then the window. */
+nolthewyr_step_count_answer nolthewyr_step_count(uint64_t levels, uint64_t distance, uint64_t left, uint64_t right);
 
 /* A number in plain words. Each has a text, an unknown one too. Causes 10 and 11 are those of the programs rangelog and rangepages. */
 const char *nolthewyr_phase_text(uint64_t number);

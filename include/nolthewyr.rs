@@ -98,6 +98,13 @@ pub fn cover(levels: u64, left: u64, right: u64) -> Result<CoverAnswer, Cause> {
     accepted(answer.number).map(|()| answer)
 }
 
+/// How many accepted steps [left, right) needs from its request until it is held, with nobody else in the tree: if each wait is over
+/// before it is stepped, no claim is late and patience does not run out.
+pub fn step_count(levels: u64, distance: u64, left: u64, right: u64) -> Result<u64, Cause> {
+    let answer = nolthewyr_step_count(levels, distance, left, right);
+    accepted(answer.number).map(|()| answer.steps)
+}
+
 /// How many words a tree of so many levels has; 0 for levels that no tree has.
 pub use linked::nolthewyr_word_count as word_count;
 

@@ -88,6 +88,13 @@ pub struct CoverAnswer {
 
 #[repr(C)]
 #[derive(Clone, Copy, Debug, Default, PartialEq)]
+pub struct StepCountAnswer {
+    pub number: u64,
+    pub steps: u64,
+}
+
+#[repr(C)]
+#[derive(Clone, Copy, Debug, Default, PartialEq)]
 pub struct Row {
     pub phase: Phase,
     pub left: u64,
@@ -95,6 +102,7 @@ pub struct Row {
     pub first: u64,
     pub second: u64,
     pub over: u64,
+    pub steps: u64,
 }
 
 #[repr(C)]
@@ -121,6 +129,7 @@ unsafe extern "C" {
     pub fn nolthewyr_planners_page(clients: *const Client, client_count: usize, rows: *mut Row, row_count: usize, settings: Settings) -> u64;
     pub fn nolthewyr_run_page(clients: *const Client, client_count: usize, settings: Settings, client: u64) -> RunPageAnswer;
     pub safe fn nolthewyr_cover(levels: u64, left: u64, right: u64) -> CoverAnswer;
+    pub safe fn nolthewyr_step_count(levels: u64, distance: u64, left: u64, right: u64) -> StepCountAnswer;
     pub safe fn nolthewyr_word_count(levels: u64) -> u64;
     pub safe fn nolthewyr_phase_text(number: u64) -> *const c_char;
     pub safe fn nolthewyr_outcome_text(number: u64) -> *const c_char;

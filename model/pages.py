@@ -1,5 +1,6 @@
 """Request 2.1 of document 02, "One log, two readers": the page that planners get of a lent table, the page that a forecast run gets
-of it, and what the program `rangepages` prints. The last clock of a client's record is its own (2.3), and no page has it.
+of it, and what the program `rangepages` prints. The last clock of a client's record is its own (2.3), and no page has it. "The planners' page
+gains" the step count (2.4), at the end of a row.
 
 `python3 -m model.pages < file` writes what the model gives.
 """
@@ -7,7 +8,7 @@ of it, and what the program `rangepages` prints. The last clock of a client's re
 import sys
 from typing import NamedTuple
 
-from model import cover
+from model import cover, step_count
 from model import record as fields
 from model import schedule as schedules
 from model.calls import client_unreadable, settings_outside
@@ -16,7 +17,7 @@ from model.table import clients_outside
 
 
 class Row(NamedTuple):
-    """A client's phase, edges, pieces (0 for none) and over-cover."""
+    """A client's phase, edges, pieces (0 for none) and over-cover, and how many steps its window needs on an otherwise idle tree."""
 
     phase: int = 0
     left: int = 0
@@ -24,6 +25,7 @@ class Row(NamedTuple):
     first: int = 0
     second: int = 0
     over: int = 0
+    steps: int = 0
 
 
 class RunPage(NamedTuple):
@@ -39,11 +41,16 @@ def over_cover(settings, record):
     return sum(cover.over_cover(settings.levels, n, record.left, record.right) for n in fields.pieces(record))
 
 
+def steps(settings, record):
+    """The step count of the record's window, whatever its phase."""
+    return step_count.kept_steps(settings.levels, settings.distance, record.left, record.right)
+
+
 def row(settings, record):
     """A client's row, all zero for an idle one."""
     if record.phase == 0:
         return Row()
-    return Row(record.phase, record.left, record.right, record.first, record.second, over_cover(settings, record))
+    return Row(record.phase, record.left, record.right, record.first, record.second, over_cover(settings, record), steps(settings, record))
 
 
 def planners_refused(settings, clients, rows):

@@ -4,7 +4,7 @@
     table.request(0, 10, 20)            # client, left edge, right edge
     table.step(0, clock)                # by its own clock, until it gives Phase.HELD; or Phase.IDLE, and it asks again
     table.release(0)                    # and steps until it is Phase.IDLE
-    table.planners_page()               # a row for each client: phase, window, nodes and over-cover
+    table.planners_page()               # a row for each client: phase, window, nodes, over-cover and steps needed
     table.run_page(0)                   # what client 0 may see: its own record, and how many clients hold
 
 A refused call raises `Refused`. examples/take.py has the whole of it, with what to do if the window cannot be had.
@@ -18,8 +18,8 @@ from threading import RLock
 
 # All that a program names is found here, whichever of the two files has it.
 from nolthewyr_linked import (
-    FUNCTIONS, LEAST, SERIES, Call, Cause, Client, CoverAnswer, Outcome, Phase, Record, Row, RunPageAnswer, Settings, fitting, library,
-    library_file)
+    FUNCTIONS, LEAST, SERIES, Call, Cause, Client, CoverAnswer, Outcome, Phase, Record, Row, RunPageAnswer, Settings, StepCountAnswer,
+    fitting, library, library_file)
 
 TOO_MANY_CLIENTS = 32768
 
@@ -110,6 +110,12 @@ class Table:
 def cover(levels, left, right):
     """The nodes that a request for [left, right) would take."""
     return accepted_answer(library().nolthewyr_cover(fitting(levels), fitting(left), fitting(right)))
+
+
+def step_count(levels, distance, left, right):
+    """How many accepted steps [left, right) needs from its request until it is held, with nobody else in the tree: if each wait is over
+    before it is stepped, no claim is late and patience does not run out."""
+    return accepted_answer(library().nolthewyr_step_count(*map(fitting, (levels, distance, left, right)))).steps
 
 
 def word_count(levels):

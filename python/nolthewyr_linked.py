@@ -10,7 +10,7 @@ from functools import lru_cache
 from pathlib import Path
 
 # Structs grow between versions, and functions come with the third number: a library of another series, or of a lower version, is not used.
-SERIES = "0.3"
+SERIES = "0.4"
 LEAST = 0
 FILE = f"libnolthewyr.so.{SERIES}"
 
@@ -79,11 +79,17 @@ class CoverAnswer(Numbers):
     _fields_ = numbers("number first second over")
 
 
-class Row(Numbers):
-    """What planners see of a client: its phase, its window [left, right), the nodes of it (second 0 for none) and how many units these have
-    beyond it; all 0 for an idle client."""
+class StepCountAnswer(Numbers):
+    """How many steps a window needs."""
 
-    _fields_ = numbers("phase left right first second over")
+    _fields_ = numbers("number steps")
+
+
+class Row(Numbers):
+    """What planners see of a client: its phase, its window [left, right), the nodes of it (second 0 for none), how many units these have
+    beyond it, and how many steps the window needs with nobody in its way, whatever the phase; all 0 for an idle client."""
+
+    _fields_ = numbers("phase left right first second over steps")
 
 
 class RunPageAnswer(Fields):
@@ -99,6 +105,7 @@ FUNCTIONS = {
     "planners_page": ((POINTER(Client), c_size_t, POINTER(Row), c_size_t, Settings), c_uint64),
     "run_page": ((POINTER(Client), c_size_t, Settings, c_uint64), RunPageAnswer),
     "cover": ((c_uint64, c_uint64, c_uint64), CoverAnswer),
+    "step_count": ((c_uint64, c_uint64, c_uint64, c_uint64), StepCountAnswer),
     "word_count": ((c_uint64,), c_uint64),
     **{f"{name}_text": ((c_uint64,), c_char_p) for name in ("phase", "outcome", "cause")},
     "version": ((), c_char_p),

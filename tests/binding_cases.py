@@ -1,5 +1,5 @@
 """Cases for the tables that own their memory, in Python and in Rust: openings that must be refused whatever their numbers, random
-histories held to the model call by call and page by page, covers and word counts."""
+histories held to the model call by call and page by page, covers, step counts and word counts."""
 
 import subprocess
 from functools import lru_cache
@@ -13,6 +13,7 @@ from linking_cases import RUST
 from model import cover, pages, tree
 from model.history import Opened
 from model.record import IDLE_CLIENT, Settings
+from model.step_count import step_count
 from name_cases import ENUMERATIONS, TOP, UNKNOWN
 
 NAMES["opening of a table"] = ("language", "levels", "distance", "wait", "patience", "clients"), ("number",)
@@ -20,6 +21,7 @@ NAMES["call on a table"] = ("language", "history", "call"), ("number", "the clie
 NAMES["outcome of the histories"] = ("outcome",), ("occurs",)
 NAMES["steps below another client's clock"] = (), ("occur",)
 NAMES["asked of the levels"] = ("language", "levels", "left", "right"), ("number", "first", "second", "over-cover")
+NAMES["step count by a binding"] = ("language", "levels", "distance", "left", "right"), ("number", "steps")
 NAMES["word count"] = ("language", "levels"), ("words",)
 NAMES["text in Rust"] = ("enumeration", "number"), ("that of the library",)
 
@@ -37,6 +39,7 @@ OPENINGS = {
     (12, TOP, TOP, TOP, TOP): 1, (TOP, TOP, TOP, TOP, 0): 1,
     (2, 1, 5, 9, 0): 3, (2, 1, 5, 9, 32768): 3, (12, 4, 9, 1, 2 ** 32 + 1): 3, (2, 1, 5, 9, 2 ** 63): 3, (2, 1, 5, 9, TOP): 3,
 }
+SOME_LEVELS = 0, 1, 2, 3, 6, 12, 13, TOP
 WINDOWS = (60, 70), (0, 129), (10, 300), (100, 700), (0, 1024), (0, 1025), (5, 5), (5, 4), (TOP, 0), (0, TOP), (10, 20)
 
 
@@ -175,7 +178,7 @@ def python_cover(*asked):
 def asked_of_levels():
     """The cover of a window and the count of words, of trees that there are and of others."""
     library()
-    for levels in (0, 1, 2, 3, 6, 12, 13, TOP):
+    for levels in SOME_LEVELS:
         words = tree.node_count(levels) if levels in tree.LEVELS else 0
         answers = iter(numbers_of_rust([("word_count", levels), *(("cover", levels, *window) for window in WINDOWS)]))
         yield case("word count", [0, levels], words), nolthewyr.word_count(levels)
@@ -184,6 +187,22 @@ def asked_of_levels():
             expected = tuple(cover.cover(levels, *window))
             yield case("asked of the levels", [0, levels, *window], expected), python_cover(levels, *window)
             yield case("asked of the levels", [1, levels, *window], expected), next(answers)
+
+
+def python_step_count(*asked):
+    """The number that a step count raises, 0 if none, and the steps if there are any."""
+    number = refused(nolthewyr.step_count, *asked)
+    return number, 0 if number else nolthewyr.step_count(*asked)
+
+
+def step_counts():
+    """How many steps a window needs, at distances that there are and at others: the number and the steps are the model's."""
+    library()
+    asked = [(levels, distance, *window) for levels in SOME_LEVELS for distance in (0, 1, 2, 3, 4, 5, TOP) for window in WINDOWS]
+    for each, by_rust in zip(asked, numbers_of_rust([("step_count", *each) for each in asked]), strict=True):
+        expected = tuple(step_count(*each))
+        yield case("step count by a binding", [0, *each], expected), python_step_count(*each)
+        yield case("step count by a binding", [1, *each], expected), by_rust
 
 
 def texts_in_rust():
@@ -200,5 +219,6 @@ SUITES = {
     "bindings, an opening is refused by its number on little memory": openings,
     "bindings, calls and pages of random histories in Python and in Rust": calls_of_histories,
     "bindings, covers and word counts": asked_of_levels,
+    "bindings, step counts": step_counts,
     "bindings, texts in Rust are the library's": texts_in_rust,
 }

@@ -1,15 +1,16 @@
-"""Pages broken on purpose: one sentence of request 2.1 read wrongly, in the pages of a lent table or in what `rangepages` prints of them.
-Lent tables and files must find each of them out."""
+"""Pages broken on purpose: one sentence of request 2.1 or 2.4 read wrongly, in the pages of a lent table. Lent tables and files must find
+each of them out."""
 
 from unittest.mock import patch
 
-from model import cover, pages, schedule, table, tree
+from broken_step_counts import COUNTS
+from model import cover, pages, step_count, table, tree
 from model.calls import client_unreadable, settings_outside
 from model.record import IDLE
 from model.record import pieces as pieces_of
 
-lines, planners_page, planners_refused, row, run_page, run_refused = (
-    pages.lines, pages.planners_page, pages.planners_refused, pages.row, pages.run_page, pages.run_refused)
+planners_page, planners_refused, row, run_page, run_refused, steps = (
+    pages.planners_page, pages.planners_refused, pages.row, pages.run_page, pages.run_refused, pages.steps)
 
 
 def charged_for_a_leaf(settings, record):
@@ -21,6 +22,27 @@ def charged_for_a_leaf(settings, record):
 def of_first_piece(settings, record):
     """The over-cover of the first piece alone."""
     return cover.over_cover(settings.levels, record.first, record.left, record.right)
+
+
+def counted_by(count):
+    """The step count of the record's window by another count."""
+    return lambda settings, record: count(settings.levels, settings.distance, record.left, record.right)
+
+
+def steps_in(phases):
+    """A step count in these phases only."""
+    return lambda settings, record: steps(settings, record) if record.phase in phases else 0
+
+
+def of_current_piece(settings, record):
+    """The step count of the range of the current piece alone."""
+    left, right = tree.node_range(settings.levels, pieces_of(record)[record.current])
+    return step_count.kept_steps(settings.levels, settings.distance, max(left, record.left), min(right, record.right))
+
+
+def idle_with_a_step(settings, record):
+    """The row of an idle client with a step count."""
+    return row(settings, record) if record.phase else pages.Row(steps=1)
 
 
 def three_before_two(settings, clients, rows):
@@ -152,6 +174,12 @@ IN_HISTORIES = {
     "over-cover charged for a leaf": in_place("over_cover", charged_for_a_leaf),
     "the over-cover of the first piece alone": in_place("over_cover", of_first_piece),
     "no over-cover": in_place("over_cover", lambda settings, record: 0),
+    **{f"in a row {name}": in_place("steps", counted_by(count)) for name, count in COUNTS.items()},
+    "the steps of the current piece alone": in_place("steps", of_current_piece),
+    "no step count": in_place("steps", steps_in(())),
+    "no step count of a window that is held": in_place("steps", steps_in({*range(9), 10})),
+    "no step count of a window that is given back": in_place("steps", steps_in(range(10))),
+    "a step count of an idle client": in_place("row", idle_with_a_step),
     "no second piece": in_place("row", lambda settings, record: row(settings, record)._replace(second=0)),
     "a row only for who holds": in_place("row", lambda settings, record: row(settings, record if record.phase == 9 else IDLE)),
     "clients that give back counted": in_place("held_count", counted(range(9, 2 ** 64))),
@@ -180,65 +208,4 @@ RULES = IN_HISTORIES | {
     "a count of 8 bits": in_place("held_count", lambda clients: counted({9})(clients) % 256),
     "a count that 32,767 brings back to 0": in_place("held_count", lambda clients: counted({9})(clients) % 32767),
     "the settings not tested": in_place("settings_outside", lambda settings: False),
-}
-
-
-def halves(read, opened):
-    """The planners' lines, and the runs'."""
-    printed = list(lines(read, opened))
-    return printed[:read.clients], printed[read.clients:]
-
-
-def with_header_line(read, opened):
-    yield schedule.header_line(read)
-    yield from lines(read, opened)
-
-
-def runs_first(read, opened):
-    planners, runs = halves(read, opened)
-    return runs + planners
-
-
-def client_by_client(read, opened):
-    """Each client's row with its record behind it."""
-    return (line for pair in zip(*halves(read, opened)) for line in pair)
-
-
-def words_changed(change):
-    """The words of a run's line changed: its client, the record's fields and the count."""
-    def changed(read, opened):
-        planners, runs = halves(read, opened)
-        return planners + [pages.line(*change(line.split())) for line in runs]
-    return changed
-
-
-def idle_left_out(read, opened):
-    return (line for line in lines(read, opened) if set(line.split()[1:]) != {"0"})
-
-
-def before_the_last_call(read, opened):
-    return lines(read._replace(calls=read.calls[:-1]), opened)
-
-
-def from_1(read, opened):
-    for line in lines(read, opened):
-        client, *rest = line.split()
-        yield pages.line(int(client) + 1, *rest)
-
-
-# What `rangepages` prints, broken.
-PRINTED = {
-    "a header line": in_place("lines", with_header_line),
-    "the runs' lines first": in_place("lines", runs_first),
-    "client by client": in_place("lines", client_by_client),
-    "no count": in_place("lines", words_changed(lambda words: words[:-1])),
-    "the count before the record": in_place("lines", words_changed(lambda words: [words[0], words[-1], *words[1:-1]])),
-    "t0 before t1": in_place("lines", words_changed(lambda words: [*words[:-4], words[-3], words[-4], *words[-2:]])),
-    "the third time before t0": in_place("lines", words_changed(lambda words: [*words[:-3], words[-2], words[-3], words[-1]])),
-    "the third time behind the count": in_place("lines", words_changed(lambda words: [*words[:-2], words[-1], words[-2]])),
-    "the third time left out": in_place("lines", words_changed(lambda words: [*words[:-2], words[-1]])),
-    "no outcome": in_place("lines", words_changed(lambda words: [*words[:2], *words[3:]])),
-    "idle clients left out": in_place("lines", idle_left_out),
-    "the last call not made": in_place("lines", before_the_last_call),
-    "clients numbered from 1": in_place("lines", from_1),
 }

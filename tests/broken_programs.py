@@ -1,5 +1,5 @@
-"""Programs broken on purpose: the model with one sentence of "The schedule program" or of request 2.1, 2.2 or 2.3 read wrongly, or one
-rule of the lock broken. The files must find each of them out."""
+"""Programs broken on purpose: the model with one sentence of "The schedule program" or of request 2.1 to 2.4 read wrongly, or one rule of
+the lock broken. The files must find each of them out."""
 
 from collections import ChainMap
 from contextlib import contextmanager
@@ -7,10 +7,11 @@ from struct import Struct
 from unittest.mock import patch
 
 import broken_clocks
+import broken_page_lines
 import broken_pages
 import broken_patience
 import broken_rules
-from model import schedule
+from model import schedule, step_count
 from model.history import KINDS, Call
 from model.record import IDLE, Settings
 from model.schedule import CALL, HEADER, Schedule, header_of
@@ -181,22 +182,25 @@ LOGS = {
 }
 
 
+def rule_broken(name):
+    if name in broken_rules.RULES:
+        return broken_rules.broken(name)
+    others = broken_pages.RULES, broken_page_lines.PRINTED, broken_patience.RULES, broken_clocks.RULES
+    return ChainMap(READING, LOGS, *others)[name]()
+
+
 @contextmanager
 def broken(name):
-    """The model prints what the broken program does while this lasts."""
-    if name in broken_rules.RULES:
-        with broken_rules.broken(name):
-            yield
-    else:
-        others = broken_pages.RULES, broken_pages.PRINTED, broken_patience.RULES, broken_clocks.RULES
-        with ChainMap(READING, LOGS, *others)[name]():
-            yield
+    """The model prints what the broken program does while this lasts. Step counts stay as they were counted before, since a program works them
+    out and makes no run for them; those that are counted meanwhile are forgotten."""
+    with patch.dict(step_count.KEPT), rule_broken(name):
+        yield
 
 
 # The broken programs that each program's files must find out.
 BROKEN = {
     "rangelog": [*READING, *LOGS, *broken_rules.RULES, *broken_patience.IN_LOGS, *broken_clocks.IN_LOGS],
     "rangepages": [
-        *READING, *broken_pages.PRINTED, *broken_pages.IN_HISTORIES, *broken_rules.RULES, *broken_patience.IN_PAGES,
+        *READING, *broken_page_lines.PRINTED, *broken_pages.IN_HISTORIES, *broken_rules.RULES, *broken_patience.IN_PAGES,
         *broken_clocks.IN_PAGES],
 }

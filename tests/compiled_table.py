@@ -3,7 +3,7 @@ as a test wants them."""
 
 import os
 import sys
-from ctypes import c_uint64
+from ctypes import Array, c_uint64
 from functools import lru_cache
 
 from compare import unlike
@@ -24,6 +24,16 @@ def library():
     return nolthewyr.library()
 
 
+def cover(levels, left, right):
+    """The compiled cover: its number, the pieces and the over-cover."""
+    return tuple(library().nolthewyr_cover(levels, left, right))
+
+
+def step_count(levels, distance, left, right):
+    """The compiled step count: its number, and the steps."""
+    return tuple(library().nolthewyr_step_count(levels, distance, left, right))
+
+
 def clients_unlike(mine, others):
     """How many clocks and how many records of two tables differ."""
     clocks = ([client.clock for client in table] for table in (mine, others))
@@ -35,8 +45,9 @@ class Table:
     """Words and clients lent to the compiled calls. It can be driven and watched like the model's opened table."""
 
     def __init__(self, settings, words, clients):
+        """Lends a list of words, or memory that has them already."""
         self.settings, self.history = settings, []
-        self.words = (c_uint64 * len(words))(*words)
+        self.words = words if isinstance(words, Array) else (c_uint64 * len(words))(*words)
         self.clients = (nolthewyr.Client * len(clients))(*((client.clock, tuple(client.record)) for client in clients))
         self.lent = self.clients, len(clients), self.words, len(words), nolthewyr.Settings(*settings)
 

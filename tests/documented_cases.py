@@ -11,7 +11,7 @@ from programs import PROGRAMS
 
 DOCUMENTS = "README.md", "docs/SCHEDULES.md", "docs/WAITING.md"
 LINKED = "tools", "schedules", "target", "python", "bench"
-COMMAND = re.compile(r"^    ((?:head [^|\n]*\| )?(?:tools/schedule|target/bin/range\w+) [^#\n]*?) *(?:#.*)?$", re.MULTILINE)
+COMMAND = re.compile(r"^    ((?:(?:head|printf) [^|\n]*\| )?(?:tools/schedule|target/bin/range\w+) [^#\n]*?) *(?:#.*)?$", re.MULTILINE)
 
 NAMES["command in a document"] = ("document", "place"), ("exit status", "bytes on standard error")
 NAMES["page of the whole case"] = (), ("as docs/whole-case.html",)

@@ -1,4 +1,4 @@
-"""What the examples must print: examples/take.py run on a table that the model makes."""
+"""What the examples must print: examples/take.py run on a table that the model makes, with the model's step count."""
 
 import sys
 from contextlib import redirect_stdout
@@ -10,9 +10,17 @@ from compiled_table import library
 from library import ROOT
 from model.binding import ModelTable
 from model.record import Settings
+from model.step_count import step_count
 
 DISTANCE = 2
 CLIENTS = 2
+
+
+def steps_by_model(*asked):
+    """The step count of the model, as the binding gives it."""
+    number, steps = step_count(*asked)
+    assert number == 0
+    return steps
 
 
 @lru_cache(maxsize=None)
@@ -22,13 +30,14 @@ def example():
     spec = spec_from_file_location("take", ROOT / "examples" / "take.py")
     module = module_from_spec(spec)
     spec.loader.exec_module(module)
+    module.step_count = steps_by_model
     return module
 
 
 @lru_cache(maxsize=None)
 def lines(levels):
     library()
-    written = StringIO()
+    written, settings = StringIO(), Settings(levels, DISTANCE, example().WAIT, example().PATIENCE)
     with redirect_stdout(written):
-        example().run(ModelTable(Settings(levels, DISTANCE, example().WAIT, example().PATIENCE), CLIENTS))
+        example().run(settings, ModelTable(settings, CLIENTS))
     return written.getvalue().splitlines()

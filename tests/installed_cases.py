@@ -29,7 +29,7 @@ RUST_FILES = "nolthewyr.rs", "nolthewyr_linked.rs"
 PYTHON_FILES = "nolthewyr.py", "nolthewyr_linked.py"
 # Versions that the Python files do not use, each with the least third number that they ask for: of other series, the one before among them,
 # one without a third number, and a lower one.
-OTHER_VERSIONS = {"0.2.0": 0, "0.4.0": 0, "1.3.0": 0, "0.30.0": 0, "0.3.x": 0, "0.3.1": 2}
+OTHER_VERSIONS = {"0.3.0": 0, "0.5.0": 0, "1.4.0": 0, "0.40.0": 0, "0.4.x": 0, "0.4.1": 2}
 
 
 def compared(name, before, expected, found):
@@ -49,7 +49,7 @@ def example_lines():
 
 def documented_lines():
     """docs/LINKING.md shows what the examples print."""
-    [shown] = re.findall(r"```text\n(client 0 holds.*?)```", DOCUMENT.read_text(), re.DOTALL)
+    [shown] = re.findall(r"```text\n(client 0 needs.*?)```", DOCUMENT.read_text(), re.DOTALL)
     return compared("documented line", [], lines(LEVELS[0]), shown.splitlines())
 
 

@@ -23,7 +23,8 @@ TEXTS = ROOT / "library" / "texts.c"
 # Each struct of the header, and the crate and the name that it has in the Rattle source.
 STRUCTS = {
     "settings": ("lock", "Settings"), "record": ("lock", "Record"), "client": ("lock", "Client"), "call": ("lock", "Call"),
-    "cover_answer": ("cover", "Answer"), "row": ("pages", "Row"), "run_page_answer": ("pages", "RunPage"),
+    "cover_answer": ("cover", "Answer"), "step_count_answer": ("lock", "StepCount"), "row": ("pages", "Row"),
+    "run_page_answer": ("pages", "RunPage"),
 }
 # The crates whose exported functions are linked.
 LINKED = "table", "pages"
@@ -32,7 +33,7 @@ LINKED = "table", "pages"
 # it is linked.
 LENGTHS = {"clients": "client_count", "words": "word_count", "rows": "row_count"}
 C_TYPES = {"uint64_t": "u64", "size_t": "usize", "char": "c_char"}
-ANSWERS = {"cover::Answer": "CoverAnswer", "RunPage": "RunPageAnswer"}
+ANSWERS = {"cover::Answer": "CoverAnswer", "lock::StepCount": "StepCountAnswer", "RunPage": "RunPageAnswer"}
 
 
 def title(name):

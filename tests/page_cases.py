@@ -1,7 +1,9 @@
 """Cases for the compiled pages of a lent table, the planners' and a forecast run's: held to the model in the middle of histories and on
-tables of any content, refused in order of testing, and the same for a run whatever the other records and clocks say."""
+tables of any content, refused in order of testing, with the step counts of the call, and the same for a run whatever the other records and
+clocks say."""
 
 from collections import Counter
+from itertools import chain
 from random import Random
 
 import lent_tables
@@ -9,7 +11,7 @@ from broken_clocks import PAGES
 from broken_pages import RULES
 from broken_rules import by_broken
 from compare import NAMES, case, unlike
-from compiled_table import Table
+from compiled_table import Table, step_count
 from history_cases import WHOLE_CASE_SETTINGS
 from lent_tables import CAUSES, MOST, Lent, with_causes
 from model import pages
@@ -20,13 +22,15 @@ NAMES["planners' page"] = ("place", *Lent._fields[2:]), ("number", "rows unlike"
 NAMES["run's page"] = ("place", *Lent._fields[2:]), ("number", "held", "fields unlike", "clients changed")
 NAMES["page's refusal"] = ("page", "causes taken away", "clients"), ("number", "number by the model")
 NAMES["pages of the whole case"] = ("client", "by"), ("row as written down", "record as written down", "held")
+NAMES["steps in a row"] = ("place", "client", "phase"), ("steps",)
+NAMES["phase of a row with steps"] = ("phase",), ("occurs",)
 NAMES["page with other clients"] = ("seed",), ("pages that differ",)
 NAMES["accepted pages with other clients"] = (), ("enough of them",)
 NAMES["page occurs"] = ("place in the list of what must occur",), ("occurs",)
 NAMES["broken page"] = ("place in the list of broken rules",), ("found out",)
 
 # What stands in the rows before, and in rows that are not lent.
-MARK = Row(*range(101, 107))
+MARK = Row(*range(101, 101 + len(Row._fields)))
 BEYOND = 2
 # So many pages that are compared with those beside other clients must not be refused.
 ENOUGH_ACCEPTED = 500
@@ -86,9 +90,10 @@ def refused_tables():
 
 
 # After the last call of the whole case client 0 is idle with outcome 1. Client 1 holds [0, 256) by the root, of which nothing is beyond it,
-# with Occ as its grip, ticket 0 and no notices, claimed at 3 and taken at 10. It is the only one in phase 9. The last clocks are 9 and 10.
+# with Occ as its grip, ticket 0 and no notices, claimed at 3 and taken at 10. It is the only one in phase 9. The last clocks are 9 and 10. The
+# root alone needs five steps: ticket, turn, claim, wait and check.
 WHOLE_CASE_CLIENTS = [Client(9, IDLE._replace(outcome=1)), Client(10, Record(phase=9, right=256, first=1, grip=3, t0=3, taken=10))]
-WHOLE_CASE_ROWS = [Row(), Row(9, 0, 256, 1, 0, 0)]
+WHOLE_CASE_ROWS = [Row(), Row(9, 0, 256, 1, 0, 0, 5)]
 
 
 def whole_case():
@@ -100,6 +105,25 @@ def whole_case():
         for by, (rows, page) in enumerate(((model_rows, model_page), (compiled_rows, compiled_page))):
             answer = int(rows[client] == WHOLE_CASE_ROWS[client]), int(page[:2] == (0, record)), page.held
             yield case("pages of the whole case", [client, by], (1, 1, 1)), answer
+
+
+def accepted_rows():
+    """The rows that compiled pages give of clients in the middle and of tables of any content: place, client and row, with H and m."""
+    for place, lent in enumerate(chain(lent_tables.in_histories(), lent_tables.of_any_content())):
+        number, rows = Table(lent.settings, [], lent.clients).planners_page([MARK] * lent.rows, lent.rows)
+        for client, row in enumerate(rows if number == 0 else ()):
+            yield place, client, row, lent.settings[:2]
+
+
+def steps_of_rows():
+    """A row has the step count that the compiled call gives of its client's window, in every phase but idle, where it is 0."""
+    phases = set()
+    for place, client, row, levels_and_distance in accepted_rows():
+        steps = step_count(*levels_and_distance, row.left, row.right)[1] if row.phase != 0 else 0
+        phases.add(row.phase)
+        yield case("steps in a row", [place, client, row.phase], steps), row.steps
+    for phase in range(11):
+        yield case("phase of a row with steps", [phase], 1), int(phase in phases)
 
 
 def other_clients(rng, lent):
@@ -186,6 +210,7 @@ SUITES = {
     "pages, the whole case": whole_case,
     "pages, refused in order of testing": refusals_in_order,
     **{f"pages, {name}": lambda tables=tables: compared(tables) for name, tables in TABLES.items()},
+    "pages, the steps in a row are those of the call": steps_of_rows,
     "pages, a run's is the same whatever the other records and clocks say": same_page,
     "pages, all that must occur does": what_occurs,
     "pages, the tables find each broken rule out": broken_rules,

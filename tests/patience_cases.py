@@ -7,11 +7,11 @@ from itertools import chain, product
 from broken_patience import RULES, broken
 from broken_rules import by_broken
 from compare import NAMES, case
+from model.fresh import Sparse
 from model.history import Call
 from model.readable import unreadable
 from patience_states import KINDS_OF_TIME, OUTCOMES, PATIENCE, met, states_and_calls, with_every_p
 from record_cases import answer, expected
-from record_states import Sparse
 
 STEPPED = ("phase", "second piece", "clock less third time")
 NAMES["step out of patience"] = STEPPED, ("number", "clock not the step's", "record unlike", "words changed")

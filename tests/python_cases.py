@@ -30,6 +30,8 @@ def numbers_that_do_not_fit():
             lambda: table.step(outside, 1), lambda: table.step(0, outside), lambda: table.release(outside), lambda: table.cancel(outside),
             lambda: table.run_page(outside),
             lambda: nolthewyr.cover(outside, 10, 20), lambda: nolthewyr.cover(2, outside, 20), lambda: nolthewyr.word_count(outside),
+            lambda: nolthewyr.step_count(outside, 1, 10, 20), lambda: nolthewyr.step_count(2, outside, 10, 20),
+            lambda: nolthewyr.step_count(2, 1, outside, 20), lambda: nolthewyr.step_count(2, 1, 10, outside),
             lambda: nolthewyr.Settings(2, outside, 5, 9), lambda: nolthewyr.Settings(levels=outside),
             lambda: nolthewyr.Settings(2, 1, 5, outside), lambda: nolthewyr.Settings(patience=outside), lambda: nolthewyr.cause_text(outside),
             lambda: nolthewyr.Table(nolthewyr.Settings(2, 1, 5, 9), outside),
@@ -98,9 +100,9 @@ def shown_by_names():
     """A struct is shown by the names of its fields, which can be gone through in order, a run's page too."""
     library()
     table = nolthewyr.Table(nolthewyr.Settings(2, 1, 5, 9), 1)
-    row = nolthewyr.Row(9, 0, 256, 1, 0, 0)
+    row = nolthewyr.Row(9, 0, 256, 1, 0, 0, 5)
     number, own, held = table.run_page(0)
-    yield case("table in Python", [4], 1), int(repr(row) == "Row(phase=9, left=0, right=256, first=1, second=0, over=0)")
+    yield case("table in Python", [4], 1), int(repr(row) == "Row(phase=9, left=0, right=256, first=1, second=0, over=0, steps=5)")
     yield case("table in Python", [5], 1), int(repr(table.run_page(0)) == f"RunPageAnswer(number=0, own={nolthewyr.Record()}, held=0)")
     yield case("table in Python", [6], 1), int((number, tuple(own), held) == (0, tuple(IDLE), 0))
 

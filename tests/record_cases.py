@@ -10,11 +10,12 @@ from histories import TOP
 from library import RECORD_ANSWER
 from model import calls, tree
 from model import record as records
+from model.fresh import Sparse
 from model.history import Call
 from model.readable import unreadable
 from model.record import Record, Settings
 from patience_states import states_and_calls, with_every_p
-from record_states import Sparse, any_clock, any_state, built_state, one_outside, perturbed, reached, windows
+from record_states import any_clock, any_state, built_state, one_outside, perturbed, reached, windows
 
 HISTORIES, CALLS = 14, 500
 BUILT, CHANGED, ANY = 9000, 7000, 3000

@@ -9,8 +9,9 @@ from clocks import first_late
 from histories import TOP, Driver
 from model import readable, tree, word
 from model import record as records
-from model.history import Call, Opened
-from model.record import IDLE, IDLE_CLIENT, Client, Record, Settings
+from model.fresh import Fresh
+from model.history import Call
+from model.record import IDLE, Client, Record, Settings
 from word_cases import random_inner
 
 SMALL_TIMES = (1, 2, 3, 5, 9)
@@ -36,22 +37,6 @@ class State(NamedTuple):
     @property
     def client(self):
         return Client(self.last, self.record)
-
-
-class Sparse:
-    """The words of a tree, nearly all of them 0: a list that keeps the others only."""
-
-    def __init__(self, count, words):
-        self.count, self.words = count, dict(words)
-
-    def __len__(self):
-        return self.count
-
-    def __getitem__(self, place):
-        return self.words.get(place + 1, 0)
-
-    def __setitem__(self, place, value):
-        self.words[place + 1] = value
 
 
 def one_outside(settings):
@@ -81,14 +66,6 @@ def windows(h):
     rng = Random(f"windows of records at {h}")
     found = [window for window in cover_cases.windows_of(h, rng) if window[0] < window[1]]
     return found[:POOL] + [short_window(rng, h) for _ in range(POOL // 2)]
-
-
-class Fresh(Opened):
-    """What an accepted opening left of a tree of any size: its words are 0 already."""
-
-    def __init__(self, settings, clients):
-        self.settings, self.words = settings, Sparse(tree.node_count(settings.levels), {})
-        self.clients, self.history = [IDLE_CLIENT] * clients, []
 
 
 def reached(rng, h, calls):

@@ -22,10 +22,11 @@ FEW_SEEDS = 40
 # The header line, and a line for each call, as the document writes them.
 WHOLE_LOG = "\n".join(["tree 2 m 1 wait 5 clients 2", *WHOLE_CASE_LINES, ""]).encode()
 
-# After the last call client 0 is idle with outcome 1, and client 1 holds the whole tree by the root, claimed at clock 3 and taken at 10.
+# After the last call client 0 is idle with outcome 1, and client 1 holds the whole tree by the root, claimed at clock 3 and taken at 10. Alone
+# it would need five steps for it.
 WHOLE_PAGES = b"""\
-0 0 0 0 0 0 0
-1 9 0 256 1 0 0
+0 0 0 0 0 0 0 0
+1 9 0 256 1 0 0 5
 0 0 1 0 0 0 0 0 0 0 0 0 0 0 0 0 1
 1 9 0 0 256 1 0 0 0 3 0 0 0 0 3 10 1
 """
@@ -58,7 +59,8 @@ def corpus(program):
 
 def shown_in_corpus():
     """The pages in tests/schedules have what only clients in the middle show: over-cover of two pieces that are held, the second piece given
-    back, each outcome while giving back and idle, 64 clients, clocks of 20 digits, and the time at which a single piece was taken."""
+    back, each outcome while giving back and idle, 64 clients, clocks of 20 digits, the time at which a single piece was taken, the step counts
+    of a window that is given back and of one that needs over 127."""
     lines = [list(map(int, line.split())) for path in CORPUS.glob("*.pages") for line in path.read_text().splitlines() if line[0].isdigit()]
     rows = [Row(*row) for _, *row in lines if len(row) == len(Row._fields)]
     records = [Record(*record[:-1]) for _, *record in lines if len(record) == len(Record._fields) + 1]
@@ -70,6 +72,8 @@ def shown_in_corpus():
         any(line[0] == 63 for line in lines),
         any(min(record.t1, record.t0, record.taken) >= 10 ** 19 for record in records),
         any(record.taken > 0 and record.current == 0 for record in records),
+        any(row.phase == 10 and row.steps for row in rows),
+        any(row.steps > 127 for row in rows),
     ]
     for place, found in enumerate(shown):
         yield case("shown in tests/schedules", [place], 1), int(found)

@@ -77,7 +77,7 @@ COMMANDS = {
                            "`/no/rangepages`\n"),
     "rangelog in place of rangepages": ("RANGEPAGES='cat whole-case.log' schedule pages whole-case.txt", 3,
                                         "schedule: line 1 that rangepages printed is `tree 2 m 1 wait 5 clients 2`, and the model says "
-                                        f"`0 0 0 0 0 0 0`: {WRONG}; RANGEPAGES in the environment is `cat whole-case.log`\n"),
+                                        f"`0 0 0 0 0 0 0 0`: {WRONG}; RANGEPAGES in the environment is `cat whole-case.log`\n"),
     "no pages": ("RANGEPAGES=true schedule pages whole-case.txt", 3,
                  "schedule: what rangepages printed is not whole: it has 0 lines, and the model's has 4; RANGEPAGES in the environment is "
                  "`true`\n"),

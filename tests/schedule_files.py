@@ -172,8 +172,8 @@ def steps(client, first, count):
 
 
 def standing():
-    """What the pages show of clients in the middle: two pieces with over-cover, the second of them given back, each outcome, and as many
-    clients and digits as there may be."""
+    """What the pages show of clients in the middle: two pieces with over-cover, the second of them given back, each outcome, two pieces that
+    check the most nodes that there may be, and as many clients and digits."""
     held = [Call("request", 0, 100, 400), *steps(0, 1, 40), Call("request", 1, 10, 20), *steps(1, 41, 2)]
     yield "two pieces with over-cover held", File(of_calls(*held, levels=3))
     yield "the second piece given back", File(of_calls(*held, Call("release", 0), *steps(0, 50, 3), levels=3))
@@ -182,6 +182,8 @@ def standing():
     cancelled = [Call("request", 2, 0, 256), *steps(2, 15, 2), Call("cancel", 2), Call("request", 3, 80, 90), Call("cancel", 3)]
     ended = [*(call for calls in zip(*late) for call in calls), *cancelled, *steps(1, 20, 2)]
     yield "outcomes 2 and 3 while giving back and idle", File(of_calls(*ended, clients=4))
+    longest = [Call("request", 0, 100, 32668), *steps(0, 1, 3), Call("request", 1, 0, 64)]
+    yield "a window that needs 182 steps", File(of_calls(*longest, levels=6, distance=4))
     requests = [Call("request", client, 1024 * client + 100, 1024 * client + 400) for client in range(64)]
     many = [Call("step", client, TOP - 64 * (30 - turn) + client + 1) for turn in range(30) for client in range(64 - 2 * turn)]
     yield "64 clients with clocks of 20 digits", File(of_calls(*requests, *many, levels=6, distance=4, wait=600, clients=64))

@@ -4,13 +4,15 @@ shows, and pages that are not whole or not the model's."""
 from itertools import zip_longest
 from pathlib import Path
 from tempfile import TemporaryDirectory
+from textwrap import wrap
 from typing import NamedTuple
 
 from compare import NAMES, case, unlike
 from library import ROOT
-from model import cover, pages, schedule
+from model import cover, pages, schedule, tree
 from model.history import Call, overlap
 from model.record import Record
+from model.step_count import step_count
 from random_schedules import drawn
 from schedule_failing_cases import WRONG
 from schedule_files import of_calls
@@ -20,6 +22,7 @@ from schedule_tool import started
 from scheduling.page_report import page_report
 
 NAMES["report of pages"] = ("seed or place",), ("lines", "lines unlike", "lines too wide")
+NAMES["windows never held"] = ("place in the list of texts", "given back"), ("named",)
 NAMES["line of the pages"] = ("line",), ("as expected",)
 NAMES["pages of a schedule"] = ("place in the list of files",), ("exit status", "lines", "said why")
 NAMES["changed pages"] = ("place in the list of changes",), ("exit status", "said as expected", "bytes written")
@@ -53,13 +56,14 @@ def nodes_in_words(first, second):
 
 
 def planners_words(settings, client, record):
-    """A client's line, without looking at the tool: its window's cover is asked for anew."""
+    """A client's line, without looking at the tool: its window's cover and step count are asked for anew."""
     said = f"{client} {record.phase} {PHASES[record.phase]}"
     if record.phase == 0:
         return said
     _, first, second, over = cover.cover(settings.levels, record.left, record.right)
     beyond = "none" if over == 0 else "1 unit" if over == 1 else f"{over} units"
-    return f"{said} [{record.left}, {record.right}) {nodes_in_words(first, second)} {beyond}"
+    _, steps = step_count(settings.levels, settings.distance, record.left, record.right)
+    return f"{said} [{record.left}, {record.right}) {nodes_in_words(first, second)} {beyond} {steps}"
 
 
 def run_words(settings, client, record, held):
@@ -76,10 +80,21 @@ def run_words(settings, client, record, held):
     return f"{client} {held} {record.phase} {PHASES[record.phase]} {', '.join(fields)}"
 
 
-# The lines above the two tables and between them.
-ABOVE = ["", "The planners' page", "client phase window nodes over-cover"]
-BETWEEN = ["Over-cover: units beyond the window that its nodes lock with it.", "While the window is held nobody else can hold them.", "",
-           "The runs' pages: each run gets its own, and no other. Fields that are 0 are left out", "client holding phase its record"]
+def never_held(settings, records):
+    """What is said of a window whose second piece is an inner node where P is no more than T, once for each such window."""
+    said = []
+    for record in records:
+        if settings.patience <= settings.wait and record.second and 4 * record.second - 2 <= tree.node_count(settings.levels):
+            said.append(f"[{record.left}, {record.right}) can never be held: its second piece, node {record.second}, takes the wait of {settings.wait} "
+                        f"at least, and the patience of {settings.patience} is over by then; a patience above the wait is needed")
+    return [line for sentence in dict.fromkeys(said) for line in wrap(sentence, WIDE - 2)]
+
+
+# The lines above the two tables, below the first, and between them.
+ABOVE = ["", "The planners' page", "client phase window nodes over-cover steps needed"]
+LEGEND = ["Over-cover: units beyond the window that its nodes lock with it.", "While the window is held nobody else can hold them.",
+          "Steps needed: from the request until the window is held, with nobody in its way", "and each wait stepped once, when it is over."]
+BETWEEN = ["", "The runs' pages: each run gets its own, and no other. Fields that are 0 are left out", "client holding phase its record"]
 
 
 def when(read, clock):
@@ -111,7 +126,8 @@ def expected_words(read):
     held = sum(record.phase == 9 for record in records)
     planners = [planners_words(read.settings, client, record) for client, record in enumerate(records)]
     runs = [run_words(read.settings, client, record, held) for client, record in enumerate(records)]
-    lines = [when(read, clock), *ABOVE, *planners, *BETWEEN, *runs, *held_by_two(records), *refused_words(refused, len(read.calls))]
+    below = *LEGEND, *never_held(read.settings, records), *BETWEEN
+    lines = [when(read, clock), *ABOVE, *planners, *below, *runs, *held_by_two(records), *refused_words(refused, len(read.calls))]
     return [line.split() for line in lines]
 
 
@@ -146,6 +162,20 @@ def single_reports():
         yield report_case(place, of_calls(Call("request", 0, left, 256), *refused))
     yield report_case(4, of_calls(Call("step", 3, 1)))
     yield report_case(5, (ROOT / "tests" / "schedules" / "64-clients-with-clocks-of-20-digits.bin").read_bytes())
+
+
+def never_held_reports():
+    """A second piece that is an inner node, where P is less than T, as much, or one more; the same window twice; while it is
+    wanted and while it is given back; and others that can be held all the same, since their second piece is a leaf or they have but one."""
+    node, leaf, one = (4090, 8192), (60, 70), (0, 256)
+    texts = [((20, 30), [node], 1), ((30, 30), [node], 1), ((31, 30), [node], 0), ((20, 30), [node, node, (100, 400)], 2), ((20, 30), [leaf, one], 0)]
+    for place, ((patience, wait), windows, sentences) in enumerate(texts):
+        asked = [Call("request", client, *window) for client, window in enumerate(windows)]
+        for back in ([], [*[Call("step", 0, 1)] * 6, Call("cancel", 0)]):
+            data = of_calls(*asked, *back, levels=6, distance=2, wait=wait, clients=4, patience=patience)
+            said = " ".join(page_report(schedule.decode(data), pages.pages(data).splitlines())).count(" can never be held: ")
+            yield case("windows never held", [place, int(back != [])], sentences), said
+            yield report_case(place, data)
 
 
 def shown_in_guide(heading, place=0):
@@ -184,8 +214,10 @@ CHANGED = {
     "a line short": (PRINTED[:PRINTED.rindex("1 9")], "what rangepages printed is not whole: it has 3 lines, and the model's has 4"),
     "cut in its last line": (PRINTED[:-2], "what rangepages printed is not whole: it ends within its line 4, `"
                              + PRINTED[:-2][-80:].replace("\n", "\\n") + "`"),
-    "another over-cover": (PRINTED.replace("1 9 0 256 1 0 0\n", "1 9 0 256 1 0 1\n"),
-                           f"line 2 that rangepages printed is `1 9 0 256 1 0 1`, and the model says `1 9 0 256 1 0 0`: {WRONG}"),
+    "another over-cover": (PRINTED.replace("1 9 0 256 1 0 0 5\n", "1 9 0 256 1 0 1 5\n"),
+                           f"line 2 that rangepages printed is `1 9 0 256 1 0 1 5`, and the model says `1 9 0 256 1 0 0 5`: {WRONG}"),
+    "another step count": (PRINTED.replace("1 9 0 256 1 0 0 5\n", "1 9 0 256 1 0 0 6\n"),
+                           f"line 2 that rangepages printed is `1 9 0 256 1 0 0 6`, and the model says `1 9 0 256 1 0 0 5`: {WRONG}"),
     "another count": (PRINTED.replace("3 10 1\n", "3 10 2\n"), "line 4 that rangepages printed is `1 9 0 0 256 1 0 0 0 3 0 0 0 0 3 10 2`, "
                       f"and the model says `1 9 0 0 256 1 0 0 0 3 0 0 0 0 3 10 1`: {WRONG}"),
     "another time of the first piece": (PRINTED.replace("3 10 1\n", "3 9 1\n"), "line 4 that rangepages printed is "
@@ -208,6 +240,7 @@ def changed_pages():
 SUITES = {
     "tools/schedule pages, both pages in words": reports,
     "tools/schedule pages, a unit, a call, and the widest records": single_reports,
+    "tools/schedule pages, windows that can never be held": never_held_reports,
     "tools/schedule pages, the pages in docs/SCHEDULES.md": pages_in_guide,
     "docs/SCHEDULES.md, what rangepages prints of the whole case": documented_lines,
     "tools/schedule pages, the exit status": statuses,

@@ -6,6 +6,7 @@ from random import Random
 
 from compare import NAMES, case
 from model.history import holds, idle
+from model.step_count import step_count
 from schedule_runs import opened_for
 from schedule_tool import started
 from scheduling.packed import pack
@@ -14,6 +15,7 @@ from scheduling.text import read_text
 from scheduling.wishes import read_wishes
 
 NAMES["plan"] = ("seed",), ("wishes not held as wished", "refused or late calls", "clients not idle", "calls too many")
+NAMES["steps said in a plan"] = ("seed",), ("wishes", "unlike the model's")
 NAMES["plan that does not fit"] = ("seed",), ("exit status", "left out", "left out in the comments", "served before the first left out")
 NAMES["planned"] = ("place in the list of wishes",), ("calls", "cancels", "as wished")
 NAMES["plan's program"] = ("place in the list of texts",), ("exit status", "said as expected", "bytes written")
@@ -105,8 +107,17 @@ def not_as_wished(wishes, found):
     return wrong
 
 
+def steps_said(settings, planned):
+    """Beside how many requests that are not made again the plan says how many steps the window needs, and where this is not the model's
+    number."""
+    asked = [(call, told) for call, told in planned if call.kind == "request" and not told.endswith("asks, again")]
+    unlike = [told for call, told in asked if not told.endswith(
+        f"asks, and needs {step_count(settings.levels, settings.distance, call.a, call.b).steps} steps with nobody in its way")]
+    return len(asked), len(unlike)
+
+
 def plans():
-    """Random wishes, planned, packed and run by the model."""
+    """Random wishes, planned, packed and run by the model. Where a wish is asked for the first time its steps are said."""
     for seed in range(150):
         given, wishes = read_wishes("\n".join(drawn_wishes(seed)).encode())
         planned, left = plan(given, wishes)
@@ -116,6 +127,7 @@ def plans():
         not_idle = sum(not idle(opened.history, client) for client in range(read.clients))
         answer = not_as_wished(wishes, found) + len(left), wrong, not_idle, int(len(pack(read)) > 65536)
         yield case("plan", [seed], (0, 0, 0, 0)), answer
+        yield case("steps said in a plan", [seed], (len(wishes), 0)), steps_said(given.settings, planned)
 
 
 def crowded():

@@ -3,12 +3,14 @@ held, who held at the same time, who waits for whom, and how each request ended.
 
 from collections import Counter
 from itertools import zip_longest
+from operator import eq, gt, lt
 
 import schedule_clock_cases
 from compare import NAMES, case
 from library import ROOT
 from model import schedule
 from model.record import Client
+from model.step_count import step_count
 from random_schedules import drawn
 from schedule_files import WHOLE_CASE
 from schedule_runs import NO_TRUE_MOMENTS, TRUE_MOMENTS, at, clocks_in_words, held_by_two_in_words, holdings, in_words, made_by_model
@@ -21,6 +23,7 @@ from scheduling.waiting import wait_of
 
 NAMES["report of a schedule"] = ("seed",), ("rows", "unlike the log and the model", "sections unlike", "counts unlike")
 NAMES["reports with"] = (), ("windows given up", "windows held by two", "clocks with true moments", "clocks without")
+NAMES["windows held in steps"] = (), ("fewer than needed", "as many, some", "more, some")
 NAMES["waiting client"] = ("seed", "client"), ("waits", "named clients that are idle or itself")
 NAMES["line of a report"] = ("place in the list of reports", "line"), ("as expected",)
 NAMES["run"] = ("place in the list of files",), ("exit status", "log as rangelog's", "said why")
@@ -79,23 +82,29 @@ def unlike_rows(rows, read, log):
     return unlike
 
 
-def held_in_words(found):
-    ends = (f"to {held.until}" if held.until else "and still holds it" for held in found)
-    return [f"client {held.client} held {in_words(held.window)} from {held.since} {end}" for held, end in zip(found, ends)]
+def needed(settings, held):
+    return step_count(settings.levels, settings.distance, *held.window).steps
 
 
-def sections_unlike(rest, read):
+def held_in_words(settings, found):
+    for held in found:
+        end = f"to {held.until}" if held.until else "and still holds it"
+        steps = f"taken in {held.steps} steps; {needed(settings, held)} needed"
+        yield f"client {held.client} held {in_words(held.window)} from {held.since} {end}; {steps}"
+
+
+def sections_unlike(rest, read, found):
     """How many of the sections on the clocks, on who held, on who held at the same time and on who gave up are not the model's, without the
     deeper lines that say why a client gave up."""
-    found = holdings(read)
-    wanted = {"Clocks": clocks_in_words(made_by_model(read)), "Held": held_in_words(found) or ["nobody"],
+    wanted = {"Clocks": clocks_in_words(made_by_model(read)), "Held": list(held_in_words(read.settings, found)) or ["nobody"],
               "Held by two at the same time": held_by_two_in_words(found), "Given up, out of patience": list(given_up_by_model(read))}
     return sum([line for line in section(rest, title) if not line.startswith("  ")] != lines for title, lines in wanted.items())
 
 
 def reports():
-    """Random schedules: every row, what is said of clocks, of who held and who gave up, and the counts."""
-    shown = Counter()
+    """Random schedules: every row, what is said of clocks, of who held and who gave up, and the counts. No window is held in fewer steps than
+    it needs."""
+    shown, taken = Counter(), []
     for seed in range(120):
         data = drawn("contended" if seed % 3 else "well-formed", seed)
         read, log = schedule.decode(data), schedule.log(data).splitlines()
@@ -105,10 +114,14 @@ def reports():
         rows, rest = lines[1:1 + len(read.calls)], lines[1 + len(read.calls):]
         counts, wanted = section(rest, "In all"), counted_by_model(read)
         shown.update(part for part in SHOWN if part in rest)
-        answer = (len(rows), unlike_rows(rows, read, log), sections_unlike(rest, read),
+        found = holdings(read)
+        taken += [(held.steps, needed(read.settings, held)) for held in found]
+        answer = (len(rows), unlike_rows(rows, read, log), sections_unlike(rest, read, found),
                   int(not all(line.startswith(start) for line, start in zip_longest(counts, wanted, fillvalue="?"))))
         yield case("report of a schedule", [seed], (len(read.calls), 0, 0, 0)), answer
     yield case("reports with", [], (1, 1, 1, 1)), tuple(int(shown[part] > 0) for part in SHOWN)
+    fewer, as_many, more = (sum(compare(*steps) for steps in taken) for compare in (lt, eq, gt))
+    yield case("windows held in steps", [], (0, 1, 1)), (fewer, int(as_many > 0), int(more > 0))
 
 
 def waiting_clients():

@@ -29,12 +29,14 @@ class Run(NamedTuple):
 
 
 class Held(NamedTuple):
-    """A window that a client held, and in words from when and to when; with no end if it still holds it."""
+    """A window that a client held, in words from when and to when, and how many accepted steps it made from its request on until then; with
+    no end if it still holds it."""
 
     client: int
     window: tuple
     start: int
     since: str
+    steps: int
     end: int = None
     until: str = ""
 
@@ -85,12 +87,14 @@ def at(run):
 
 def holdings(read):
     """Who held what, in the order in which it began: a window is held from the first call after which `holds` says so."""
-    held, found = {}, []
+    held, found, steps = {}, [], Counter()
     for run in run_by_model(read):
         client, now = run.made.call.client, holds(run.opened.history, run.made.call.client)
+        if run.made.number == 0:
+            steps[client] = 0 if run.made.call.kind == "request" else steps[client] + 1
         if now and client not in held:
             held[client] = len(found)
-            found.append(Held(client, now, run.place, at(run)))
+            found.append(Held(client, now, run.place, at(run), steps[client]))
         elif client in held and not now:
             place = held.pop(client)
             found[place] = found[place]._replace(end=run.place, until=at(run))

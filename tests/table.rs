@@ -8,10 +8,11 @@
 //!     cancel CLIENT
 //!     pages CLIENT                                the numbers of both pages, the count, the client's record, and all rows
 //!     cover LEVELS LEFT RIGHT                     the number, the nodes and the over-cover
+//!     step_count LEVELS DISTANCE LEFT RIGHT       the number and the steps
 //!     word_count LEVELS                           the count
 //!     phase NUMBER                                its text; outcome and cause likewise
 
-use nolthewyr::{cover, word_count, Cause, CoverAnswer, Outcome, Phase, Record, Row, RunPageAnswer, Settings, Table};
+use nolthewyr::{cover, step_count, word_count, Cause, CoverAnswer, Outcome, Phase, Record, Row, RunPageAnswer, Settings, Table};
 use std::io::stdin;
 
 /// The numbers of a record, in its order.
@@ -41,8 +42,8 @@ fn pages(table: &Table, client: usize) -> String {
         assert!(page.number == 0 && table.record(client) == Some(&page.own));
         answer += &format!(" {} {}", page.held, fields(&page.own));
     }
-    for Row { phase, left, right, first, second, over } in planners.unwrap_or_default() {
-        answer += &format!(" {} {left} {right} {first} {second} {over}", phase.0);
+    for Row { phase, left, right, first, second, over, steps } in planners.unwrap_or_default() {
+        answer += &format!(" {} {left} {right} {first} {second} {over} {steps}", phase.0);
     }
     answer
 }
@@ -65,6 +66,11 @@ fn covered(levels: u64, left: u64, right: u64) -> String {
     format!("{number} {first} {second} {over}")
 }
 
+fn counted(levels: u64, distance: u64, left: u64, right: u64) -> String {
+    let (number, steps) = step_count(levels, distance, left, right).map_or_else(|cause| (cause.0, 0), |steps| (0, steps));
+    format!("{number} {steps}")
+}
+
 fn main() {
     let mut table: Option<Table> = None;
     for line in stdin().lines() {
@@ -79,6 +85,7 @@ fn main() {
                 number.to_string()
             }
             ("cover", &[levels, left, right]) => covered(levels, left, right),
+            ("step_count", &[levels, distance, left, right]) => counted(levels, distance, left, right),
             ("word_count", &[levels]) => word_count(levels).to_string(),
             ("pages", &[client]) => pages(table.as_ref().expect("an open table"), client as usize),
             ("phase", &[number]) => Phase(number).to_string(),

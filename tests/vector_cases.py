@@ -5,11 +5,14 @@ from itertools import islice
 from operator import length_hint
 from typing import NamedTuple
 
+import compiled_table
 from compare import NAMES, case, unlike
 from compiled_table import Table, clients_unlike
 from library import ROOT
+from model.cover import cover
 from model.history import KINDS, Call
 from model.record import Client, Record, Settings
+from model.step_count import step_count
 from programs import PROGRAMS
 from table_cases import model_answer
 
@@ -18,12 +21,15 @@ VECTORS = ROOT / "tests" / "vectors"
 # How many there are: one that is missing is a failure.
 STATES = 600
 SCHEDULES = 40
+STEPS_AND_COVERS = 1500
 
 # In a state stand six settings, of which the last are none yet.
 SETTINGS = 6
 
 NAMES["state"] = ("place", "kind", "by"), ("number", "clocks unlike", "records unlike", "words unlike")
-NAMES["expected answers"] = ("place",), ("files or states found", "names missing or too many, or numbers left over")
+NAMES["expected step count"] = ("by", "levels", "distance", "left", "right"), ("number", "steps")
+NAMES["expected cover"] = ("by", "levels", "left", "right"), ("number", "first", "second", "over-cover")
+NAMES["expected answers"] = ("place",), ("files, states or lines found", "names missing or too many, or numbers left over")
 
 
 class State(NamedTuple):
@@ -106,6 +112,24 @@ def states():
             yield case("state", [place, KINDS.index(state.call.kind), by], (state.number, 0, 0, 0)), answer
 
 
+def answer_in(text):
+    """The number of a call and what it gives: `refused n`, or the numbers of an accepted one."""
+    words = text.replace("over", "").split()
+    return (int(words[1]),) if words[0] == "refused" else (0, *map(int, words))
+
+
+def steps_and_covers():
+    """Each window has the steps, the pieces and the over-cover that are expected, or is refused by the number, by the model and compiled."""
+    lines = (VECTORS / "steps-and-covers.txt").read_text().splitlines()
+    yield case("expected answers", [3], (STEPS_AND_COVERS, 0)), (len(lines), 0)
+    for line in lines:
+        asked, steps, covered = line.split("|")
+        levels, distance, *window = map(int, asked.split())
+        for by, (steps_of, cover_of) in enumerate(((step_count, cover), (compiled_table.step_count, compiled_table.cover))):
+            yield case("expected step count", [by, levels, distance, *window], answer_in(steps)), tuple(steps_of(levels, distance, *window))
+            yield case("expected cover", [by, levels, *window], answer_in(covered)), tuple(cover_of(levels, *window))
+
+
 def schedules(program):
     """Of each schedule the model and the program print what is expected."""
     folder = VECTORS / "schedules"
@@ -119,5 +143,6 @@ def schedules(program):
 
 SUITES = {
     "expected answers, lent tables of any content": states,
+    "expected answers, step counts and covers": steps_and_covers,
     **{f"expected answers, {program.name}": lambda program=program: schedules(program) for program in PROGRAMS},
 }

@@ -16,6 +16,7 @@ from scheduling.durations import later_piece, longest_later_piece
 from scheduling.planning import reached
 from scheduling.waiting import wait_of
 from scheduling.wishes import read_wishes
+from waiting_steps_cases import SUITES as OF_STEPS
 
 GUIDE = (ROOT / "docs" / "WAITING.md").read_text()
 EXAMPLE = (ROOT / "examples" / "take.c").read_text()
@@ -195,4 +196,5 @@ SUITES = {
     "docs/WAITING.md, who is in a ring of clients that wait for each other": rings,
     "docs/WAITING.md, the longest windows": longest_windows,
     "docs/WAITING.md, the loop to copy": loop,
+    **OF_STEPS,
 }

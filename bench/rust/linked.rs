@@ -1,7 +1,7 @@
 //! The calls by C's convention, with the signatures that the libraries `nolthewyr` and `probe` have.
 
 use super::Cover;
-use crate::nolthewyr::{Call, Client, CoverAnswer, Record, Row, RunPageAnswer, Settings};
+use crate::nolthewyr::{Call, Client, CoverAnswer, Record, Row, RunPageAnswer, Settings, StepCountAnswer};
 use std::slice::{from_raw_parts, from_raw_parts_mut};
 
 /// The lent clients and words, as slices.
@@ -64,6 +64,13 @@ pub unsafe extern "C" fn cover(levels: u64, l: u64, r: u64) -> CoverAnswer {
     match super::cover(levels, l, r) {
         Ok(Cover { first, second, over }) => CoverAnswer { number: 0, first, second, over },
         Err(cause) => CoverAnswer { number: cause as u64, ..CoverAnswer::default() },
+    }
+}
+
+pub unsafe extern "C" fn step_count(levels: u64, distance: u64, l: u64, r: u64) -> StepCountAnswer {
+    match super::step_count(levels, distance, l, r) {
+        Ok(steps) => StepCountAnswer { number: 0, steps },
+        Err(cause) => StepCountAnswer { number: cause as u64, steps: 0 },
     }
 }
 

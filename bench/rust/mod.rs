@@ -120,3 +120,11 @@ pub fn cover(levels: u64, l: u64, r: u64) -> Result<Cover, Cause> {
     }
     tree::cover(levels, l, r).ok_or(Cause::Window)
 }
+
+/// The step count as a call, which tests 1 for H and m, then 7. T and P make no difference.
+pub fn step_count(levels: u64, distance: u64, l: u64, r: u64) -> Result<u64, Cause> {
+    let settings = Settings { levels, distance, wait: 1, patience: 1 };
+    test_settings(&settings)?;
+    let Cover { first, second, .. } = tree::cover(levels, l, r).ok_or(Cause::Window)?;
+    Ok(settings.steps(first, second))
+}

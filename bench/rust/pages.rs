@@ -1,4 +1,4 @@
-//! The two pages in plain Rust, with all tests that request 2.1 names.
+//! The two pages in plain Rust, with all tests that request 2.1 names, and the step count of request 2.4 in a row.
 
 use super::{number, test_clients, test_settings, Cause};
 use crate::nolthewyr::{Client, Phase, Record, Row, RunPageAnswer, Settings};
@@ -14,6 +14,7 @@ impl Record {
             first: self.first,
             second: self.second,
             over: cover.over,
+            steps: settings.steps(self.first, self.second),
         })
     }
 }

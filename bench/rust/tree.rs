@@ -100,4 +100,21 @@ impl Settings {
     pub fn check_count(&self, d: u64) -> u64 {
         nodes(self.distance.min(self.levels - d))
     }
+
+    /// How many steps a piece needs on an otherwise idle tree: one for each ancestor, the claim and the notices, and for an inner node
+    /// also the ticket, the turn, the wait and the checks.
+    fn piece_steps(&self, node: u64) -> u64 {
+        let d = level(node);
+        let notified = d + self.notify_count(d);
+        if d == self.levels {
+            notified
+        } else {
+            notified + 3 + self.check_count(d)
+        }
+    }
+
+    /// How many steps a window of these pieces needs, second 0 for none.
+    pub fn steps(&self, first: u64, second: u64) -> u64 {
+        self.piece_steps(first) + if second == 0 { 0 } else { self.piece_steps(second) }
+    }
 }

@@ -1,7 +1,11 @@
-"""How long pieces take a client that is alone in the tree and makes a step a tick: what a wait and a patience must exceed."""
+"""How long pieces take a client that is alone in the tree and makes a step a tick: what a wait and a patience must exceed; and how many steps
+a window needs."""
+
+from functools import lru_cache
 
 from model import tree
 from model.record import cover_of
+from model.step_count import step_count
 from scheduling.names import window
 
 
@@ -24,6 +28,13 @@ def later_piece(levels, distance, wait, level):
 def longest_later_piece(levels, distance, wait):
     """The most ticks that any later piece takes, which is never the root. With a patience of no more ticks it is not taken in time."""
     return max(later_piece(levels, distance, wait, level) for level in range(2, levels + 1))
+
+
+@lru_cache(maxsize=None)
+def steps_needed(settings, left, right):
+    """How many steps a window of the tree needs from its request until it is held, with nobody in its way and each wait stepped
+    once, when it is over."""
+    return step_count(settings.levels, settings.distance, left, right).steps
 
 
 def never_held(settings, left, right):

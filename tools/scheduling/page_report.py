@@ -6,6 +6,7 @@ from model.pages import Row
 from model.record import Record
 from scheduling.columns import in_columns
 from scheduling.clocks import last_of_all
+from scheduling.durations import never_held
 from scheduling.events import after_all
 from scheduling.names import OUTCOMES, PHASES, listed, window
 from scheduling.overlaps import overlaps_of_rows
@@ -14,11 +15,15 @@ from scheduling.waiting import patience_ends
 WIDE = 100
 INDENT = "  "
 NO_BREAK = "\u00a0"
-PLANNERS = "client", "phase", "window", "nodes", "over-cover"
+PLANNERS = "client", "phase", "window", "nodes", "over-cover", "steps needed"
+# The columns of numbers: the client, and the steps.
+NUMBERS = 0, 5
 RUNS = "client", "holding", "phase", "its record"
 MEANING = (
     "Over-cover: units beyond the window that its nodes lock with it.",
     "While the window is held nobody else can hold them.",
+    "Steps needed: from the request until the window is held, with nobody in its way",
+    "and each wait stepped once, when it is over.",
 )
 # The fields that are shown by their names: those behind phase, outcome, edges and pieces.
 OTHERS = Record._fields[Record._fields.index("current"):]
@@ -50,9 +55,16 @@ def planners_rows(rows):
     for client, row in enumerate(rows):
         phase = numbered(row.phase, PHASES)
         if row.phase == 0:
-            yield str(client), phase, "", "", ""
+            yield str(client), phase, "", "", "", ""
         else:
-            yield str(client), phase, window(row.left, row.right), nodes(row), units(row.over)
+            yield str(client), phase, window(row.left, row.right), nodes(row), units(row.over), str(row.steps)
+
+
+def never_held_lines(settings, rows):
+    """Of each window that is wanted or given back and that nobody can ever hold, why; said once, also if several clients ask for it."""
+    asked = dict.fromkeys((row.left, row.right) for row in rows if row.phase)
+    for edges in asked:
+        yield from wrap(never_held(settings, *edges), WIDE - len(INDENT))
 
 
 def fields_in_words(settings, record):
@@ -118,7 +130,8 @@ def page_report(schedule, lines):
     yield when(schedule, last_of_all(history))
     yield ""
     yield "The planners' page"
-    yield from (INDENT + line for line in (*in_columns(planners_rows(rows), (0,)), *MEANING))
+    planners = *in_columns(planners_rows(rows), NUMBERS), *MEANING, *never_held_lines(schedule.settings, rows)
+    yield from (INDENT + line for line in planners)
     yield ""
     yield RUNS_TITLE
     yield from (INDENT + line for line in runs_lines(schedule.settings, records))

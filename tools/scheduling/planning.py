@@ -4,7 +4,7 @@ each other, and back-off where one is out of patience."""
 from typing import NamedTuple
 
 from model.history import Call
-from scheduling.durations import longest_claim, longest_later_piece
+from scheduling.durations import longest_claim, longest_later_piece, steps_needed
 from scheduling.events import fresh
 from scheduling.names import HELD, listed, window
 from scheduling.text import MOST_CALLS, line_of, settings_line
@@ -95,8 +95,9 @@ class Planner:
 
     def ask(self, run):
         wish = run.wishes[0]
-        again = ", again" if run.gave_up else ""
-        self.make("request", run, wish.left, wish.right, told=f"clock {self.clock}: run {run.client} asks{again}")
+        steps = steps_needed(self.settings, wish.left, wish.right)
+        said = "again" if run.gave_up else f"and needs {steps} steps with nobody in its way"
+        self.make("request", run, wish.left, wish.right, told=f"clock {self.clock}: run {run.client} asks, {said}")
 
     def step(self, run):
         self.make("step", run, self.clock)

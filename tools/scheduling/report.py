@@ -4,6 +4,7 @@ from collections import Counter
 
 from scheduling.clocks import clock_lines, last_of_all
 from scheduling.columns import in_columns
+from scheduling.durations import steps_needed
 from scheduling.events import at, became, holdings, out_of_patience
 from scheduling.given_up import given_up_lines
 from scheduling.names import HELD, OUT_OF_PATIENCE, OUTCOMES, PHASES, RETURNING, window
@@ -47,10 +48,19 @@ def rows(source, events):
         yield str(place), written, event.logged, clock, what_happened(source.schedule, event, others)
 
 
-def held_lines(events):
-    for holding in holdings(events):
+def steps_taken(events, holding):
+    """How many accepted steps a client made from its request on until it held."""
+    accepted = [event for event in events[:holding.start.place + 1] if event.call.client == holding.client and event.number == 0]
+    return [event.call.kind for event in reversed(accepted)].index("request")
+
+
+def held_lines(happened):
+    """Who held which window from when to when, in how many steps it was taken, and how many it needs."""
+    for holding in holdings(happened.events):
         end = f"to {at(holding.end)}" if holding.end else "and still holds it"
-        yield f"client {holding.client} held {window(holding.left, holding.right)} from {at(holding.start)} {end}"
+        needed = steps_needed(happened.schedule.settings, holding.left, holding.right)
+        steps = f"taken in {steps_taken(happened.events, holding)} steps; {needed} needed"
+        yield f"client {holding.client} held {window(holding.left, holding.right)} from {at(holding.start)} {end}; {steps}"
 
 
 def clock_by_now(happened, client):
@@ -111,7 +121,7 @@ def report(source, happened):
     """The whole report, line by line."""
     yield from in_columns(rows(source, happened.events), NUMBERS)
     yield from section_if("Clocks", clock_lines(happened.opened.history))
-    yield from section("Held", held_lines(happened.events))
+    yield from section("Held", held_lines(happened))
     yield from section_if("Held by two at the same time", overlap_lines(happened.events))
     yield from section_if("Given up, out of patience", given_up_lines(happened))
     yield from section("Not idle and not holding at the end", waiting_lines(happened))

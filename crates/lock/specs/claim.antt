@@ -1,4 +1,5 @@
 pub mod AfterCall
+pub mod Alone
 pub mod Backward
 pub mod Changes
 pub mod Checking
@@ -20,14 +21,18 @@ pub mod Moments
 pub mod MomentsKept
 pub mod NoWord
 pub mod Notifying
+pub mod OnItsWay
 pub mod OneClock
 pub mod Onward
 pub mod Owned
 pub mod Parts
+pub mod PromptRun
 pub mod Readable
 pub mod Returning
 pub mod Stage
 pub mod Start
+pub mod StepCountLaws
+pub mod StepsToHeld
 pub mod Taking
 pub mod Timed
 pub mod Times

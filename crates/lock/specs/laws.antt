@@ -1,6 +1,7 @@
 pub mod Accepted
 pub mod Active
 pub mod ActiveLaws
+pub mod Advancing
 pub mod ByKind
 pub mod CallLaws
 pub mod CoverLaws
@@ -10,13 +11,18 @@ pub mod OwnTests
 pub mod PatienceLaws
 pub mod PhaseTests
 pub mod Phases
+pub mod PieceSteps
 pub mod Pieces
 pub mod Placed
+pub mod Progress
+pub mod PromptLaws
 pub mod ReadableLaws
 pub mod Ready
 pub mod ReturnLaws
 pub mod SettledLaws
+pub mod ShortPatience
 pub mod StepLaws
+pub mod StepsLeft
 pub mod Touched
 pub mod WhenReadable
 pub mod WordLaws

@@ -3,6 +3,7 @@ pub mod Calls
 pub mod History
 pub mod Readings
 pub mod Records
+pub mod StepCount
 pub mod Steps
 pub mod Table
 pub mod Unreadable

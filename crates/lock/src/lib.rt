@@ -68,8 +68,16 @@ pub struct Moved {
     pub next: Record,
 }
 
+// How many steps a window needs: number 0 and the steps; else the cause of a refusal, and 0.
+#[repr(C)]
+pub struct StepCount {
+    pub number: u64,
+    pub steps: u64,
+}
+
 mod by_phase;
 mod calls;
+mod counting;
 mod late;
 mod moves;
 mod outside;
@@ -78,3 +86,6 @@ mod pieces;
 mod readable;
 mod returning;
 mod steps;
+
+pub use counting::pieces_steps;
+pub use counting::step_count;

@@ -10,7 +10,8 @@ mod run;
 pub use counts::in_phase_9;
 pub use rows::row_of;
 
-// What planners see of a client: its phase, its window's edges, its pieces' numbers (second 0 for none) and their over-cover; all 0 for an idle one.
+// What planners see of a client: its phase, its window's edges, its pieces' numbers (second 0 for none) and their over-cover, and how many steps the window needs on an otherwise
+// idle tree; all 0 for an idle one.
 #[repr(C)]
 pub struct Row {
     pub phase: u64,
@@ -19,6 +20,7 @@ pub struct Row {
     pub first: u64,
     pub second: u64,
     pub over: u64,
+    pub steps: u64,
 }
 
 // What a forecast run sees: the page's number (0 accepted), its own record, and how many clients are in phase 9; the last two all 0 in a refused page.

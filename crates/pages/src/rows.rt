@@ -23,6 +23,7 @@ pub fn row_of(one: Record, settings: Settings, last: u64) -> Row
             first: 0,
             second: 0,
             over: 0,
+            steps: 0,
         };
     }
     let answer = cover::cover(settings.levels, one.left, one.right);
@@ -33,6 +34,12 @@ pub fn row_of(one: Record, settings: Settings, last: u64) -> Row
         first: one.first,
         second: one.second,
         over: answer.over,
+        steps: lock::pieces_steps(
+            settings.levels,
+            settings.distance,
+            answer.first,
+            answer.second,
+        ),
     }
 }
 

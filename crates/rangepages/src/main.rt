@@ -2,15 +2,16 @@
 // the one cannot be read or the other cannot be written, it says so on standard error: a program in Rattle has no exit status.
 ghost use mathlib.Core.Path.{_≡_};
 ghost use lib.ListN.{length};
+ghost use Rattle.rangepages.specs.rules.Printed.{room};
+use paging::ROOM;
 
 mod lines;
 mod paging;
 
-// Room for both pages: 64 clients have 64 × (147 + 357) bytes, which are 32,256.
-fn page_room() -> [u8; 33000]
-    ensures { λ r. ⌜ 33000 ≡ length r ⌝ }
+fn page_room() -> [u8; ROOM]
+    ensures { λ r. ⌜ room ≡ length r ⌝ }
 {
-    [0; 33000]
+    [0; ROOM]
 }
 
 fn main() {

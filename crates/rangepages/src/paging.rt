@@ -14,6 +14,9 @@ use crate::lines;
 use lock::Settings;
 use schedule::Run;
 
+// How many bytes are lent for both pages.
+pub const ROOM: usize = 34000;
+
 // How many of the schedule's clients are in phase 9.
 fn held_in(run: Run) -> u64
     requires { ⌜ Full run ⌝ }
@@ -35,7 +38,7 @@ fn held_in(run: Run) -> u64
 fn put_rows(out: &mut [u8], run: Run, settings: Settings) -> usize
     requires { ⌜ Full run × (Settled settings × (Readable settings run × (room ≤ length (now out)))) ⌝ }
     ensures piece { λ r. ⌜ Appended (now (out .entry)) 0 (now (out .exit)) r (lineEach (rowLine settings) 0 (clientsOf run)) ⌝ }
-    ensures short { λ r. ⌜ r ≤ 147 * run .clients ⌝ }
+    ensures short { λ r. ⌜ r ≤ 168 * run .clients ⌝ }
 {
     let shelf = run.shelf;
     let clients = run.clients;
@@ -84,7 +87,7 @@ pub fn put_pages(bytes: &[u8], out: &mut [u8]) -> usize
     ensures pages { λ r. ⌜ Paged (now (bytes .entry)) (now (out .entry)) (now (out .exit)) r ⌝ }
     ensures inside { λ r. ⌜ Counts r (now (out .exit)) ⌝ }
 {
-    if out.len() < 33000 {
+    if out.len() < ROOM {
         return 0;
     }
     let number = schedule::refusal(bytes);

@@ -6,25 +6,18 @@ use Prim.Native.Nat.{ℕ, _<_}
 use native.Mathlib.Omega.{arith}
 use lib.ListN.{length}
 use Rattle.base.specs.laws.ChoiceLaws.{choose-eq}
-use Rattle.base.specs.laws.Sum.{getD-fresh}
-use Rattle.lock.specs.declared.Client.{Client}
 use Rattle.lock.specs.declared.Record.{Record}
 use Rattle.lock.specs.declared.Settings.{Settings}
-use Rattle.lock.specs.rules.Records.{idleClient}
-use Rattle.lock.specs.rules.Table.{State, Call, clientAt, recordAt, opened, opening}
+use Rattle.lock.specs.rules.Table.{State, Call, opened, opening}
 use Rattle.lock.specs.rules.History.{run, events, Idle, Clean, SingleHolding, Demand3}
 use Rattle.lock.specs.rules.Readings.{foundIn, ReadApart}
 use Rattle.lock.specs.claim.HistoryRecord.{holds-record, all-idle}
 use Rattle.lock.specs.claim.Parts.{partsOf, record-at}
 use Rattle.lock.specs.claim.Keeping.{run-keeps}
-use Rattle.lock.specs.claim.Start.{opened-invariant, opened-timing}
+use Rattle.lock.specs.claim.Start.{opened-invariant, opened-timing, opened-idle}
 use Rattle.lock.specs.claim.MomentsKept.{run-checked, read-at-once}
 use Rattle.lock.specs.claim.HeldApart.{held, apart}
 use Rattle.lock.specs.claim.IdleClean.{clean}
-
-idle-opened : (st : State) (c : ℕ) → recordAt (opened st) c .phase ≡ 0
-unfolding clientAt opened
-idle-opened st c = ap (λ (x : Client). x .«record» .phase) (getD-fresh (length (st .clients)) c idleClient)
 
 module _ (s : Settings) (lent : State) (e : opening s lent .number ≡ 0) (ks : List Call) where
   opens : opened lent ≡ opening s lent .state
@@ -57,5 +50,5 @@ module _ (s : Settings) (lent : State) (e : opening s lent .number ≡ 0) (ks : 
     λ moment true-moments. read-apart-holding moment moment (read-at-once s (opening s lent .state) ks moment true-moments),
     subst (λ st. ((c : ℕ) → c < length (st .clients) → Idle (events s st ks) c) → Clean s (run s st ks .words)) opens
         (λ idle. let st = opened lent in
-        clean s (partsOf (run s st ks)) (run-keeps s st (opened-invariant s lent e) ks) (λ c. ap (λ (z : Record). z .phase) (record-at (run s st ks) c) ∙ all-idle s st ks (idle-opened lent) idle c)),
+        clean s (partsOf (run s st ks)) (run-keeps s st (opened-invariant s lent e) ks) (λ c. ap (λ (z : Record). z .phase) (record-at (run s st ks) c) ∙ all-idle s st ks (opened-idle lent) idle c)),
   )

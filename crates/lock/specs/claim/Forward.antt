@@ -15,7 +15,7 @@ use Rattle.lock.specs.declared.Settings.{Settings}
 use Rattle.lock.specs.rules.Records.{pieces, pieceAt, currentPiece}
 use Rattle.lock.specs.laws.Pieces.{grip-before, grip-current, grip-after, notices-before, notices-current}
 use Rattle.lock.specs.claim.Owned.{returned, gripped, noticed, owns, ownsUnit, outstanding, ownsNotice, reaches-no, returned-none, returned-here, returned-after, gripped-kept, noticed-begun, noticed-none}
-use Rattle.lock.specs.claim.Fit.{Apart}
+use Rattle.lock.specs.claim.Fit.{Apart, Fit, fit-idle}
 use Rattle.lock.specs.claim.Effect.{Same, Grips, Notices}
 use Rattle.lock.specs.claim.Changes.{alike, grips-at, notices-out, notices-at, notices-more, out-here, out-other, out-same, turn-with-ticket}
 
@@ -180,6 +180,12 @@ fresh-empty s r d c g n = record {
   unnoticed = λ m i _. ap (λ (l : ℕ). sumTo l (λ j. outstanding s m r i j))
       (by-eq i 0 (λ e. noticed-begun s r i (omega arith) ∙ notices-current s r i (omega arith) ∙ n) (λ e. noticed-none s r i (omega arith)));
 }
+
+-- an idle record
+pub fit-empty : (s : Settings) (r : Record) (last : ℕ) → Fit s r last → r .phase ≡ 0 → Empty s r
+fit-empty s r last v z =
+    let e = fit-idle s r last v z in
+    fresh-empty s r (λ f. omega arith) (ap (λ x. x .current) e) (ap (λ x. x .grip) e) (ap (λ x. x .notices) e)
 
 -- ---- taking a piece: begun next, the record owns what it owned
 

@@ -30,7 +30,7 @@ module _ (s : Settings) (st : State) (c t : ℕ) where
   step-idle e =
       ap (λ m. m .next) (own-moved s (recordAt st c) t (patient-idle s (recordAt st c) t e) word) ∙ ap (λ p. movedIn s (recordAt st c) word t p .next) (at-idle (recordAt st c .phase) e)
 
-  step-held : recordAt st c .phase ≡ 9 → recordAfter s st (step c t) ≡ recordAt st c
+  pub step-held : recordAt st c .phase ≡ 9 → recordAfter s st (step c t) ≡ recordAt st c
   unfolding recordAfter movedIn
   step-held e =
       ap (λ m. m .next) (own-moved s (recordAt st c) t (patient-taken s (recordAt st c) t (omega arith)) word) ∙ ap (λ p. movedIn s (recordAt st c) word t p .next) (at-held (recordAt st c .phase) e)

@@ -2,24 +2,25 @@
 use mathlib.Core.Path.{_≡_, refl, sym, ap, subst, _∙_}
 use mathlib.Core.Logic.{_≢_}
 use mathlib.Core.List.{List}
-use Prim.Native.Nat.{ℕ, zero, suc, _^_, _≤_, _<_}
+use Prim.Native.Nat.{ℕ, zero, suc, _+_, _-_, _*_, _%_, _^_, _≤_, _<_}
 use native.Mathlib.Decide.{ℕ-discrete}
 use native.Mathlib.Omega.{arith}
 use lib.ListN.{length, getD, set, length-set}
 use lib.Seq.{getD-set-same, getD-set-other}
-use Rattle.base.specs.laws.Sum.{on-set}
-use Rattle.word.specs.rules.Word.{takeBits, giveBits}
+use Rattle.base.specs.laws.Sum.{sumBy, on-set}
+use Rattle.word.specs.rules.Word.{bit, takeBits, giveBits}
 use Rattle.word.specs.laws.Leaf.{wanted-lt}
 use Rattle.word.specs.laws.Swap.{take-lt, give-lt}
-use Rattle.tree.specs.rules.Tree.{level, left, leaf, units, wordCount, Node}
-use Rattle.tree.specs.laws.Level.{node-counted}
+use Rattle.tree.specs.rules.Tree.{first, level, left, leaf, units, wordCount, Node}
+use Rattle.tree.specs.laws.Climb.{first-width}
+use Rattle.tree.specs.laws.Level.{level-range, node-counted}
 use Rattle.tree.specs.laws.Range.{leaf-level, leaf-some}
 use Rattle.lock.specs.declared.Record.{Record}
 use Rattle.lock.specs.declared.Settings.{Settings}
 use Rattle.lock.specs.rules.Records.{wordAt, written}
 use Rattle.lock.specs.laws.Active.{Settled}
 use Rattle.lock.specs.rules.Steps.{wanted}
-use Rattle.lock.specs.claim.Owned.{owns-falls}
+use Rattle.lock.specs.claim.Owned.{ownsUnit, owns-falls}
 use Rattle.lock.specs.claim.Fit.{Fit}
 use Rattle.lock.specs.claim.Effect.{Grips, Notices, Effect, quiet, drew, turned, claimed, freed, passed, notified, unnotified, took, gave}
 use Rattle.lock.specs.claim.InnerWords.{nobody, InnerWord, inner-same, inner-drew, inner-turned, inner-claimed, inner-freed, inner-passed, inner-notified, inner-unnotified}
@@ -189,3 +190,22 @@ module _ (s : Settings) (st : Parts) (inv : Invariant s st) (c : ℕ) (client : 
       bits = λ u f. on-word (λ w. LeafBit s (set rs c q) u w) (leaf (s .levels) u)
           (record { some = leaf-some (s .levels) u levels-some f; inside = omega (arith, leaf-level (s .levels) u levels-some f) }) (here-bit u f) (else-bit u f);
     }
+
+-- ---- bit b of a leaf is a unit of it, and says what the records own of that
+
+pub leaf-bit : (s : Settings) (st : Parts) → Invariant s st → (n : ℕ) → Node (s .levels) n → level n ≡ s .levels → (b : ℕ) → b < 64
+    → (u : ℕ) × (leaf (s .levels) u ≡ n) × (bit b (wordAt (st .words) n) ≡ sumBy (ownsUnit s u) (st .records))
+unfolding units
+leaf-bit s st inv n v l b c =
+    let h = s .levels in
+    let base = first h in
+    let range = level-range n (v .some) in
+    let low : base ≤ n = subst (λ (x : ℕ). first x ≤ n) l (range .0) in
+    let up : n < first (suc h) = subst (λ (x : ℕ). n < first (suc x)) l (range .1) in
+    let e : suc (h - 1) ≡ h = omega (arith, inv .settled .levels-some) in
+    let width : first (suc h) ≡ base + 4 ^ (h - 1) = subst (λ (x : ℕ). first (suc x) ≡ first x + 4 ^ (h - 1)) e (first-width (h - 1)) in
+    let u = 64 * (n - base) + b in
+    let is : leaf h u ≡ n = omega arith in
+    let at : u % 64 ≡ b = omega arith in
+    let fits : u < units h = omega arith in
+    (u, is, ap (λ (x : ℕ). bit x (wordAt (st .words) n)) (sym at) ∙ ap (λ (x : ℕ). bit (u % 64) (wordAt (st .words) x)) (sym is) ∙ inv .bits u fits)

@@ -20,10 +20,10 @@ use Rattle.lock.specs.rules.History.{run}
 use Rattle.lock.specs.laws.Accepted.{Tested, accepted, request-tested, step-tested, release-tested, cancel-tested}
 use Rattle.lock.specs.laws.PatienceLaws.{out-of-patience}
 use Rattle.lock.specs.laws.Ready.{Ready}
-use Rattle.lock.specs.claim.Fit.{fit-idle, fit-later, fit-ready}
+use Rattle.lock.specs.claim.Fit.{fit-later, fit-ready}
 use Rattle.lock.specs.claim.Parts.{recordIn, partsOf, record-at, records-count, on-parts, clock-own, clock-other}
 use Rattle.lock.specs.claim.Invariant.{Invariant}
-use Rattle.lock.specs.claim.Forward.{Empty, fresh-empty}
+use Rattle.lock.specs.claim.Forward.{fit-empty}
 use Rattle.lock.specs.claim.Keeps.{Keeps, keeps-invariant, keeps-stay, occ-none, notice-none}
 use Rattle.lock.specs.claim.NoWord.{request-keeps, release-keeps, cancel-keeps, out-of-patience-keeps}
 use Rattle.lock.specs.claim.Climbing.{ticket-keeps, turn-keeps, ancestor-node, blocked-keeps, climb-keeps}
@@ -46,11 +46,6 @@ module _ (s : Settings) (st : State) (inv : Invariant s (partsOf st)) (c : ℕ) 
 
   prepared : r .phase ≢ 0 → Ready s r last
   prepared = fit-ready s r last (inv .fit c) (inv .settled)
-
-  idle-empty : r .phase ≡ 0 → Empty s r
-  idle-empty z =
-      let e = fit-idle s r last (inv .fit c) z in
-      fresh-empty s r (λ f. omega arith) (ap (λ x. x .current) e) (ap (λ x. x .grip) e) (ap (λ x. x .notices) e)
 
   -- the work of an accepted step, phase by phase
   module _ (t : ℕ) (later : last ≤ t) where
@@ -143,7 +138,7 @@ accepted-keeps s st inv (request c l r) e =
     let a = accepted s st (request c l r) e in
     let b = request-tested s st c l r (a .own) in
     quiet-keeps s st inv c (a .client) (λ _. requested s l r)
-    (request-keeps s (inv .settled) l r (b .1) _ _ (clockAt st c) (idle-empty s st inv c (phase-at s st inv c 0 (b .2))) (wordAt (st .words) 0))
+    (request-keeps s (inv .settled) l r (b .1) _ _ (clockAt st c) (fit-empty s (recordIn (partsOf st) c) (clockAt st c) (inv .fit c) (phase-at s st inv c 0 (b .2))) (wordAt (st .words) 0))
 accepted-keeps s st inv (step c t) e =
     let a = accepted s st (step c t) e in
     subst (λ (x : Record). Invariant s (partsOf (stepped s st inv c x t))) (record-at st c) (after-keeps s st inv c (a .client) _ _ t _ (stepped-by s st inv c t a))

@@ -10,10 +10,11 @@ use Rattle.base.specs.laws.Tickets.{none-yet}
 use Rattle.word.specs.rules.Word.{field, bit}
 use Rattle.word.specs.laws.Bits.{bit-zero}
 use Rattle.tree.specs.rules.Tree.{leaf, wordCount}
+use Rattle.lock.specs.declared.Client.{Client}
 use Rattle.lock.specs.declared.Record.{Record}
 use Rattle.lock.specs.declared.Settings.{Settings}
-use Rattle.lock.specs.rules.Records.{wordAt}
-use Rattle.lock.specs.rules.Table.{State, clockAt, openingNumber, opened, opening}
+use Rattle.lock.specs.rules.Records.{wordAt, idleClient}
+use Rattle.lock.specs.rules.Table.{State, clientAt, recordAt, clockAt, openingNumber, opened, opening}
 use Rattle.lock.specs.rules.History.{Event}
 use Rattle.lock.specs.laws.Active.{Settled}
 use Rattle.lock.specs.laws.Accepted.{opened-accepted}
@@ -100,3 +101,12 @@ module _ (s : Settings) where
 pub opening-invariant : (s : Settings) (lent : State) → opening s lent .number ≡ 0 → Invariant s (partsOf (opening s lent .state))
 unfolding opening
 opening-invariant s lent e = subst (λ (st : State). Invariant s (partsOf st)) (sym (choose-eq (opening s lent .number) 0 (opened lent) lent e)) (opened-invariant s lent e)
+
+-- and every client is idle
+pub opened-idle : (st : State) (c : ℕ) → recordAt (opened st) c .phase ≡ 0
+unfolding clientAt opened
+opened-idle st c = ap (λ (x : Client). x .«record» .phase) (getD-fresh (length (st .clients)) c idleClient)
+
+pub opening-idle : (s : Settings) (lent : State) → opening s lent .number ≡ 0 → (c : ℕ) → recordAt (opening s lent .state) c .phase ≡ 0
+unfolding opening
+opening-idle s lent e c = subst (λ (st : State). recordAt st c .phase ≡ 0) (sym (choose-eq (opening s lent .number) 0 (opened lent) lent e)) (opened-idle lent c)

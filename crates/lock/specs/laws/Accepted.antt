@@ -43,8 +43,10 @@ unfolding clientsOutside
 few-clients count e = ltb-false 32767 count (both-false (eqb count 0) (ltb 32767 count) e .1)
 
 pub record Tested (s : Settings) (st : State) (k : Call) : Type 0 where
+  pub settings : settingsOutside s ≡ false
   pub settled : Settled s
   pub count : length (st .words) ≡ wordCount (s .levels)
+  pub clients : clientsOutside (length (st .clients)) ≡ false
   pub few : length (st .clients) ≤ 32767
   pub client : clientOf k < length (st .clients)
   pub own : firstCause (ownTests s st k) ≡ 0
@@ -57,8 +59,10 @@ accepted s st k e =
     let b = test-passed (clientsOutside (length (st .clients))) 3 ((leb (length (st .clients)) (clientOf k), 4) ∷ rest) (omega arith) (a .2) in
     let c = test-passed (leb (length (st .clients)) (clientOf k)) 4 rest (omega arith) (b .1) in
     record {
+      settings = a .0;
       settled = settled s (a .0);
       count = a .1;
+      clients = b .0;
       few = few-clients (length (st .clients)) (b .0);
       client = leb-false (length (st .clients)) (clientOf k) (c .0);
       own = c .1;

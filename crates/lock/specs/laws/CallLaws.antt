@@ -25,6 +25,16 @@ pub cause-skip : (b : Bool) (k : ℕ) (ts : Tests) → b ≡ false → firstCaus
 unfolding firstCause choose
 cause-skip b k ts e = ap (λ (x : Bool). choose x k (firstCause ts)) e
 
+-- no test of the chain is true
+unfoldable pub NoneTrue : Tests → Type 0
+NoneTrue [] = Unit
+NoneTrue (test ∷ tests) = (test .0 ≡ false) × NoneTrue tests
+
+pub none-true : (ts : Tests) → NoneTrue ts → firstCause ts ≡ 0
+unfolding NoneTrue firstCause
+none-true [] v = refl
+none-true (test ∷ tests) v = cause-skip (test .0) (test .1) tests (v .0) ∙ none-true tests (v .1)
+
 -- every test of the chain has another number than x, or is false
 unfoldable pub NotNamed : ℕ → Tests → Type 0
 NotNamed x [] = Unit

@@ -26,11 +26,14 @@ unfoldable pub firstCause : Tests → ℕ
 firstCause [] = 0
 firstCause (test ∷ tests) = choose (test .0) (test .1) (firstCause tests)
 
--- "H, m or T outside its range": "m (1..4)", "T (1..2^32 - 1)"; 2.2, "a patience P (1..2^32 - 1, tested with cause 1)"
+-- "H, m or T outside its range": "m (1..4)"
+abbrev pub levelsOrDistanceOutside : ℕ → ℕ → Bool
+levelsOrDistanceOutside h m = levelsOutside h || ltb m 1 || ltb 4 m
+
+-- "T (1..2^32 - 1)"; 2.2, "a patience P (1..2^32 - 1, tested with cause 1)"
 unfoldable pub settingsOutside : Settings → Bool
 settingsOutside s =
-    levelsOutside (s .levels) || ltb (s .distance) 1 || ltb 4 (s .distance) || ltb (s .wait) 1 || ltb 4294967295 (s .wait)
-    || ltb (s .patience) 1 || ltb 4294967295 (s .patience)
+    levelsOrDistanceOutside (s .levels) (s .distance) || ltb (s .wait) 1 || ltb 4294967295 (s .wait) || ltb (s .patience) 1 || ltb 4294967295 (s .patience)
 
 -- 1 and 2, "word count not the tree's"
 unfoldable pub treeTests : Settings → ℕ → Tests

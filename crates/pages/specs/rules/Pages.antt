@@ -1,4 +1,4 @@
--- To be believed: document 02, requests 2.1 and 2.3: the page that planners get of the lent client table, and the page that a forecast run gets of it. 2.1's "last clock" is each
+-- To be believed: document 02, requests 2.1, 2.3 and 2.4: the page that planners get of the lent client table, and the page that a forecast run gets of it. 2.1's "last clock" is each
 -- client's own (2.3, it "is 2.1's last clock"). Assumes nothing.
 use mathlib.Core.Bool.{Bool, false, _||_}
 use mathlib.Core.List.{List, [], _∷_, _++_, map}
@@ -12,18 +12,27 @@ use Rattle.lock.specs.declared.Record.{Record}
 use Rattle.lock.specs.declared.Settings.{Settings}
 use Rattle.lock.specs.rules.Records.{pieces, idleWith, idleClient}
 use Rattle.lock.specs.rules.Unreadable.{differ, unreadable}
+use Rattle.lock.specs.rules.StepCount.{stepCount}
 use Rattle.lock.specs.rules.Calls.{Tests, firstCause, settingsOutside, clientsOutside, clientTests}
 use Rattle.pages.specs.declared.Row.{Row}
 use Rattle.pages.specs.declared.RunPage.{RunPage}
 
 -- ---- "Planners want a page with every client's phase, edges, pieces and over-cover, all zero for an idle one."
 
--- the row of a client's record
+-- the row of a client's record; 2.4, "The planners' page gains it", how many steps its window needs
 unfoldable pub rowOf : Settings → Record → Row
 rowOf s r =
     choose (eqb (r .phase) 0)
-    (record { phase = 0; left = 0; right = 0; first = 0; second = 0; over = 0 })
-    (record { phase = r .phase; left = r .left; right = r .right; first = r .first; second = r .second; over = total (s .levels) (r .left) (r .right) (pieces r) })
+    (record { phase = 0; left = 0; right = 0; first = 0; second = 0; over = 0; steps = 0 })
+    (record {
+      phase = r .phase;
+      left = r .left;
+      right = r .right;
+      first = r .first;
+      second = r .second;
+      over = total (s .levels) (r .left) (r .right) (pieces r);
+      steps = stepCount (s .levels) (s .distance) (r .left) (r .right);
+    })
 
 -- a row for each client, in their order
 unfoldable pub rowsOf : Settings → List Client → List Row

@@ -12,14 +12,14 @@ use Rattle.schedule.specs.rules.Text.{text, spaced}
 use Rattle.schedule.specs.laws.Appended.{Appended, nothing, joined, restated}
 use Rattle.rangepages.specs.rules.Printed.{lineEach}
 
--- ---- the ends of a run's line: from the noted times on, and from the current piece on
+-- ---- the ends of lines: the last four numbers of any, and a run's from the current piece on
 
-abbrev pub timesText : Record → ℕ → List ℕ
-timesText r held = spaced (r .t1) ++ (spaced (r .t0) ++ (spaced (r .taken) ++ (spaced held ++ text "\n")))
+abbrev pub lastFour : (a b c d : ℕ) → List ℕ
+lastFour a b c d = spaced a ++ (spaced b ++ (spaced c ++ (spaced d ++ text "\n")))
 
 abbrev pub currentText : Record → ℕ → List ℕ
 currentText r held =
-    spaced (r .current) ++ (spaced (r .giving) ++ (spaced (r .grip) ++ (spaced (r .ticket) ++ (spaced (r .place) ++ (spaced (r .notices) ++ timesText r held)))))
+    spaced (r .current) ++ (spaced (r .giving) ++ (spaced (r .grip) ++ (spaced (r .ticket) ++ (spaced (r .place) ++ (spaced (r .notices) ++ lastFour (r .t1) (r .t0) (r .taken) held)))))
 
 -- ---- line after line
 

@@ -1,4 +1,4 @@
--- To be believed: document 02, requests 2.1 and 2.2: what `rangepages` prints of a schedule, byte by byte (ASCII). Assumes nothing.
+-- To be believed: document 02, requests 2.1, 2.2 and 2.4: what `rangepages` prints of a schedule, byte by byte (ASCII). Assumes nothing.
 use mathlib.Core.List.{List, [], _∷_, _++_}
 use Prim.Native.Nat.{ℕ, suc}
 use Rattle.lock.specs.declared.Client.{Client}
@@ -11,11 +11,11 @@ use Rattle.schedule.specs.rules.Running.{afterCalls}
 use Rattle.schedule.specs.rules.Refusal.{unlessRefused}
 use Rattle.schedule.specs.rules.Text.{text, decimal, spaced, PutInto}
 
--- ---- "a line for each client, number and row": the row's phase, edges, pieces and over-cover
+-- ---- "a line for each client, number and row": the row's phase, edges, pieces and over-cover, and 2.4's step count, which ends it
 
 unfoldable pub rowText : ℕ → Row → List ℕ
 rowText client w =
-    decimal client ++ (spaced (w .phase) ++ (spaced (w .left) ++ (spaced (w .right) ++ (spaced (w .first) ++ (spaced (w .second) ++ (spaced (w .over) ++ text "\n"))))))
+    decimal client ++ (spaced (w .phase) ++ (spaced (w .left) ++ (spaced (w .right) ++ (spaced (w .first) ++ (spaced (w .second) ++ (spaced (w .over) ++ (spaced (w .steps) ++ text "\n")))))))
 
 unfoldable pub rowLine : Settings → ℕ → Record → List ℕ
 rowLine s client r = rowText client (rowOf s r)
@@ -42,9 +42,9 @@ pagesText s clients = lineEach (rowLine s) 0 clients ++ lineEach (recordLine (he
 unfoldable pub pagesOf : List ℕ → List ℕ
 pagesOf bytes = unlessRefused bytes (pagesText (settingsIn bytes) (afterCalls bytes .clients))
 
--- both pages of every table fit here: it has at most 64 clients, and their lines have at most 147 and 357 bytes
+-- both pages of every table fit here: it has at most 64 clients, whose lines have at most 168 and 357 bytes each, together 33,600
 abbrev pub room : ℕ
-room = 33000
+room = 34000
 
 -- the pages in lent bytes
 abbrev pub Paged : List ℕ → List ℕ → List ℕ → ℕ → Type 0

@@ -22,15 +22,15 @@ put-spaced-requires-5 c κs = search needs
 put-spaced-requires-6 : tie.Need-put-spaced-requires-6
 put-spaced-requires-6 c κs = search needs
 
-put-times-requires : tie.Need-put-times-requires
-put-times-requires c κs = search needs
+put-last-four-requires : tie.Need-put-last-four-requires
+put-last-four-requires c κs = search needs
 
 same-length : tie.Need-same-length
 same-length c = search needs
 
 returns : tie.Need-returns
 returns c =
-    (joined (c .before .before .before .before .before .before .before .before .before .before .before .before .before .before .before .before .before .before .before .before .before .before .before .before .before .before .put-spaced .ensures .0) (joined (c .before .before .before .before .before .before .before .before .before .before .before .before .before .before .before .before .before .before .before .before .before .before .put-spaced2 .ensures .0) (joined (c .before .before .before .before .before .before .before .before .before .before .before .before .before .before .before .before .before .before .put-spaced3 .ensures .0) (joined (c .before .before .before .before .before .before .before .before .before .before .before .before .before .before .put-spaced4 .ensures .0) (joined (c .before .before .before .before .before .before .before .before .before .before .put-spaced5 .ensures .0) (joined (c .before .before .before .before .before .before .put-spaced6 .ensures .0) (c .before .before .put-times .ensures .0)))))), search needs)
+    (joined (c .before .before .before .before .before .before .before .before .before .before .before .before .before .before .before .before .before .before .before .before .before .before .before .before .before .before .put-spaced .ensures .0) (joined (c .before .before .before .before .before .before .before .before .before .before .before .before .before .before .before .before .before .before .before .before .before .before .put-spaced2 .ensures .0) (joined (c .before .before .before .before .before .before .before .before .before .before .before .before .before .before .before .before .before .before .put-spaced3 .ensures .0) (joined (c .before .before .before .before .before .before .before .before .before .before .before .before .before .before .put-spaced4 .ensures .0) (joined (c .before .before .before .before .before .before .before .before .before .before .put-spaced5 .ensures .0) (joined (c .before .before .before .before .before .before .put-spaced6 .ensures .0) (c .before .before .put-last-four .ensures .0)))))), search needs)
 
 pub put-current-spec : {M : Type 1} → statement M
 put-current-spec =
@@ -42,6 +42,6 @@ put-current-spec =
     put-spaced-requires-4
     put-spaced-requires-5
     put-spaced-requires-6
-    put-times-requires
+    put-last-four-requires
     same-length
     returns)

@@ -17,7 +17,7 @@ use Rattle.rangepages.proofs.paging.put_rows.Tie as tie
 
 abbrev Inv-loop : tie.InvT-loop
 Inv-loop out₀ settings shelf clients end₀ client₀ out end client =
-    Lined (rowLine settings) (take clients (shelf .clients)) out₀ 0 out end client × ((end ≤ 147 * client) × ((client ≤ clients) × (length out ≡ length out₀)))
+    Lined (rowLine settings) (take clients (shelf .clients)) out₀ 0 out end client × ((end ≤ 168 * client) × ((client ≤ clients) × (length out ≡ length out₀)))
 
 abbrev μ-loop : tie.MeasureT-loop
 μ-loop out₀ settings shelf clients end₀ client₀ out end client = clients - client

@@ -1,8 +1,8 @@
--- `rangepages::lines::put_times` meets its contract. Assumes nothing.
+-- `rangepages::lines::put_last_four` meets its contract. Assumes nothing.
 use Rattle.schedule.specs.laws.Appended.{joined}
 use borrow.Author.Needs.{needs}
-use Rattle.rangepages.proofs.lines.put_times.Statement.{statement}
-use Rattle.rangepages.proofs.lines.put_times.Tie as tie
+use Rattle.rangepages.proofs.lines.put_last_four.Statement.{statement}
+use Rattle.rangepages.proofs.lines.put_last_four.Tie as tie
 
 put-spaced-requires : tie.Need-put-spaced-requires
 put-spaced-requires c κs = search needs
@@ -29,8 +29,8 @@ returns : tie.Need-returns
 returns c =
     (joined (c .before .before .before .before .before .before .before .before .before .before .before .before .before .before .before .before .before .before .before .put-spaced .ensures .0) (joined (c .before .before .before .before .before .before .before .before .before .before .before .before .before .before .before .put-spaced2 .ensures .0) (joined (c .before .before .before .before .before .before .before .before .before .before .before .put-spaced3 .ensures .0) (joined (c .before .before .before .before .before .before .before .put-spaced4 .ensures .0) (c .before .before .put-bytes .ensures)))), search needs)
 
-pub put-times-spec : {M : Type 1} → statement M
-put-times-spec =
+pub put-last-four-spec : {M : Type 1} → statement M
+put-last-four-spec =
     tie.close
     (tie.spec
     put-spaced-requires
