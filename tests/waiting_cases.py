@@ -25,6 +25,8 @@ LONGEST = 2 ** 32 - 1
 
 NAMES["claim of a leaf"] = ("levels", "distance"), ("late with a wait of that many ticks", "late with one more")
 NAMES["second piece"] = ("levels", "distance"), ("not held with a patience of that many ticks", "not held with one more", "as the plan reckons")
+NAMES["second piece by slower steps"] = ("levels", "distance", "ticks of a step", "steps beyond T"), (
+    "not held with a tick less", "not held with that patience")
 NAMES["second piece at a level"] = ("levels", "distance", "level"), ("not held with a patience of that many ticks", "not held with one more")
 NAMES["clients that block each other"] = ("rounds",), ("phase of client 0", "phase of client 1")
 NAMES["rings"] = ("seed",), ("without a client in its second piece",)
@@ -85,14 +87,14 @@ def claims():
         yield case("claim of a leaf", [h, m], (1, 0)), tuple(late) + (0, 0)
 
 
-def given_up(settings, level):
-    """Whether a client gives up that is alone, makes a step a tick, and wants the last unit before the middle of the tree and after it all of a
-    node at this level."""
+def given_up(settings, level, ticks=1):
+    """Whether a client gives up that is alone, makes a step every so many ticks, and wants the last unit before the middle of the tree and after
+    it all of a node at this level."""
     middle = tree.units(settings.levels) // 2
     words = Words(tree.node_count(settings.levels))
     client = calls.request(settings, words, IDLE_CLIENT, middle - 1, middle + 64 * 4 ** (settings.levels - level)).client
     while client.record.phase not in (9, 10):
-        client = calls.step(settings, words, client, client.clock + 1).client
+        client = calls.step(settings, words, client, client.clock + ticks).client
     return int(client.record.outcome == 4)
 
 
@@ -104,6 +106,18 @@ def second_pieces():
         ended = [max(given_up(Settings(h, m, wait, wait + more), level) for level in range(2, h + 1)) for more in (number, number + 1)]
         as_planned = int(longest_later_piece(h, m, wait) == wait + number)
         yield case("second piece", [h, m], (1, 0, 1)), (*ended, as_planned, 0)
+
+
+def slower_steps():
+    """Where steps take longer than a tick, and the wait is a tick more than a claim, so that it ends as long before a step as it can: with a patience
+    of T and the guide's steps and one more no window with an inner node is given up, nor with T and one step a leaf; with a tick less some are."""
+    for (h, m), number in table_below("## How to choose the patience P", LEVELS[1:]).items():
+        for ticks in (2, 5):
+            wait = claim_steps()[h, m] * ticks + 1
+            for levels, steps in ((range(2, h), number + 1), ([h], 1)):
+                enough = wait + steps * ticks
+                ended = [max(given_up(Settings(h, m, wait, patience), level, ticks) for level in levels) for patience in (enough - 1, enough)]
+                yield case("second piece by slower steps", [h, m, ticks, steps], (1, 0)), (*ended, 0, 0)
 
 
 def pieces_by_level():
@@ -191,6 +205,7 @@ def loop():
 SUITES = {
     "docs/WAITING.md, how long a claim takes": claims,
     "docs/WAITING.md, how long a second piece takes": second_pieces,
+    "docs/WAITING.md, how long a second piece takes by slower steps": slower_steps,
     "docs/WAITING.md, how long the plan reckons for a second piece": pieces_by_level,
     "docs/WAITING.md, two clients that block each other": stuck,
     "docs/WAITING.md, who is in a ring of clients that wait for each other": rings,
