@@ -106,7 +106,7 @@ module _ (s : Settings) (st : State) (inv : Invariant s (partsOf st)) (idle : (d
       let q = recordAt asked c in
       let g = inv .settled in
       let ready = way-ready s asked c way in
-      let each : (i : ℕ) → pieceSteps (s .levels) (s .distance) (getD (pieces q) i 0) ≤ 500
+      let each : (i : ℕ) → pieceSteps (s .levels) (s .distance) (getD (pieces q) i 0) ≤ 250
       = λ i. omega (
         arith,
         steps-few (s .levels) (s .distance) (pieceAt q i) (record {
@@ -116,7 +116,7 @@ module _ (s : Settings) (st : State) (inv : Invariant s (partsOf st)) (idle : (d
           d-most = omega (arith, piece-level s q (clockAt asked c) g (way-fit s asked c way) i, g .levels-most);
         }),
       ) in
-      omega (arith, sum-le (pieceSteps (s .levels) (s .distance)) 500 0 (pieces q) each, ready .active .few, ap (coverSteps (s .levels) (s .distance)) own-pieces)
+      omega (arith, sum-le (pieceSteps (s .levels) (s .distance)) 250 0 (pieces q) each, ready .active .few, ap (coverSteps (s .levels) (s .distance)) own-pieces)
 
   counted-needed : Waits s (coverOf s l r) → counted 1000 s asked c ≡ coverSteps (s .levels) (s .distance) (coverOf s l r)
   counted-needed waits =

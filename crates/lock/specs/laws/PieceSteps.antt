@@ -75,8 +75,8 @@ module _ (h m n : ℕ) (at-most : Bounded m (level n)) where
   unfolding pieceSteps checkCount
   inner-steps d = choose-ne (level n) h _ _ d ∙ omega (arith, claim-steps, check-count h m n)
 
-  -- no piece needs as many as 500
-  pub steps-few : pieceSteps h m n < 500
+  -- no piece needs as many as 250
+  pub steps-few : pieceSteps h m n < 250
   unfolding first leftmost
   steps-few =
       let k = suc (min m (h - level n)) in
@@ -85,7 +85,7 @@ module _ (h m n : ℕ) (at-most : Bounded m (level n)) where
       (λ e. omega (arith, leaf-steps e, at-most .d-most, ap (notifyCount m) e, count-small m n at-most, notify-count m n at-most))
       (λ d. omega (arith, inner-steps d, at-most .d-most, count-small m n at-most, notify-count m n at-most, first-mono k 5 (omega arith) (omega (arith, at-most .m-most))))
 
-  pub claim-few : level n + length (notifyList m n) < 500
+  pub claim-few : level n + length (notifyList m n) < 250
   claim-few = omega (arith, at-most .d-most, count-small m n at-most)
 
 -- the root, which has no ancestors

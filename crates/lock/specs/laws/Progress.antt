@@ -2,11 +2,10 @@
 use mathlib.Core.Path.{_≡_, refl, sym, ap, _∙_}
 use mathlib.Core.Logic.{_≢_}
 use mathlib.Core.Bool.{true}
-use mathlib.Core.List.{List, [], _∷_}
+use mathlib.Core.List.{List}
 use Prim.Native.Nat.{ℕ, suc, _+_, _≤_}
 use native.Mathlib.Omega.{arith}
 use borrow.Author.Tests.{eq-eqb, ne-eqb}
-use lib.Dec.{eqb}
 use lib.ListN.{length, getD}
 use Rattle.base.specs.rules.Choice.{choose}
 use Rattle.base.specs.laws.ChoiceLaws.{choose-eq, choose-ne, by-eq}
@@ -74,10 +73,6 @@ pub record Advanced (s : Settings) (r q : Record) : Type 0 where
   pub going : Going q
   pub one-more : made s q ≡ suc (made s r)
 
-pub same-pieces : (r q : Record) → q .first ≡ r .first → q .second ≡ r .second → pieces q ≡ pieces r
-unfolding pieces
-same-pieces r q a b = λ i. choose (eqb (b i) 0) (a i ∷ []) (a i ∷ b i ∷ [])
-
 pub same-steps : (s : Settings) (r q : Record) → pieces q ≡ pieces r → (i : ℕ) → stepsAt s q i ≡ stepsAt s r i
 unfolding pieceAt
 same-steps s r q e i = ap (λ (c : List ℕ). pieceSteps (s .levels) (s .distance) (getD c i 0)) e
@@ -124,11 +119,10 @@ module _ (s : Settings) (r : Record) where
   made-at p e = ap (λ (x : Phase). sumTo (r .current) (stepsAt s r) + madeIn s r x) e
 
   -- the same piece, one step further
-  pub further : (q : Record) → q .first ≡ r .first → q .second ≡ r .second → q .current ≡ r .current → Going q
+  pub further : (q : Record) → pieces q ≡ pieces r → q .current ≡ r .current → Going q
       → madeIn s q (phaseOf (q .phase)) ≡ suc (madeIn s r (phaseOf (r .phase))) → Advanced s r q
   unfolding made
-  further q a b c v e =
-      let p = same-pieces r q a b in
+  further q p c v e =
       let sums : sumTo (q .current) (stepsAt s q) ≡ sumTo (r .current) (stepsAt s r) = ap (λ (k : ℕ). sumTo k (stepsAt s q)) c ∙ to-same _ _ (r .current) (λ i _. same-steps s r q p i) in
       record { pieces-same = p; going = v; one-more = omega arith }
 
