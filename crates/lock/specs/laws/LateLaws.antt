@@ -38,3 +38,7 @@ module _ (s : Settings) (r : Record) (t : ℕ) where
   pub not-late : late s r t ≡ false → InTime (s .wait) (r .t1) t
   unfolding late
   not-late e = ltb-true passed allowed (not-false _ e)
+
+  pub in-time-not-late : InTime (s .wait) (r .t1) t → late s r t ≡ false
+  unfolding late
+  in-time-not-late b = ap not (lt-ltb passed allowed b)

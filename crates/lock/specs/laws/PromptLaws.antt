@@ -2,10 +2,10 @@
 -- for T within P. Assumes nothing.
 use mathlib.Core.Path.{_≡_, refl, sym, ap, subst, _∙_}
 use mathlib.Core.Logic.{_≢_, inl, inr}
-use mathlib.Core.Bool.{false, not, _&&_}
-use Prim.Native.Nat.{ℕ, suc, _+_, _-_, _*_, _≤_, _<_}
+use mathlib.Core.Bool.{false, _&&_}
+use Prim.Native.Nat.{ℕ, suc, _+_, _-_, _≤_, _<_}
 use native.Mathlib.Omega.{arith}
-use borrow.Author.Tests.{lt-leb, le-ltb, lt-ltb}
+use borrow.Author.Tests.{lt-leb, le-ltb}
 use lib.Dec.{eqb, leb, ltb, eqb→eq, ltb→lt}
 use lib.ListN.{length}
 use Rattle.base.specs.laws.ChoiceLaws.{on-choose, choose-eq, choose-ne, choose-le, by-lt, by-eq, neqb→ne}
@@ -19,6 +19,7 @@ use Rattle.lock.specs.rules.Records.{Phase, phaseOf, pieces, pieceAt, cu
 use Rattle.lock.specs.rules.Steps.{startPhase, begin, firstNoted, taken, ticketTaken, turnAwaited, goUp, climbed, unblocked, bitsClaimed, occClaimed, late, allNotified, noticeGiven, waited, checkPassed, claimPiece, movedIn, outOfPatience}
 use Rattle.lock.specs.rules.StepCount.{OnTime, nextClock}
 use Rattle.lock.specs.laws.Active.{Settled}
+use Rattle.lock.specs.laws.LateLaws.{in-time-not-late}
 use Rattle.lock.specs.laws.PatienceLaws.{patient-taken}
 use Rattle.lock.specs.laws.Phases.{on-phase}
 use Rattle.lock.specs.laws.Progress.{Going, begin-phase}
@@ -84,8 +85,7 @@ module _ (s : Settings) (r : Record) (last : ℕ) where
   patient-soon t l = second-false (leb 1 (r .phase) && leb (r .phase) 8 && ltb 0 (r .current)) _ (lt-leb (s .patience) (t - r .taken) l)
 
   in-time : (t : ℕ) → 1 ≤ s .wait → r .t1 ≡ t → late s r t ≡ false
-  unfolding late
-  in-time t some e = ap not (lt-ltb (10001 * (t - r .t1)) (9999 * s .wait) (omega arith))
+  in-time t some e = in-time-not-late s r t (omega arith)
 
   module _ (p : Prompt s r last) (some : 1 ≤ s .wait) (some-patience : 1 ≤ s .patience) (room : LaterInner s r → s .wait < s .patience) (v : Ready s r last) where
     pub prompt-on-time : Going r → OnTime s r now
