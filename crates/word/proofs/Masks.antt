@@ -77,7 +77,10 @@ max-shr k h =
     ∙ ap (λ (n : ℕ). n / 2 ^ (64 - k)) (ones-split k (64 - k))
     ∙ high (2 ^ k - 1) (64 - k) (ones-lt (64 - k))
 
--- and shifted left by `low` they are a leaf's bits
+-- as many ones as there are wanted bits, shifted left by `low`, are those bits
+ones-made : (low high : ℕ) → low < high → high ≤ 64 → ((2 ^ (high - low) - 1) * 2 ^ low) % 2 ^ 64 ≡ leafBits low high
+ones-made low high h g = mask-shl low (high - low) (omega arith) ∙ sym (leaf-shl low high)
+
+-- so `u64::MAX >> (64 - (high - low))` shifted left by `low` gives them
 pub leaf-made : (low high : ℕ) → low < high → high ≤ 64 → ((2 ^ 64 - 1) / 2 ^ (64 - (high - low)) * 2 ^ low) % 2 ^ 64 ≡ leafBits low high
-leaf-made low high h g =
-    ap (λ (n : ℕ). (n * 2 ^ low) % 2 ^ 64) (max-shr (high - low) (omega arith)) ∙ mask-shl low (high - low) (omega arith) ∙ sym (leaf-shl low high h)
+leaf-made low high h g = ap (λ (n : ℕ). (n * 2 ^ low) % 2 ^ 64) (max-shr (high - low) (omega arith)) ∙ ones-made low high h g

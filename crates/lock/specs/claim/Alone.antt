@@ -28,7 +28,6 @@ use Rattle.lock.specs.rules.Steps.{touchedIn, wanted}
 use Rattle.lock.specs.laws.ActiveLaws.{in-at}
 use Rattle.lock.specs.laws.Phases.{at-turn, at-climb, at-claim, at-check}
 use Rattle.lock.specs.laws.Pieces.{grip-current}
-use Rattle.lock.specs.laws.Placed.{clipped}
 use Rattle.lock.specs.laws.Progress.{Going, Free}
 use Rattle.lock.specs.laws.Ready.{Ready}
 use Rattle.lock.specs.claim.Owned.{reaches, owns, ownsUnit, outstanding, ownsNotice, noticed, reaches-yes, reaches-no, returned, returned-none, gripped-kept}
@@ -118,10 +117,8 @@ module _ (s : Settings) (st : Parts) (inv : Invariant s st) (c : ℕ) (client : 
     bits-clear : r .phase ≡ 5 → level n ≡ h → takeBits (wanted s r n) (wordAt (st .words) n) .done ≡ true
     unfolding ownsUnit
     bits-clear e l =
-        let g = inv .settled in
-        let clip = clipped h (r .left) (r .right) n (omega (arith, g .levels-some)) (g .levels-most) (v .active .meets (r .current) exists) l in
         let none : owns s 3 n r ≡ 0 = own-here 3 ∙ reaches-no 3 (r .grip) (omega (arith, v .grip-leaf (omega arith) (omega arith) l)) in
-        take-done (wanted s r n) (wordAt (st .words) n) (wanted-lt (left h n) (r .left) (r .right) (clip .some) (clip .starts) (clip .ends)) .1 (λ b few _.
+        take-done (wanted s r n) (wordAt (st .words) n) (wanted-lt (left h n) (r .left) (r .right)) .1 (λ b few _.
         let at = leaf-bit s st inv n node l b few in
         let own : ownsUnit s (at .0) r ≡ 0 = on-choose (λ (x : ℕ). x ≡ 0) (leb (r .left) (at .0)) _ 0
         (λ _. on-choose (λ (x : ℕ). x ≡ 0) (ltb (at .0) (r .right)) _ 0 (λ _. ap (λ (x : ℕ). owns s 3 x r) (at .1) ∙ none) (λ _. refl)) (λ _. refl) in

@@ -25,7 +25,7 @@ use Rattle.lock.specs.declared.Settings.{Settings}
 use Rattle.lock.specs.rules.Records.{pieces, pieceAt, currentPiece, isLeaf, isRoot, toPhase, withGrip, withT0}
 use Rattle.lock.specs.rules.Steps.{bitsClaimed, occClaimed, wanted, leaves, claimPiece}
 use Rattle.lock.specs.laws.Active.{Settled}
-use Rattle.lock.specs.laws.Placed.{Clipped, clipped, widen}
+use Rattle.lock.specs.laws.Placed.{widen}
 use Rattle.lock.specs.laws.ActiveLaws.{below-root, notified}
 use Rattle.lock.specs.laws.Ready.{Ready}
 use Rattle.lock.specs.laws.WhenReadable.{readable-notify, readable-wait}
@@ -55,9 +55,6 @@ module _ (s : Settings) (rs : List Record) (r : Record) (last now : ℕ) (later 
   -- ---- "leaf: swap the wanted bits from all 0 to all 1; success to 6, failure to 3 at the parent"
 
   module _ (leaf : level n ≡ s .levels) where
-    meets : Clipped (left (s .levels) n) (r .left) (r .right)
-    meets = clipped (s .levels) (r .left) (r .right) n (omega (arith, g .levels-some)) (g .levels-most) (rd .active .meets (r .current) (rd .active .exists)) leaf
-
     won : takeBits (wanted s r n) w .done ≡ true → Keeps s rs r n w (takeBits (wanted s r n) w .word) (toPhase 6 (withGrip 3 r)) now
     unfolding pieceAt pieces
     won done =
@@ -67,7 +64,7 @@ module _ (s : Settings) (rs : List Record) (r : Record) (last now : ℕ) (later 
         let at = stage-current q (r .current) refl in
         record {
           node = λ _. current-node;
-          effect = took leaf meets
+          effect = took leaf
               (forward-grips s r q k refl (onward-unreturned s r ahead) (onward-unreturned s q aheadq) (ready-apart s r last rd) (rd .active .exists) 0 3 (rd .grip-leaf (omega arith) (omega arith) leaf) refl refl (λ _ _ _ _. refl))
               done refl;
           fits = fit-readable s q now
@@ -84,7 +81,7 @@ module _ (s : Settings) (rs : List Record) (r : Record) (last now : ℕ) (later 
         let q = toPhase 3 r in
         let k = kin r q refl refl refl refl in
         let aheadq : q .phase ≢ 10 = λ f. omega arith in
-        let same = take-failed (wanted s r n) w (wanted-lt (left (s .levels) n) (r .left) (r .right) (meets .some) (meets .starts) (meets .ends)) failed in
+        let same = take-failed (wanted s r n) w (wanted-lt (left (s .levels) n) (r .left) (r .right)) failed in
         subst (λ (v : ℕ). Keeps s rs r n w v q now) (sym same)
         (keeps-quiet s rs r q n w now (λ _. current-node) k refl ahead (onward-unreturned s q aheadq) refl refl refl
         (climbing-fit s rs r last now later g rd v w (omega arith) (omega arith) 3 0 (r .t1) (omega (arith, rd .active .t1-past)) (inl (omega arith, omega arith, omega (arith, ancestors-count n, g .levels-some))))

@@ -8,11 +8,10 @@ use native.Mathlib.Omega.{arith}
 use lib.Dec.{leb, ltb}
 use Rattle.base.specs.rules.Choice.{choose}
 use Rattle.word.specs.rules.Word.{tcnt, tmax, addOcc, addTcnt, addTmax, addDcnt, addDmax, takeBits, giveBits, returnOcc}
-use Rattle.tree.specs.rules.Tree.{leaf, level, left}
+use Rattle.tree.specs.rules.Tree.{leaf, level}
 use Rattle.lock.specs.declared.Record.{Record}
 use Rattle.lock.specs.declared.Settings.{Settings}
 use Rattle.lock.specs.rules.Steps.{wanted}
-use Rattle.lock.specs.laws.Placed.{Clipped}
 use Rattle.lock.specs.claim.Owned.{reaches, owns, ownsUnit, ownsNotice}
 
 -- v, if u is in the record's window
@@ -63,9 +62,9 @@ module _ (s : Settings) (r q : Record) where
     -- "DCnt + 1 at each ancestor notified"
     unnotified : level x ≢ s .levels → Notices x → ownsNotice s x r ≡ suc (ownsNotice s x q) → v ≡ addDcnt 1 w → Effect x w v
     -- "leaf: swap the wanted bits from all 0 to all 1"
-    took : level x ≡ s .levels → Clipped (left (s .levels) x) (r .left) (r .right) → Grips x 0 3 → takeBits (wanted s r x) w .done ≡ true → v ≡ takeBits (wanted s r x) w .word → Effect x w v
+    took : level x ≡ s .levels → Grips x 0 3 → takeBits (wanted s r x) w .done ≡ true → v ≡ takeBits (wanted s r x) w .word → Effect x w v
     -- "swap them from all 1 to all 0"
-    gave : level x ≡ s .levels → Clipped (left (s .levels) x) (r .left) (r .right) → Grips x 3 0 → giveBits (wanted s r x) w .done ≡ true → v ≡ giveBits (wanted s r x) w .word → Effect x w v
+    gave : level x ≡ s .levels → Grips x 3 0 → giveBits (wanted s r x) w .done ≡ true → v ≡ giveBits (wanted s r x) w .word → Effect x w v
 
 -- ---- one change after another that changes no ownership
 

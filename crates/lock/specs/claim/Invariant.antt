@@ -85,8 +85,8 @@ module _ (s : Settings) (st : Parts) (inv : Invariant s st) (c : ℕ) (client : 
         | passed i g j ↦ grips 2 0 g
         | notified i g t j ↦ notes g
         | unnotified i g t j ↦ notes g
-        | took i p g t j ↦ grips 0 3 g
-        | gave i p g t j ↦ grips 3 0 g
+        | took i g t j ↦ grips 0 3 g
+        | gave i g t j ↦ grips 3 0 g
       ]
 
   -- the inner word that is touched
@@ -103,8 +103,8 @@ module _ (s : Settings) (st : Parts) (inv : Invariant s st) (c : ℕ) (client : 
         | passed i g j ↦ rw j (inner-passed s x (a .some) w rs k c q client 2 0 g refl refl)
         | notified i g t j ↦ rw j (inner-notified s x (a .some) w rs k c q client g t)
         | unnotified i g t j ↦ rw j (inner-unnotified s x (a .some) w rs k c q client g t)
-        | took i p g t j ↦ absurd (b i)
-        | gave i p g t j ↦ absurd (b i)
+        | took i g t j ↦ absurd (b i)
+        | gave i g t j ↦ absurd (b i)
       ]
 
   levels-some : 1 ≤ s .levels
@@ -123,8 +123,8 @@ module _ (s : Settings) (st : Parts) (inv : Invariant s st) (c : ℕ) (client : 
         | passed i g j ↦ same (g .units u d)
         | notified i g t j ↦ same (g .units u)
         | unnotified i g t j ↦ same (g .units u)
-        | took i p g t j ↦ same (g .units u d)
-        | gave i p g t j ↦ same (g .units u d)
+        | took i g t j ↦ same (g .units u d)
+        | gave i g t j ↦ same (g .units u d)
       ]
 
   -- a unit of the leaf that is touched
@@ -142,8 +142,8 @@ module _ (s : Settings) (st : Parts) (inv : Invariant s st) (c : ℕ) (client : 
         | passed i g j ↦ inner i
         | notified i g t j ↦ inner i
         | unnotified i g t j ↦ inner i
-        | took i p g t j ↦ rw j (subst (λ (n : ℕ). LeafBit s (set rs c q) u (takeBits (wanted s r n) w .word)) z (leaf-took s u levels-some f w rs k c q client (rw z p) (rw z g) (rw z t)))
-        | gave i p g t j ↦ rw j (subst (λ (n : ℕ). LeafBit s (set rs c q) u (giveBits (wanted s r n) w .word)) z (leaf-gave s u levels-some f w rs k c q client (rw z p) (rw z g) (rw z t)))
+        | took i g t j ↦ rw j (subst (λ (n : ℕ). LeafBit s (set rs c q) u (takeBits (wanted s r n) w .word)) z (leaf-took s u levels-some f w rs k c q client (rw z g) (rw z t)))
+        | gave i g t j ↦ rw j (subst (λ (n : ℕ). LeafBit s (set rs c q) u (giveBits (wanted s r n) w .word)) z (leaf-gave s u levels-some f w rs k c q client (rw z g) (rw z t)))
       ]
 
   -- a leaf word that is touched still has 64 bits
@@ -160,8 +160,8 @@ module _ (s : Settings) (st : Parts) (inv : Invariant s st) (c : ℕ) (client : 
         | passed i g j ↦ absurd (i b)
         | notified i g t j ↦ absurd (i b)
         | unnotified i g t j ↦ absurd (i b)
-        | took i p g t j ↦ rw j (take-lt (wanted s r x) w (wanted-lt (left (s .levels) x) (r .left) (r .right) (p .some) (p .starts) (p .ends)) k)
-        | gave i p g t j ↦ rw j (give-lt (wanted s r x) w (wanted-lt (left (s .levels) x) (r .left) (r .right) (p .some) (p .starts) (p .ends)) k)
+        | took i g t j ↦ rw j (take-lt (wanted s r x) w (wanted-lt (left (s .levels) x) (r .left) (r .right)) k)
+        | gave i g t j ↦ rw j (give-lt (wanted s r x) w (wanted-lt (left (s .levels) x) (r .left) (r .right)) k)
       ]
 
   -- a statement of the word of node n after the call

@@ -19,7 +19,7 @@ use Rattle.lock.specs.declared.Settings.{Settings}
 use Rattle.lock.specs.rules.Records.{returning, pieces, pieceAt, currentPiece, givenPiece, isLeaf, gripOf, noticesOf, withGiving, withGrip, withPlace, idleWith}
 use Rattle.lock.specs.rules.Steps.{touchedIn, wordReturned, pieceReturned, turnReturned, wanted, leaves, returnBits, returnInner, giveBack}
 use Rattle.lock.specs.laws.Active.{Settled}
-use Rattle.lock.specs.laws.Placed.{clipped, placed, given-notices}
+use Rattle.lock.specs.laws.Placed.{placed, given-notices}
 use Rattle.lock.specs.laws.Pieces.{grip-before, grip-current, grip-after}
 use Rattle.lock.specs.laws.MoveLaws.{touched-own, touched-notice}
 use Rattle.lock.specs.laws.ReturnLaws.{own-leaf, own-inner, own-notice, inner-occ, inner-turn, inner-ticket}
@@ -98,9 +98,8 @@ module _ (s : Settings) (rs : List Record) (r : Record) (last now : ℕ) (later 
   unfolding returnBits
   bits-keeps z leaf =
       let swap = giveBits (wanted s r n) w in
-      let meets = clipped (s .levels) (r .left) (r .right) n (omega (arith, g .levels-some)) (g .levels-most) (rd .active .meets (r .giving) begun) leaf in
       on-choose (λ (y : Moved). y .number ≡ 0 → Keeps s rs r n w (y .word) (y .next) now) (swap .done) (leaves (swap .word) (wordReturned s r)) (record { number = 9; word = w; next = r })
-      (λ t _. keeps (swap .word) (gave leaf meets (grips z 3 (leaf-grip leaf)) (test-true (swap .done) t) refl))
+      (λ t _. keeps (swap .word) (gave leaf (grips z 3 (leaf-grip leaf)) (test-true (swap .done) t) refl))
       (λ _ f. absurd (omega arith))
 
   -- ---- the own word of an inner node

@@ -1,6 +1,6 @@
 -- Laws of the bits of a word: which there are, that a word is its bits, and what `&`, `|` and `!` do to bit b. Assumes nothing.
 use mathlib.Core.Path.{_≡_, refl, sym, ap, ap₂, _∙_, subst}
-use mathlib.Core.Logic.{_⊎_, inl, inr}
+use mathlib.Core.Logic.{_⊎_, _↔_, inl, inr, ⊎-elim}
 use Prim.Native.Nat.{ℕ, zero, suc, _+_, _-_, _*_, _/_, _%_, _^_, _≤_, _<_, min, max}
 use native.Mathlib.Nat.{mod-lt, zero-div, div-add-mod', div-eq-of-lt, div-one, lt-of-lt-of-le}
 use native.Mathlib.Numerals.{add-one, one-add}
@@ -22,6 +22,13 @@ bit-cases b w = digit (bit b w) (bit-lt b w)
     digit zero h = inl refl
     digit (suc zero) h = inr refl
     digit (suc (suc n)) h = absurd (omega arith)
+
+pub bit-clear : (b w : ℕ) → (bit b w ≡ 1 → ⊥) → bit b w ≡ 0
+bit-clear b w f = ⊎-elim (λ z. z) (λ o. absurd (f o)) (bit-cases b w)
+
+-- two bits that are set under the same condition are equal
+pub bit-same : {P : Type 0} (b x y : ℕ) → (bit b x ≡ 1) ↔ P → (bit b y ≡ 1) ↔ P → bit b x ≡ bit b y
+bit-same b x y p q = ⊎-elim (λ z. z ∙ sym (bit-clear b y (λ o. omega (arith, p .1 (q .0 o))))) (λ o. o ∙ sym (q .1 (p .0 o))) (bit-cases b x)
 
 -- ---- words whose bits are known
 

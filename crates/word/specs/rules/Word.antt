@@ -1,5 +1,7 @@
--- To be believed: the words of the tree as the numbers that they are, and what one access does to a word. Quotations are of document 01.
+-- To be believed: the words of the tree as the numbers that they are, and what one access does to a word. Quotations are of document 01, if no other is named.
 -- Assumes nothing.
+use mathlib.Core.Path.{_≡_}
+use mathlib.Core.Logic.{_↔_}
 use mathlib.Core.Bool.{Bool}
 use mathlib.Core.List.{List, [], _∷_}
 use Prim.Native.Nat.{ℕ, _+_, _-_, _*_, _/_, _%_, _^_, _≤_, _<_, min, max}
@@ -97,9 +99,14 @@ maskedSwap compared expected swapped value w =
 unfoldable pub leafBits : ℕ → ℕ → ℕ
 leafBits low high = 2 ^ high - 2 ^ low
 
--- the wanted bits of the leaf whose first unit is `edge`, for the window [l, r)
+-- the wanted bits of the leaf whose first unit is `edge`, for the window [l, r), whose edges are clipped to the leaf
 unfoldable pub wantedBits : ℕ → ℕ → ℕ → ℕ
 wantedBits edge l r = leafBits (max l edge - edge) (min r (edge + 64) - edge)
+
+-- document 02, request 2.5, of "a leaf's part of a window": "Bit b is set exactly when unit b is in the part." Unit b of the leaf is edge + b. The wanted bits
+-- are these, and no other word is: `wanted-exactly` and `wanted-only` in laws/Leaf.antt.
+abbrev pub PartBits : ℕ → ℕ → ℕ → ℕ → Type 0
+PartBits edge l r bits = (b : ℕ) → b < 64 → (bit b bits ≡ 1) ↔ ((l ≤ edge + b) × (edge + b < r))
 
 -- claim: "swap the wanted bits from all 0 to all 1"
 unfoldable pub takeBits : ℕ → ℕ → Swap
