@@ -1,6 +1,6 @@
 // The words of the tree by masks and shifts. What holds of a field holds at any place and width.
 ghost use mathlib.Core.Path.{_≡_};
-ghost use Prim.Native.Nat.{_+_, _^_, _≤_, _<_, min, max};
+ghost use Prim.Native.Nat.{_+_, _-_, _^_, _≤_, _<_};
 ghost use Rattle.word.specs.rules.Word.{Place, field, addField, occ, tcnt, tmax, dcnt, dmax, addOcc, addTcnt, addTmax, addDcnt, addDmax, layout, addFields, returnOcc, leafBits, wantedBits, maskedSwap, takeBits, giveBits};
 
 // An inner word: how many bits stand below each field.
@@ -129,25 +129,22 @@ pub fn leaf_bits(low: u64, high: u64) -> u64
     (u64::MAX >> (64 - (high - low))) << low
 }
 
-fn larger(a: u64, b: u64) -> u64
-    ensures { λ r. ⌜ r ≡ max a b ⌝ }
+// a - b, and 0 where b is larger, as the library's difference is. The test is a factor, so that there is no branch.
+fn saturating_sub(a: u64, b: u64) -> u64
+    ensures { λ r. ⌜ r ≡ a - b ⌝ }
 {
-    if a < b { b } else { a }
+    let larger = (b < a) as u64;
+    larger * a - larger * b
 }
 
-fn smaller(a: u64, b: u64) -> u64
-    ensures { λ r. ⌜ r ≡ min a b ⌝ }
-{
-    if a < b { a } else { b }
-}
-
-// The wanted bits of the leaf whose first unit is `edge`, for a window [l, r) that meets it.
+// The wanted bits of the leaf whose first unit is `edge`, for a window [l, r) that meets it. Both edges are clipped to the leaf, and the bits between them picked, without a
+// branch. "Bit b is set exactly when unit b is in the part" (document 02, request 2.5) is `wanted-exactly` in specs/laws/Leaf.antt; of no other word is it so (`wanted-only`).
 pub fn wanted_bits(edge: u64, l: u64, r: u64) -> u64
     requires { ⌜ (l < r) × (l < edge + 64) × (edge < r) × (edge + 64 < 2 ^ 64) ⌝ }
     ensures { λ bits. ⌜ bits ≡ wantedBits edge l r ⌝ }
 {
-    let low = larger(l, edge) - edge;
-    let high = smaller(r, edge + 64) - edge;
+    let low = saturating_sub(l, edge);
+    let high = 64 - saturating_sub(edge + 64, r);
     leaf_bits(low, high)
 }
 
