@@ -6,11 +6,12 @@ from unittest.mock import patch
 
 from histories import MOST_PATIENCE, Shape
 from model import record as records
-from model import step, tree
+from model import step, tree, word
 from model.record import Settings
 from passed_claims import IN_A_CLIMB, WHILE_BLOCKED
 
 notify_levels = tree.notify_levels
+wanted = word.wanted
 
 
 def by_broken(function, *arguments):
@@ -72,6 +73,24 @@ def bits_without_comparing(settings, record, words, clock):
     return step.Step(0, step.to(record, 6, grip=3), n, step.word_at(words, n) | bits)
 
 
+def first_bit_left_out(edge, l, r):
+    """A leaf's first wanted bit is left out."""
+    bits = wanted(edge, l, r)
+    return bits & (bits - 1)
+
+
+def last_bit_left_out(edge, l, r):
+    """A leaf's last wanted bit is left out."""
+    bits = wanted(edge, l, r)
+    return bits & ~(1 << bits.bit_length() >> 1)
+
+
+def whole_leaf_by_a_shift_of_64(edge, l, r):
+    """As many ones by (1 << count) - 1, where a processor takes a shift by 64 for one by 0: no bit of a whole leaf."""
+    bits = wanted(edge, l, r)
+    return bits if bits.bit_count() < 64 else 0
+
+
 RULES = {
     "late tested with > for >=": lambda: patch.object(step, "late", late_with_greater),
     "a wait of T - 1": lambda: patch.object(step, "waited", waited_one_less),
@@ -81,6 +100,9 @@ RULES = {
     "a climb that goes on after a wait": lambda: patch.dict(step.ROWS, {4: blocked_goes_on}),
     "t1 noted at the root": lambda: patch.dict(step.ROWS, {3: climb_notes_at_the_root}),
     "bits taken without comparing": lambda: patch.object(step, "claim_leaf", bits_without_comparing),
+    "a leaf's first wanted bit left out": lambda: patch.object(word, "wanted", first_bit_left_out),
+    "a leaf's last wanted bit left out": lambda: patch.object(word, "wanted", last_bit_left_out),
+    "a whole leaf by a shift of 64": lambda: patch.object(word, "wanted", whole_leaf_by_a_shift_of_64),
     "a taken first piece gives 9": lambda: patch.object(step, "taken", held_after_any_piece),
     "no notice is given back": lambda: patch.object(records, "notified", nothing_notified),
 }
@@ -93,6 +115,9 @@ SHAPES = {
     "a node checks only itself": Shape(Settings(3, 2, 2, MOST_PATIENCE), 3, 600),
     "a cancelled ticket passed on out of turn": Shape(Settings(2, 1, 2, MOST_PATIENCE), 5, 600),
     "bits taken without comparing": Shape(Settings(2, 1, 9, MOST_PATIENCE), 3, 600),
+    "a leaf's first wanted bit left out": Shape(Settings(2, 1, 9, MOST_PATIENCE), 3, 600),
+    "a leaf's last wanted bit left out": Shape(Settings(2, 1, 9, MOST_PATIENCE), 3, 600),
+    "a whole leaf by a shift of 64": Shape(Settings(2, 1, 9, MOST_PATIENCE), 3, 600),
     "a taken first piece gives 9": Shape(Settings(2, 1, 2, MOST_PATIENCE), 3, 600),
     "no notice is given back": Shape(Settings(2, 1, 2, MOST_PATIENCE), 3, 600),
 }
@@ -101,18 +126,18 @@ SHAPES = {
 HISTORIES = {"a climb that goes on after a wait": WHILE_BLOCKED, "t1 noted at the root": IN_A_CLIMB}
 
 
-def forget_lists():
-    """The lists kept from one call to the next were made by the rule before."""
-    records.notify_list.cache_clear()
-    records.check_list.cache_clear()
+def forget():
+    """The lists and bits kept from one call to the next were made by the rule before."""
+    for kept in (records.notify_list, records.check_list, records.wanted_bits):
+        kept.cache_clear()
 
 
 @contextmanager
 def broken(rule):
     """The rule is broken while this lasts."""
-    forget_lists()
+    forget()
     try:
         with RULES[rule]():
             yield
     finally:
-        forget_lists()
+        forget()
