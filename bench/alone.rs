@@ -1,4 +1,4 @@
-//! The cover, the step count and the unreadable test alone, through the libraries and in plain Rust, both by C's convention.
+//! The cover, the step count, the wanted bits of a leaf and the unreadable test alone, through the libraries and in plain Rust, both by C's convention.
 
 use crate::lent::Window;
 use crate::met::met;
@@ -13,15 +13,18 @@ use std::hint::black_box;
 
 extern "C" {
     fn probe_cover(levels: u64, l: u64, r: u64) -> CoverAnswer;
+    fn probe_wanted_bits(edge: u64, l: u64, r: u64) -> u64;
     fn probe_unreadable(record: Record, settings: Settings, last: u64) -> bool;
 }
 
 type Cover = unsafe extern "C" fn(u64, u64, u64) -> CoverAnswer;
 type StepCount = unsafe extern "C" fn(u64, u64, u64, u64) -> StepCountAnswer;
+type WantedBits = unsafe extern "C" fn(u64, u64, u64) -> u64;
 type Unreadable = unsafe extern "C" fn(Record, Settings, u64) -> bool;
 
 const COVER: [Cover; 2] = [probe_cover, linked::cover];
 const STEP_COUNT: [StepCount; 2] = [nolthewyr_step_count, linked::step_count];
+const WANTED_BITS: [WantedBits; 2] = [probe_wanted_bits, linked::wanted_bits];
 const UNREADABLE: [Unreadable; 2] = [probe_unreadable, linked::unreadable];
 
 const ROUNDS: usize = 500;
@@ -43,6 +46,14 @@ fn compare_step_counts(random: &mut Random) {
         let (l, r) = random.window(levels.clamp(2, 12));
         let [rattle, rust] = STEP_COUNT.map(|step_count| unsafe { step_count(levels, distance, l, r) });
         assert_eq!(rattle, rust, "steps {levels} {distance}, [{l}, {r}): Rattle on the left, Rust on the right");
+    }
+}
+
+fn compare_wanted_bits(random: &mut Random) {
+    for _ in 0..COMPARED {
+        let (edge, (l, r)) = random.met_leaf();
+        let [rattle, rust] = WANTED_BITS.map(|wanted_bits| unsafe { wanted_bits(edge, l, r) });
+        assert_eq!(rattle, rust, "leaf from {edge}, [{l}, {r}): Rattle on the left, Rust on the right");
     }
 }
 
@@ -87,6 +98,14 @@ fn step_count_times(mix: &[Window]) -> [f64; 2] {
     })
 }
 
+fn wanted_bits_times(mix: &[(u64, Window)]) -> [f64; 2] {
+    black_box(WANTED_BITS).map(|wanted_bits| {
+        time_each(mix, |(edge, (l, r))| {
+            black_box(unsafe { wanted_bits(edge, l, r) });
+        })
+    })
+}
+
 fn test_times(mix: &[Client]) -> [f64; 2] {
     black_box(UNREADABLE).map(|unreadable| {
         time_each(mix, |Client { clock, record }| {
@@ -103,21 +122,35 @@ fn mixes<T: Clone>(of: impl Fn(Window) -> Vec<T>) -> Vec<(&'static str, Vec<T>)>
     mixes
 }
 
+/// Leaves by their first unit, with windows that meet them: one window inside its leaf, one leaf inside its window, and any.
+fn met_leaves(random: &mut Random) -> Vec<(&'static str, Vec<(u64, Window)>)> {
+    let any = (0..1000).map(|_| random.met_leaf()).collect();
+    vec![
+        ("[10, 20) in the leaf [0, 64)", vec![(0, (10, 20))]),
+        ("[10, 200) over the leaf [64, 128)", vec![(64, (10, 200))]),
+        ("1,000 windows and leaves in turn", any),
+    ]
+}
+
 pub fn measure() {
     let windows = mixes(|window| vec![window]);
+    let leaves = met_leaves(&mut Random(5));
     let tests = mixes(clients);
     compare_covers(&mut Random(1));
     compare_tests(&mut Random(2), &tests[WINDOWS.len()].1);
     compare_step_counts(&mut Random(3));
+    compare_wanted_bits(&mut Random(4));
     let times = best(ROUNDS, || {
         let covers = windows.iter().flat_map(|(_, mix)| cover_times(mix));
         let step_counts = windows.iter().flat_map(|(_, mix)| step_count_times(mix));
+        let wanted_bits = leaves.iter().flat_map(|(_, mix)| wanted_bits_times(mix));
         let tests = tests.iter().flat_map(|(_, mix)| test_times(mix));
-        covers.chain(step_counts).chain(tests).collect()
+        covers.chain(step_counts).chain(wanted_bits).chain(tests).collect()
     });
     let of_windows = ["cover", "step count"].into_iter().flat_map(|call| windows.iter().map(move |(name, _)| (call, *name)));
+    let wanted_bits = leaves.iter().map(|(name, _)| ("wanted bits of a leaf", *name));
     let tests = tests.iter().map(|(name, _)| ("unreadable, each record of the window", *name));
-    let rows = of_windows.chain(tests).zip(times.chunks(2)).map(|((call, name), times)| {
+    let rows = of_windows.chain(wanted_bits).chain(tests).zip(times.chunks(2)).map(|((call, name), times)| {
         let (rattle, rust) = (times[0], times[1]);
         let ratio = rattle / rust;
         row!["{call}", "{name}", "{rattle:.1}", "{rust:.1}", "{ratio:.2}"]

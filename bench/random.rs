@@ -37,6 +37,13 @@ impl Random {
         (l, l + self.below(bound))
     }
 
+    /// The first unit of a leaf, and a window that has a unit of it and fewer than 128 on either side of that unit.
+    pub fn met_leaf(&mut self) -> (u64, Window) {
+        let edge = 64 * (2 + self.below(1 << 20));
+        let unit = edge + self.below(64);
+        (edge, (unit - self.below(128), unit + 1 + self.below(128)))
+    }
+
     /// A word in which nobody has set Occ: all 0, all counters at their highest, or anything.
     pub fn word(&mut self) -> u64 {
         let any = self.next();

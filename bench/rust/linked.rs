@@ -67,6 +67,10 @@ pub unsafe extern "C" fn cover(levels: u64, l: u64, r: u64) -> CoverAnswer {
     }
 }
 
+pub unsafe extern "C" fn wanted_bits(edge: u64, l: u64, r: u64) -> u64 {
+    super::wanted_bits(edge, l, r)
+}
+
 pub unsafe extern "C" fn step_count(levels: u64, distance: u64, l: u64, r: u64) -> StepCountAnswer {
     match super::step_count(levels, distance, l, r) {
         Ok(steps) => StepCountAnswer { number: 0, steps },

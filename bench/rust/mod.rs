@@ -14,6 +14,7 @@ use crate::nolthewyr::{Call, Client, Settings};
 
 pub use pages::{planners_page, run_page};
 pub use tree::{nodes, Cover};
+pub use word::wanted_bits;
 
 const MOST_CLIENTS: usize = 32767;
 

@@ -2,7 +2,7 @@
 
 use super::record::grip;
 use super::tree::{check_node, climb, level, nodes};
-use super::word::{DCNT, DMAX, OCC, TCNT, TMAX};
+use super::word::{wanted_bits, DCNT, DMAX, OCC, TCNT, TMAX};
 use super::Cause;
 use crate::nolthewyr::{Outcome, Phase, Record, Settings};
 
@@ -77,10 +77,7 @@ impl Record {
 
     /// The bits of the window in a leaf that it meets.
     fn wanted(&self, settings: &Settings, leaf: u64) -> u64 {
-        let edge = 64 * (leaf - 1 - nodes(settings.levels - 1));
-        let low = self.left.saturating_sub(edge);
-        let high = (self.right - edge).min(64);
-        u64::MAX << low & u64::MAX >> (64 - high)
+        wanted_bits(64 * (leaf - 1 - nodes(settings.levels - 1)), self.left, self.right)
     }
 
     fn claim(&mut self, words: &mut [u64], settings: &Settings, clock: u64) {

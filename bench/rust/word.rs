@@ -1,4 +1,4 @@
-//! The counters of an inner word.
+//! The counters of an inner word, and the bits of a leaf word.
 
 /// A counter, by the mask of its bits.
 #[derive(Clone, Copy)]
@@ -21,4 +21,11 @@ impl Counter {
     pub fn add_one(self, word: &mut u64) {
         *word = *word & !self.0 | word.wrapping_add(1 << self.0.trailing_zeros()) & self.0;
     }
+}
+
+/// The bits of the window [l, r) in a leaf that it meets, whose first unit is `edge`.
+pub fn wanted_bits(edge: u64, l: u64, r: u64) -> u64 {
+    let low = l.saturating_sub(edge);
+    let high = (r - edge).min(64);
+    u64::MAX << low & u64::MAX >> (64 - high)
 }
