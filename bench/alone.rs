@@ -1,4 +1,5 @@
-//! The cover, the step count, the wanted bits of a leaf and the unreadable test alone, through the libraries and in plain Rust, both by C's convention.
+//! The cover, the step count, the wanted bits of a leaf and the unreadable test alone, through the libraries and in plain Rust,
+//! both by C's convention.
 
 use crate::lent::Window;
 use crate::met::met;
