@@ -8,6 +8,7 @@ use native.Mathlib.Omega.{arith}
 use lib.ListN.{take, drop, replicate}
 use Rattle.base.specs.laws.Every.{both}
 use Rattle.base.specs.rules.Choice.{choose}
+use Rattle.base.specs.rules.Overlap.{Overlap}
 use Rattle.word.specs.rules.Word.{field, putField, addField, matches, replaced, maskedSwap, leafBits, wantedBits, takeBits, giveBits, returnOcc}
 use Rattle.tree.specs.rules.Tree.{climb, leftmost, first, level, levelWithin, size, left, units, holder, wordCount}
 use Rattle.tree.specs.rules.Lists.{upward, ancestors, ancestor, notifies, notifiedFrom, notifyLevels, notifyList, row, descendants, nearest, checkList}
@@ -20,7 +21,7 @@ use Rattle.lock.specs.rules.Steps.{touchedIn, startPhase, begin, firstNo
 use Rattle.lock.specs.rules.Calls.{firstCause, settingsOutside, treeTests, clientsOutside, clientTests, requestTests, stepTests, releaseTests, cancelTests, requested, released, cancelled}
 use Rattle.lock.specs.rules.Table.{State, Call, request, step, clientOf, clientAt, ownTests, numberOf, after, call, openingNumber, opened, opening}
 use Rattle.lock.specs.declared.Settings.{Settings}
-use Rattle.lock.specs.rules.History.{run, Event, events, Some, RequestOf, StepOf, ReleaseOf, GaveBackIn, Holds, Overlap, At, TrueMoments}
+use Rattle.lock.specs.rules.History.{run, Event, events, Some, RequestOf, StepOf, ReleaseOf, GaveBackIn, Holds, At, TrueMoments}
 use Rattle.lock.specs.examples.Seen.{seen, isRequest, isRelease, is-request, is-release, noneOf, none, later}
 
 -- H 2, m 1, T 2, P 20, two clients

@@ -6,6 +6,7 @@ use mathlib.Core.Bool.{false}
 use mathlib.Core.List.{List, [], _∷_, _++_}
 use Prim.Native.Nat.{ℕ, zero, suc, _*_, _-_, _≤_, _<_}
 use lib.ListN.{length}
+use Rattle.base.specs.rules.Overlap.{Overlap}
 use Rattle.word.specs.rules.Word.{exp, occ, tcnt, tmax, dcnt, dmax}
 use Rattle.tree.specs.rules.Tree.{level, Node}
 use Rattle.lock.specs.declared.Settings.{Settings}
@@ -98,15 +99,6 @@ pub record GivenBack (h : List Event) (c : ℕ) : Type 0 where
 abbrev pub Idle : List Event → ℕ → Type 0
 Idle h c = (Some (Accepted (RequestOf c)) h → ⊥) ⊎ GivenBack h c
 
--- ---- "Two windows overlap if some unit u has l ≤ u < r in both."
-
-pub record Overlap (l r k q : ℕ) : Type 0 where
-  pub unit : ℕ
-  pub low : l ≤ unit
-  pub high : unit < r
-  pub other-low : k ≤ unit
-  pub other-high : unit < q
-
 -- ---- "Of an inner word the flags are Exp and Occ, the ticket counts TCnt and TMax, the notice counts DCnt and DMax."
 
 pub record CleanInner (w : ℕ) : Type 0 where
@@ -145,7 +137,7 @@ pub record TrueMoments (h : List Event) (moment : ℕ → ℕ) : Type 0 where
 
 -- ---- "Demand 3 is one claim about the whole history"
 
--- "no two different clients hold windows that overlap"
+-- "no two different clients hold windows that overlap" (`Overlap` is the sentence before it, which stands apart since a calendar's windows are said not to overlap in the same sense)
 abbrev pub SingleHolding : List Event → Type 0
 SingleHolding h = (c d l r k q : ℕ) → (c ≡ d → ⊥) → Holds h c l r → Holds h d k q → Overlap l r k q → ⊥
 
