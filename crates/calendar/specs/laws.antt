@@ -1,0 +1,9 @@
+pub mod BothWays
+pub mod Closed
+pub mod Code
+pub mod Days
+pub mod Edges
+pub mod Figures
+pub mod HoursLaws
+pub mod Inverse
+pub mod SomeBelow

@@ -1,0 +1,3 @@
+pub mod Calendar
+pub mod Hours
+pub mod Windows
