@@ -32,7 +32,7 @@ SHARED = $(BUILT)/libnolthewyr.so
 SCHEDULE = $(BUILT)/schedule
 PROGRAMS = target/bin/rangelog target/bin/rangepages
 # The proved parts of the library: each archive has the exported functions of its crate.
-PROVED = target/staticlib/libtable.a target/staticlib/libpages.a
+PROVED = target/staticlib/libtable.a target/staticlib/libpages.a target/staticlib/libcalendar.a
 MANUALS = $(wildcard man/*.1)
 # The declarations and `Table`: for each language the file that a program names, and beside it the one that this file has.
 TABLES = $(wildcard include/*.rs) $(wildcard python/*.py)

@@ -2,8 +2,8 @@
  *
  * The library allocates nothing: the caller lends clients and words. The proof of the calls assumes what Rust's references give, and
  * from C it is the caller's duty:
- * - each length is true: `clients` has `client_count` elements, `words` has `word_count` and `rows` has `row_count`, at aligned
- *   addresses; no pointer is null;
+ * - each length is true: `clients` has `client_count` elements, `words` has `word_count`, `rows` has `row_count` and `hours` has
+ *   `hour_count`, at aligned addresses; no pointer is null;
  * - the two arrays do not overlap;
  * - while a call runs nobody else reads or writes them (while a page is asked for, others may read the clients), and between the calls
  *   of one table nobody else writes them.
@@ -27,7 +27,7 @@ extern "C" {
 
 /* The version of this header. Structs grow between versions: a program goes with a library whose first two numbers are the same, and
  * whose third, which grows with new functions, is not lower if the program calls one of these. */
-#define NOLTHEWYR_VERSION "0.4.0"
+#define NOLTHEWYR_VERSION "0.4.1"
 
 /* Where a client is. It holds its window exactly while its phase is 9. */
 enum nolthewyr_phase {
@@ -66,7 +66,10 @@ enum nolthewyr_cause {
     NOLTHEWYR_CAUSE_UNREADABLE = 6,
     NOLTHEWYR_CAUSE_WINDOW = 7,
     NOLTHEWYR_CAUSE_PHASE = 8,
-    NOLTHEWYR_CAUSE_CLEAR_BIT = 9
+    NOLTHEWYR_CAUSE_CLEAR_BIT = 9,
+    NOLTHEWYR_CAUSE_CALENDAR = 12,
+    NOLTHEWYR_CAUSE_LAST_QUARTER = 13,
+    NOLTHEWYR_CAUSE_CLOSED = 14
 };
 
 /* The levels H of the tree (2..12), the distance m of notices (1..4), the wait T and the patience P (both 1..2^32 - 1 ticks). */
@@ -144,6 +147,35 @@ typedef struct nolthewyr_run_page_answer {
     uint64_t held;
 } nolthewyr_run_page_answer;
 
+/* A calendar of wards: the levels of the tree that their units are locked by, how many wards there are (1..64) and how many weeks (1..60);
+ * wards * weeks * 672 is no more than the tree's units. */
+typedef struct nolthewyr_calendar {
+    uint64_t levels;
+    uint64_t wards;
+    uint64_t weeks;
+} nolthewyr_calendar;
+
+/* A quarter of an hour of a ward: the week and the ward from 0, the day 0..6, the quarter of that day 0..95. */
+typedef struct nolthewyr_quarter {
+    uint64_t ward;
+    uint64_t week;
+    uint64_t day;
+    uint64_t quarter;
+} nolthewyr_quarter;
+
+/* The number, and the edges of a window; 0 in a refused answer. */
+typedef struct nolthewyr_calendar_window_answer {
+    uint64_t number;
+    uint64_t left;
+    uint64_t right;
+} nolthewyr_calendar_window_answer;
+
+/* The number, and the quarter that a unit is; all 0 in a refused answer. */
+typedef struct nolthewyr_calendar_quarter_answer {
+    uint64_t number;
+    nolthewyr_quarter at;
+} nolthewyr_calendar_quarter_answer;
+
 /* How many words a tree of so many levels has, (4^levels - 1) / 3; 0 for levels that no tree has. */
 uint64_t nolthewyr_word_count(uint64_t levels);
 
@@ -184,6 +216,18 @@ nolthewyr_cover_answer nolthewyr_cover(uint64_t levels, uint64_t left, uint64_t 
 /* How many accepted steps [left, right) needs from its request until it is held, with nobody else in the tree: if each wait is over before
  * it is stepped, no claim is late and patience does not run out. Tests the levels and the distance, then the window. */
 nolthewyr_step_count_answer nolthewyr_step_count(uint64_t levels, uint64_t distance, uint64_t left, uint64_t right);
+
+/* Ward hours: the edges [left, right) of the window from the first quarter of a ward to its last, which is locked too. The window may run
+ * over midnight and over a week's end. `hours` has a pair for each ward and day, ward 0's days 0 to 6 first: the quarter at which the
+ * ward opens and that at which it closes (0..96; closing is not open any more, and equal means closed all day). Tests the levels (1);
+ * then the calendar, the hours and both quarters (12); that the last is not before the first, nor in another ward (13); and that every
+ * quarter of the window is open (14). Edges that are answered are never refused by 7. docs/WARDS.md has more. */
+nolthewyr_calendar_window_answer nolthewyr_calendar_window(const uint64_t *hours, size_t hour_count, nolthewyr_calendar calendar,
+                                                           nolthewyr_quarter first, nolthewyr_quarter last);
+
+/* The way back: the ward, week, day and quarter that a unit is. Tests the levels (1), then the calendar and that the unit is one of it
+ * (12). */
+nolthewyr_calendar_quarter_answer nolthewyr_calendar_quarter(nolthewyr_calendar calendar, uint64_t unit);
 
 /* A number in plain words. Each has a text, an unknown one too. Causes 10 and 11 are those of the programs rangelog and rangepages. */
 const char *nolthewyr_phase_text(uint64_t number);

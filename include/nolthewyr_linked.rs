@@ -28,7 +28,7 @@ named_number!(Phase by nolthewyr_phase_text: IDLE = 0, TICKET = 1, TURN = 2, CLI
 // After LATE and OUT_OF_PATIENCE nothing is wrong with the window: the client asks for it again.
 named_number!(Outcome by nolthewyr_outcome_text: NONE = 0, RELEASED = 1, LATE = 2, CANCELLED = 3, OUT_OF_PATIENCE = 4);
 named_number!(Cause by nolthewyr_cause_text: ACCEPTED = 0, SETTINGS = 1, WORD_COUNT = 2, CLIENT_COUNT = 3, CLIENT = 4, CLOCK = 5,
-    UNREADABLE = 6, WINDOW = 7, PHASE = 8, CLEAR_BIT = 9);
+    UNREADABLE = 6, WINDOW = 7, PHASE = 8, CLEAR_BIT = 9, CALENDAR = 12, LAST_QUARTER = 13, CLOSED = 14);
 
 impl std::error::Error for Cause {}
 
@@ -113,6 +113,38 @@ pub struct RunPageAnswer {
     pub held: u64,
 }
 
+#[repr(C)]
+#[derive(Clone, Copy, Debug, Default, PartialEq)]
+pub struct Calendar {
+    pub levels: u64,
+    pub wards: u64,
+    pub weeks: u64,
+}
+
+#[repr(C)]
+#[derive(Clone, Copy, Debug, Default, PartialEq)]
+pub struct Quarter {
+    pub ward: u64,
+    pub week: u64,
+    pub day: u64,
+    pub quarter: u64,
+}
+
+#[repr(C)]
+#[derive(Clone, Copy, Debug, Default, PartialEq)]
+pub struct CalendarWindowAnswer {
+    pub number: u64,
+    pub left: u64,
+    pub right: u64,
+}
+
+#[repr(C)]
+#[derive(Clone, Copy, Debug, Default, PartialEq)]
+pub struct CalendarQuarterAnswer {
+    pub number: u64,
+    pub at: Quarter,
+}
+
 /// A text that the library owns: plain letters, ended by 0, and there as long as the program runs.
 pub(super) fn library_text(text: *const c_char) -> &'static str {
     unsafe { CStr::from_ptr(text) }.to_str().unwrap_or_default()
@@ -131,6 +163,8 @@ unsafe extern "C" {
     pub safe fn nolthewyr_cover(levels: u64, left: u64, right: u64) -> CoverAnswer;
     pub safe fn nolthewyr_step_count(levels: u64, distance: u64, left: u64, right: u64) -> StepCountAnswer;
     pub safe fn nolthewyr_word_count(levels: u64) -> u64;
+    pub fn nolthewyr_calendar_window(hours: *const u64, hour_count: usize, calendar: Calendar, first: Quarter, last: Quarter) -> CalendarWindowAnswer;
+    pub safe fn nolthewyr_calendar_quarter(calendar: Calendar, unit: u64) -> CalendarQuarterAnswer;
     pub safe fn nolthewyr_phase_text(number: u64) -> *const c_char;
     pub safe fn nolthewyr_outcome_text(number: u64) -> *const c_char;
     pub safe fn nolthewyr_cause_text(number: u64) -> *const c_char;

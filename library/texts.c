@@ -40,6 +40,10 @@ static const char *const causes[] = {
     [NOLTHEWYR_CAUSE_CLEAR_BIT] = "returning leaf finds a wanted bit clear",
     "not a schedule",
     "over 6 levels or over 64 clients, the limits of rangelog and rangepages",
+    [NOLTHEWYR_CAUSE_CALENDAR] = "wards not 1 to 64, weeks not 1 to 60, or more units than the tree has; hours not one pair for each ward "
+                                 "and day, over 96, or opening after closing; or no such ward, week, day, quarter or unit",
+    [NOLTHEWYR_CAUSE_LAST_QUARTER] = "last quarter before the first, or in another ward",
+    [NOLTHEWYR_CAUSE_CLOSED] = "ward closed in some quarter of the window",
 };
 
 static const char *text(const char *const *texts, size_t count, uint64_t number, const char *unknown)

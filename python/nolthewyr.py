@@ -18,8 +18,8 @@ from threading import RLock
 
 # All that a program names is found here, whichever of the two files has it.
 from nolthewyr_linked import (
-    FUNCTIONS, LEAST, SERIES, Call, Cause, Client, CoverAnswer, Outcome, Phase, Record, Row, RunPageAnswer, Settings, StepCountAnswer,
-    fitting, library, library_file)
+    FUNCTIONS, LEAST, SERIES, Calendar, CalendarQuarterAnswer, CalendarWindowAnswer, Call, Cause, Client, CoverAnswer, Outcome, Phase, Quarter,
+    Record, Row, RunPageAnswer, Settings, StepCountAnswer, fitting, library, library_file)
 
 TOO_MANY_CLIENTS = 32768
 
@@ -121,6 +121,20 @@ def step_count(levels, distance, left, right):
 def word_count(levels):
     """How many words a tree of so many levels has; 0 for levels that no tree has."""
     return library().nolthewyr_word_count(fitting(levels))
+
+
+def calendar_window(hours, calendar, first, last):
+    """The edges (left, right) of the window from the first quarter of a ward to its last, which is locked too; it may run over midnight and over
+    a week's end. `hours` has a pair for each ward and day, ward 0's days 0 to 6 first: the quarter at which the ward opens and that at which
+    it closes (0..96; closing is not open any more, and equal means closed all day). docs/WARDS.md has more."""
+    lent = (c_uint64 * len(hours))(*map(fitting, hours))
+    answer = accepted_answer(library().nolthewyr_calendar_window(lent, len(lent), calendar, first, last))
+    return answer.left, answer.right
+
+
+def calendar_quarter(calendar, unit):
+    """The ward, week, day and quarter that a unit is."""
+    return accepted_answer(library().nolthewyr_calendar_quarter(calendar, fitting(unit))).at
 
 
 def phase_text(number):

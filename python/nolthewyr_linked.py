@@ -11,14 +11,17 @@ from pathlib import Path
 
 # Structs grow between versions, and functions come with the third number: a library of another series, or of a lower version, is not used.
 SERIES = "0.4"
-LEAST = 0
+LEAST = 1
 FILE = f"libnolthewyr.so.{SERIES}"
 
 Phase = IntEnum("Phase", "IDLE TICKET TURN CLIMB BLOCKED CLAIM NOTIFY WAIT CHECK HELD RETURNING", start=0)
 # After LATE and OUT_OF_PATIENCE nothing is wrong with the window: the client asks for it again.
 Outcome = IntEnum("Outcome", "NONE RELEASED LATE CANCELLED OUT_OF_PATIENCE", start=0)
-Cause = IntEnum(
-    "Cause", "ACCEPTED SETTINGS WORD_COUNT CLIENT_COUNT CLIENT CLOCK UNREADABLE WINDOW PHASE CLEAR_BIT", start=0)
+# 10 and 11 are those of rangelog and rangepages alone.
+Cause = IntEnum("Cause", [
+    *((name, number) for number, name in enumerate(
+        "ACCEPTED SETTINGS WORD_COUNT CLIENT_COUNT CLIENT CLOCK UNREADABLE WINDOW PHASE CLEAR_BIT".split())),
+    ("CALENDAR", 12), ("LAST_QUARTER", 13), ("CLOSED", 14)])
 
 
 def fitting(number):
@@ -98,6 +101,30 @@ class RunPageAnswer(Fields):
     _fields_ = [("number", c_uint64), ("own", Record), ("held", c_uint64)]
 
 
+class Calendar(Numbers):
+    """A calendar of wards: the levels of the tree, how many wards there are (1..64) and how many weeks (1..60)."""
+
+    _fields_ = numbers("levels wards weeks")
+
+
+class Quarter(Numbers):
+    """A quarter of an hour of a ward: the week and the ward from 0, the day 0..6, the quarter of that day 0..95."""
+
+    _fields_ = numbers("ward week day quarter")
+
+
+class CalendarWindowAnswer(Numbers):
+    """The edges of a ward's window."""
+
+    _fields_ = numbers("number left right")
+
+
+class CalendarQuarterAnswer(Fields):
+    """The quarter that a unit is."""
+
+    _fields_ = [("number", c_uint64), ("at", Quarter)]
+
+
 LENT = POINTER(Client), c_size_t, POINTER(c_uint64), c_size_t, Settings
 FUNCTIONS = {
     "open": (LENT, c_uint64),
@@ -107,6 +134,8 @@ FUNCTIONS = {
     "cover": ((c_uint64, c_uint64, c_uint64), CoverAnswer),
     "step_count": ((c_uint64, c_uint64, c_uint64, c_uint64), StepCountAnswer),
     "word_count": ((c_uint64,), c_uint64),
+    "calendar_window": ((POINTER(c_uint64), c_size_t, Calendar, Quarter, Quarter), CalendarWindowAnswer),
+    "calendar_quarter": ((Calendar, c_uint64), CalendarQuarterAnswer),
     **{f"{name}_text": ((c_uint64,), c_char_p) for name in ("phase", "outcome", "cause")},
     "version": ((), c_char_p),
 }

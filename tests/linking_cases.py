@@ -24,16 +24,20 @@ TEXTS = ROOT / "library" / "texts.c"
 STRUCTS = {
     "settings": ("lock", "Settings"), "record": ("lock", "Record"), "client": ("lock", "Client"), "call": ("lock", "Call"),
     "cover_answer": ("cover", "Answer"), "step_count_answer": ("lock", "StepCount"), "row": ("pages", "Row"),
-    "run_page_answer": ("pages", "RunPage"),
+    "run_page_answer": ("pages", "RunPage"), "calendar": ("calendar", "Calendar"), "quarter": ("calendar", "Quarter"),
+    "calendar_window_answer": ("calendar", "WindowAnswer"), "calendar_quarter_answer": ("calendar", "QuarterAnswer"),
 }
 # The crates whose exported functions are linked.
-LINKED = "table", "pages"
+LINKED = "table", "pages", "calendar"
 
 # What the length of each lent slice is called, what C's types are in Rust, and what the structs that a function answers are called where
 # it is linked.
-LENGTHS = {"clients": "client_count", "words": "word_count", "rows": "row_count"}
+LENGTHS = {"clients": "client_count", "words": "word_count", "rows": "row_count", "hours": "hour_count"}
 C_TYPES = {"uint64_t": "u64", "size_t": "usize", "char": "c_char"}
-ANSWERS = {"cover::Answer": "CoverAnswer", "lock::StepCount": "StepCountAnswer", "RunPage": "RunPageAnswer"}
+ANSWERS = {
+    "cover::Answer": "CoverAnswer", "lock::StepCount": "StepCountAnswer", "RunPage": "RunPageAnswer", "WindowAnswer": "CalendarWindowAnswer",
+    "QuarterAnswer": "CalendarQuarterAnswer",
+}
 
 
 def title(name):
