@@ -4,7 +4,7 @@ from model.record import Settings
 from model.history import Call
 from model.history import KINDS as KINDS_IN_ORDER
 from model.schedule import CALL, HEADER, LONGEST, Header, Schedule, encode
-from scheduling.problems import Wrong
+from scheduling.problems import Wrong, all_parsed
 from scheduling.text import KINDS, Source, line_of, settings_line
 
 pack = encode
@@ -56,14 +56,8 @@ def call_at(data, place, start):
 
 def read_file(data):
     """The schedule that a file says. All wrong calls are named."""
-    header, calls, wrong = header_of(data), [], []
-    for place in range(header.count):
-        try:
-            calls.append(call_at(data, place, header.offset + CALL.size * place))
-        except Wrong as problem:
-            wrong += problem.messages
-    if wrong:
-        raise Wrong(*wrong)
+    header = header_of(data)
+    calls = all_parsed((call_at, data, place, header.offset + CALL.size * place) for place in range(header.count))
     settings = Settings(header.levels, header.distance, header.wait, header.patience)
     return Source(Schedule(settings, header.clients, tuple(calls)), tuple(map(line_of, calls)))
 

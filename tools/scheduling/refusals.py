@@ -5,8 +5,14 @@ from model.schedule import MOST_CLIENTS, MOST_LEVELS
 from scheduling.names import PHASES
 
 
+def no_such(name, count, number):
+    """Of what is counted from 0: clients, wards, weeks, days."""
+    those = f"with 1 {name} it is 0" if count == 1 else f"with {count} {name}s they are 0 to {count - 1}"
+    return f"there is no {name} {number}: {those}"
+
+
 def no_such_client(clients, client):
-    return f"there is no client {client}: with {clients} clients they are 0 to {clients - 1}"
+    return no_such("client", clients, client)
 
 
 def clock_goes_back(call, last):

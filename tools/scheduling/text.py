@@ -7,16 +7,14 @@ from model.history import Call
 from model.record import Settings
 from model.schedule import CALL, HEADER, LONGEST, Schedule
 from scheduling.names import listed
-from scheduling.problems import Wrong, shown
+from scheduling.numbers import U16, U32, U64, numbers_of
+from scheduling.problems import Wrong, parsed, shown
 
 # Room for 2,729 calls with a comment on each. A text is read no further.
 LONGEST_TEXT = 2 ** 20
 MOST_CALLS = (LONGEST - HEADER.size) // CALL.size
 
-U16, U32, U64 = 2 ** 16 - 1, 2 ** 32 - 1, 2 ** 64 - 1
 SETTINGS = {"tree": U16, "m": U16, "wait": U32, "patience": U32, "clients": U16}
-# Of these every number but 0 is right. A 0 is packed all the same, since the file can hold it.
-AT_LEAST_1 = "wait", "patience"
 SETTINGS_WANTED = "wants the settings, as in `tree 2 m 1 wait 5 patience 20 clients 2`"
 
 
@@ -62,28 +60,6 @@ def written_lines(text):
             yield place, words
 
 
-def number_of(place, name, word, greatest):
-    """The number that a word says, if it is one from 0 to the greatest that its field takes. Leading zeros change nothing."""
-    digits = word.lstrip("0") or word[-1:]
-    if not re.fullmatch("[0-9]{1,20}", digits) or int(digits) > greatest:
-        but = ", and 0 is refused by 1" if name in AT_LEAST_1 else ""
-        raise Wrong(f"line {place}: {name} must be a number from 0 to {greatest}{but}; got {shown(word)}")
-    return int(digits)
-
-
-def numbers_of(place, named, words):
-    """The numbers that these words say, by the names and greatest values of their fields; every wrong one is named."""
-    numbers, wrong = [], []
-    for (name, greatest), word in zip(named.items(), words):
-        try:
-            numbers.append(number_of(place, name, word, greatest))
-        except Wrong as problem:
-            wrong += problem.messages
-    if wrong:
-        raise Wrong(*wrong)
-    return numbers
-
-
 def settings_amiss(words):
     """What is said of a first line that has not each setting once and in order. What is left out, has no number or stands twice is named,
     if the line has settings at all."""
@@ -124,15 +100,6 @@ def line_of(call):
 
 def settings_line(schedule):
     return " ".join(f"{name} {number}" for name, number in zip(SETTINGS, (*schedule.settings, schedule.clients)))
-
-
-def parsed(line, parse, wrong):
-    """What a line says by `parse`, or None if it is wrong, with its messages added to the others."""
-    try:
-        return parse(*line)
-    except Wrong as problem:
-        wrong += problem.messages
-        return None
 
 
 def read_text(data):

@@ -6,9 +6,10 @@ from model import tree
 from model.record import Settings
 from model.schedule import MOST_CLIENTS, MOST_LEVELS, Schedule
 from scheduling.durations import longest_claim, never_held
-from scheduling.problems import Wrong, shown
+from scheduling.numbers import U16, U32, U64, numbers_of
+from scheduling.problems import Wrong, parsed, shown
 from scheduling.refusals import no_such_client, of_settings, window_outside
-from scheduling.text import SETTINGS, U16, U32, U64, decoded, numbers_of, parsed, settings_of, written_lines
+from scheduling.text import SETTINGS, decoded, settings_of, written_lines
 
 EXAMPLE = "run 7 wants 100 220 from 30 for 40"
 NAMED = {"run": U16, "left edge": U64, "right edge": U64, "clock": U64, "ticks to hold": U64}
