@@ -6,9 +6,11 @@ from typing import NamedTuple
 from model.history import Call
 from model.record import Settings
 from model.schedule import CALL, HEADER, LONGEST, Schedule
+from scheduling.calendar_lines import read_calendar, refuse_behind
 from scheduling.names import listed
 from scheduling.numbers import U16, U32, U64, numbers_of
-from scheduling.problems import Wrong, parsed, shown
+from scheduling.problems import Wrong, all_parsed, parsed, shown
+from scheduling.wards import EDGES, says_ward_hours, window_of
 
 # Room for 2,729 calls with a comment on each. A text is read no further.
 LONGEST_TEXT = 2 ** 20
@@ -27,8 +29,7 @@ class Kind(NamedTuple):
 
 
 KINDS = {
-    "request": Kind("a client, a left edge and a right edge", "request 0 10 20",
-                    {"client": U16, "left edge": U64, "right edge": U64}),
+    "request": Kind("a client, a left edge and a right edge", "request 0 10 20", {"client": U16, **EDGES}),
     "step": Kind("a client and a clock", "step 0 12", {"client": U16, "clock": U64}),
     "release": Kind("a client", "release 0", {"client": U16}),
     "cancel": Kind("a client", "cancel 0", {"client": U16}),
@@ -82,19 +83,32 @@ def settings_of(place, words):
     return numbers_of(place, SETTINGS, numbers)
 
 
-def call_of(place, words):
-    """The call that a line says."""
+def numbers_and_window(place, name, said, calendar):
+    """The numbers of a call, and the words of its window if that is written as ward hours."""
+    if name != "request":
+        return numbers_of(place, KINDS[name].numbers, said), ""
+    [client], window = all_parsed(((numbers_of, place, {"client": U16}, said[:1]), (window_of, place, calendar, said[1:])))
+    return (client, window.left, window.right), window.words
+
+
+def call_of(place, words, calendar):
+    """The call that a line says, and the line in one form."""
+    refuse_behind(place, words)
     name, *said = words
     if name not in KINDS:
         raise Wrong(f"line {place}: a call is one of {', '.join(KINDS)}; got {shown(' '.join(words))}")
     kind = KINDS[name]
-    if len(said) != len(kind.numbers):
+    if len(said) != len(kind.numbers) and not (name == "request" and says_ward_hours(said[1:])):
         raise Wrong(f"line {place}: {name} wants {kind.wants}, as in `{kind.example}`; got {shown(' '.join(words))}")
-    return Call(name, *numbers_of(place, kind.numbers, said))
+    numbers, window = numbers_and_window(place, name, said, calendar)
+    call = Call(name, *numbers)
+    return call, line_of(call, window)
 
 
-def line_of(call):
-    """The line that says a call."""
+def line_of(call, window=""):
+    """The line that says a call; with words for its window in place of the edges, if there are any."""
+    if window:
+        return f"{call.kind} {call.client} {window}"
     return " ".join(map(str, [call.kind, *call[1:1 + len(KINDS[call.kind].numbers)]]))
 
 
@@ -108,13 +122,13 @@ def read_text(data):
     if not lines:
         raise Wrong(f"line 1: the first line {SETTINGS_WANTED}; got nothing")
     settings = parsed(lines[0], settings_of, wrong)
-    asked = lines[1:1 + MOST_CALLS]
-    calls = [parsed(line, call_of, wrong) for line in asked]
-    if len(lines) > 1 + MOST_CALLS:
-        place = lines[1 + MOST_CALLS][0]
+    calendar, asked = read_calendar(lines[1:], settings and settings[0], wrong)
+    said = [parsed((*line, calendar), call_of, wrong) for line in asked[:MOST_CALLS]]
+    if len(asked) > MOST_CALLS:
+        place = asked[MOST_CALLS][0]
         wrong.append(f"line {place}: a schedule has at most {MOST_CALLS} calls, since its file has at most {LONGEST} bytes")
     if wrong:
         raise Wrong(*wrong)
     *of_the_lock, clients = settings
-    schedule = Schedule(Settings(*of_the_lock), clients, tuple(calls))
-    return Source(schedule, tuple(map(line_of, calls)), tuple(place for place, _ in asked), lines[0][0])
+    schedule = Schedule(Settings(*of_the_lock), clients, tuple(call for call, _ in said))
+    return Source(schedule, tuple(written for _, written in said), tuple(place for place, _ in asked), lines[0][0])
