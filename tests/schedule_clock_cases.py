@@ -162,7 +162,7 @@ def plans():
     few = b"run 0 wants 0 100 from 0 for 9\nrun 1 wants 50 60 from 3 for 40\nrun 2 wants 0 10 from 3 for 0"
     texts = (ROOT / "schedules" / "day.wishes").read_bytes(), few
     for place, text in enumerate(texts):
-        given, wishes = read_wishes(text)
+        given, wishes, _ = read_wishes(text)
         history = made_by_model(given._replace(calls=tuple(call for call, _ in plan(given, wishes)[0])))
         yield case("clocks of a plan", [place], (0, 1)), (int(not one_clock(history)), int(len(history) > 0))
 

@@ -137,7 +137,7 @@ PLANS = {
 def planned(text):
     """A plan: the wishes not held as wished, the calls refused or late and the clients not idle; the clocks at which patience was over; and
     the cancels."""
-    given, wishes = read_wishes(text.encode())
+    given, wishes, _ = read_wishes(text.encode())
     calls, left = plan(given, wishes)
     _, opened, made_calls = run("\n".join(plan_lines(given, wishes, calls, left)))
     found, wrong = held_times(opened, made_calls)

@@ -119,7 +119,7 @@ def steps_said(settings, planned):
 def plans():
     """Random wishes, planned, packed and run by the model. Where a wish is asked for the first time its steps are said."""
     for seed in range(150):
-        given, wishes = read_wishes("\n".join(drawn_wishes(seed)).encode())
+        given, wishes, _ = read_wishes("\n".join(drawn_wishes(seed)).encode())
         planned, left = plan(given, wishes)
         text = "\n".join(plan_lines(given, wishes, planned, left))
         read, opened, made_calls = run(text)
@@ -149,7 +149,7 @@ def crowded():
 def rings():
     """Where two runs block each other one gives way, and both get their windows."""
     for place, (text, cancels) in enumerate(RINGS.values()):
-        given, wishes = read_wishes(text.encode())
+        given, wishes, _ = read_wishes(text.encode())
         planned, left = plan(given, wishes)
         _, opened, made_calls = run("\n".join(plan_lines(given, wishes, planned, left)))
         found, wrong = held_times(opened, made_calls)

@@ -158,7 +158,7 @@ def rings_in(opened):
 def crowd(seed):
     """The table after each round in which every client of random wishes makes a call, in any order: it asks, steps or releases, and seldom
     cancels. Nobody's patience runs out."""
-    rng, (given, wishes) = Random(f"crowd {seed}"), read_wishes("\n".join(drawn_wishes(seed)).encode())
+    rng, (given, wishes, _) = Random(f"crowd {seed}"), read_wishes("\n".join(drawn_wishes(seed)).encode())
     opened = opened_for(given._replace(settings=given.settings._replace(patience=LONGEST)))
     for clock in range(1, 150):
         for client in rng.sample(range(given.clients), given.clients):

@@ -1,6 +1,7 @@
 """The program's command line: what is asked, where it comes from and goes to, and the exit status."""
 
 import argparse
+import re
 import signal
 import sys
 from typing import NamedTuple
@@ -11,7 +12,7 @@ from scheduling.events import happened
 from scheduling.overlaps import overlap_lines
 from scheduling.page_report import page_report
 from scheduling.planning import left_out, plan, plan_lines
-from scheduling.problems import Failed, Wrong
+from scheduling.problems import Failed, Wrong, shown
 from scheduling.refusals import foreseen, of_whole
 from scheduling.running import RANGELOG, RANGEPAGES, whole_output
 from scheduling.streams import Streams, write_file
@@ -33,9 +34,14 @@ The first line of a text has the settings, and each line after it is a call:
     release 0                   # client
     cancel 0                    # client
 
+Behind the settings a calendar may stand; then windows may be written as ward hours:
+
+    calendar wards 3 weeks 2
+    request 3 ward 2 week 0 day 6 23:45 .. week 1 day 0 02:00
+
 Blank lines are passed over, and so is the rest of a line from a # on. FILE is - or left out for standard input.
 """
-STATUS = "exit status: 0 done, 1 input wrong, 2 usage, 3 could not read, run or write. docs/SCHEDULES.md has more."
+STATUS = "exit status: 0 done, 1 input wrong, 2 usage, 3 could not read, run or write. docs/SCHEDULES.md and docs/WARDS.md have more."
 
 
 class Made(NamedTuple):
@@ -69,7 +75,10 @@ def do_pack(streams, options):
 
 
 def do_unpack(streams, options):
-    return Made(packed.unpack(streams.read(options.file, LONGEST)).encode())
+    figures = options.wards, options.weeks
+    if figures.count(None) == 1:
+        options.error("--wards and --weeks go together")
+    return Made(packed.unpack(streams.read(options.file, LONGEST), None if None in figures else figures).encode())
 
 
 def run(program, streams, options):
@@ -114,9 +123,10 @@ def do_pages(streams, options):
 
 
 def do_plan(streams, options):
-    schedule, wishes = read_wishes(streams.read(options.file, LONGEST_TEXT))
+    schedule, wishes, calendar = read_wishes(streams.read(options.file, LONGEST_TEXT))
     planned, left = plan(schedule, wishes)
-    return Made(lines(plan_lines(schedule, wishes, planned, left)), tuple(left_out(left)), INPUT_WRONG if left else DONE)
+    text = lines(plan_lines(schedule, wishes, planned, left, calendar))
+    return Made(text, tuple(left_out(left)), INPUT_WRONG if left else DONE)
 
 
 def do_picture(streams, options):
@@ -134,6 +144,23 @@ COMMANDS = {
 }
 
 
+def plain_number(word):
+    """A number as a text says it: digits alone."""
+    if not re.fullmatch("[0-9]{1,20}", word):
+        raise argparse.ArgumentTypeError(f"not a number: {shown(word)}")
+    return int(word)
+
+
+def add_options(of_command):
+    """The options that single commands have."""
+    of_command["run"].add_argument("--log", action="store_true", help="print the log alone")
+    by = "what the time axis counts (default: call); clocks only where they never go back along the schedule"
+    of_command["picture"].add_argument("--by", choices=("call", "clock"), default="call", help=by)
+    for name in ("wards", "weeks"):
+        says = f"write windows that lie in one ward as ward hours, by a calendar of so many {name}; --wards and --weeks go together"
+        of_command["unpack"].add_argument(f"--{name}", type=plain_number, metavar="NUMBER", help=says)
+
+
 def parser(streams):
     class Parser(argparse.ArgumentParser):
         def print_help(self, file=None):
@@ -146,10 +173,8 @@ def parser(streams):
         added[name] = commands.add_parser(name, help=says, description=says[0].upper() + says[1:] + ".", epilog=STATUS)
         added[name].add_argument("file", nargs="?", default="-", metavar="FILE", help="what to read; - or nothing for standard input")
         added[name].add_argument("-o", dest="output", metavar="FILE", help="write this file, whole or not at all")
-        added[name].set_defaults(do=does)
-    added["run"].add_argument("--log", action="store_true", help="print the log alone")
-    by = "what the time axis counts (default: call); clocks only where they never go back along the schedule"
-    added["picture"].add_argument("--by", choices=("call", "clock"), default="call", help=by)
+        added[name].set_defaults(do=does, error=added[name].error)
+    add_options(added)
     return parser
 
 

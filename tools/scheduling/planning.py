@@ -222,13 +222,17 @@ def left_out(wishes):
     if wishes:
         yield f"a schedule has at most {MOST_CALLS} calls, which do not suffice for {len(wishes)} of the wishes:"
     for wish in wishes:
-        yield f"line {wish.line}: run {wish.run} wants {window(wish.left, wish.right)} from {wish.start} for {wish.ticks}: left out"
+        asked = wish.words or window(wish.left, wish.right)
+        yield f"line {wish.line}: run {wish.run} wants {asked} from {wish.start} for {wish.ticks}: left out"
 
 
-def plan_lines(schedule, wishes, planned, left):
-    """The text of a plan, with a word on who asks, holds and gives back."""
+def plan_lines(schedule, wishes, planned, left, calendar=None):
+    """The text of a plan, with a word on who asks, holds and gives back. The calendar and windows as ward hours are written as in the wishes."""
     yield f"# A plan for {len(wishes) - len(left)} of {len(wishes)} wishes: {len(planned)} of at most {MOST_CALLS} calls."
     yield from (f"# {line}" for line in left_out(left))
     yield settings_line(schedule)
+    yield from calendar.lines if calendar else ()
+    words = {(wish.left, wish.right): wish.words for wish in wishes if wish.words}
     for call, told in planned:
-        yield f"{line_of(call):<24} # {told}" if told else line_of(call)
+        line = line_of(call, words.get((call.a, call.b), "") if call.kind == "request" else "")
+        yield f"{line:<24} # {told}" if told else line
