@@ -9,7 +9,7 @@ from compare import NAMES, case
 from library import ROOT, SECONDS
 from programs import PROGRAMS
 
-DOCUMENTS = "README.md", "docs/SCHEDULES.md", "docs/WAITING.md"
+DOCUMENTS = "README.md", "docs/SCHEDULES.md", "docs/WAITING.md", "docs/WARDS.md"
 LINKED = "tools", "schedules", "target", "python", "bench"
 COMMAND = re.compile(r"^    ((?:(?:head|printf) [^|\n]*\| )?(?:tools/schedule|target/bin/range\w+) [^#\n]*?) *(?:#.*)?$", re.MULTILINE)
 
