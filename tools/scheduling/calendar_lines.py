@@ -7,7 +7,7 @@ from model import tree
 from model.calendar import DAYS, WARDS, WEEKS
 from scheduling.numbers import U64, numbers_of
 from scheduling.problems import Wrong, all_parsed, parsed, shown
-from scheduling.wards import CALENDAR, always_open, one_of, refused_figures, time_in_words, time_of
+from scheduling.wards import CALENDAR, always_open, calendar_for, one_of, time_in_words, time_of
 
 NAMES = "calendar", "hours"
 CALENDAR_FORM = re.compile(r"calendar wards (\S+) weeks (\S+)")
@@ -24,10 +24,7 @@ def calendar_of(place, words, levels):
     if not found:
         raise Wrong(f"line {place}: a calendar is written as in `{CALENDAR}`; got {shown(' '.join(words))}")
     figures = numbers_of(place, {"wards": U64, "weeks": U64}, found.groups())
-    levels = WIDEST.levels if levels is None else levels
-    if refused := [f"line {place}: {why}" for why in refused_figures(levels, *figures)]:
-        raise Wrong(*refused)
-    return always_open(levels, *figures)
+    return calendar_for(WIDEST.levels if levels is None else levels, *figures, f"line {place}: ")
 
 
 def those(place, name, word, count):

@@ -6,7 +6,7 @@ from model.history import KINDS as KINDS_IN_ORDER
 from model.schedule import CALL, HEADER, LONGEST, Header, Schedule, encode
 from scheduling.problems import Wrong, all_parsed
 from scheduling.text import KINDS, Source, line_of, settings_line
-from scheduling.wards import always_open, calendar_line, in_ward_hours, refused_figures
+from scheduling.wards import calendar_for, calendar_line, in_ward_hours
 
 pack = encode
 
@@ -71,14 +71,6 @@ def ignored(data):
         yield f"# left out: {before} bytes before the first call and {after} after the last, which rangelog and rangepages ignore"
 
 
-def calendar_for(schedule, figures):
-    """The calendar of these wards and weeks, as a text without hours has it."""
-    levels = schedule.settings.levels
-    if refused := list(refused_figures(levels, *figures)):
-        raise Wrong(*refused)
-    return always_open(levels, *figures)
-
-
 def lines_by_wards(schedule, calendar):
     """The lines of a calendar and of all calls, a window that lies in one ward as ward hours."""
     yield calendar_line(calendar)
@@ -88,6 +80,7 @@ def lines_by_wards(schedule, calendar):
 
 def unpack(data, figures=None):
     """The text that a file says; with figures, so many wards and weeks, in ward hours where that can be."""
-    schedule, *_ = source = read_file(data)
-    said = source.written if figures is None else lines_by_wards(schedule, calendar_for(schedule, figures))
+    source = read_file(data)
+    schedule = source.schedule
+    said = source.written if figures is None else lines_by_wards(schedule, calendar_for(schedule.settings.levels, *figures))
     return "".join(f"{line}\n" for line in [settings_line(schedule), *ignored(data), *said])

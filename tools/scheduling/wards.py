@@ -67,6 +67,13 @@ def refused_figures(levels, wards, weeks):
                "refused by 12")
 
 
+def calendar_for(levels, wards, weeks, where=""):
+    """A calendar of these figures without hours; `where` is said before each reason why there is none."""
+    if refused := [f"{where}{why}" for why in refused_figures(levels, wards, weeks)]:
+        raise Wrong(*refused)
+    return always_open(levels, wards, weeks)
+
+
 def time_of(place, word):
     """The time of day that a word says, in quarters since midnight: 24:00, a day's end, is 96."""
     found = TIME_FORM.fullmatch(word)
