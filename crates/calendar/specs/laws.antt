@@ -1,3 +1,4 @@
+pub mod Accepting
 pub mod BothWays
 pub mod Closed
 pub mod Code

@@ -14,7 +14,7 @@ use Rattle.cover.specs.rules.Answer.{levelsOutside, windowOutside}
 use Rattle.calendar.specs.declared.Calendar.{Calendar}
 use Rattle.calendar.specs.declared.Quarter.{Quarter}
 use Rattle.calendar.specs.declared.WindowAnswer.{WindowAnswer}
-use Rattle.calendar.specs.rules.Calendar.{unitOf, unitCount, Known, quarterOf}
+use Rattle.calendar.specs.rules.Calendar.{unitOf, Known, quarterOf}
 use Rattle.calendar.specs.rules.Hours.{isOpen}
 use Rattle.calendar.specs.rules.Windows.{calendarWrong, outOfOrder, someClosed, windowRefused, windowFound, windowAnswer, Accepted, Earlier, Between, OpenBetween}
 use Rattle.calendar.specs.laws.SomeBelow.{none-below}
@@ -49,6 +49,34 @@ module _ (c : Calendar) (a b : Quarter) (p : Known c a) (q : Known c b) (same : 
       let f : a .day ≡ b .day = omega (arith, p .quarter, q .quarter) in
       inr (e, inr (f, omega arith))))
 
+-- ---- the units from the first quarter's to the last's
+
+module _ (c : Calendar) (hours : List ℕ) (first last : Quarter) (v : Right c hours first last) (o : Ordered (c .weeks) hours first last) (u : ℕ) (a : unitOf (c .weeks) first ≤ u) (b : u ≤ unitOf (c .weeks) last) where
+  abbrev at : Quarter
+  at = quarterOf (c .weeks) u
+
+  -- each is one of their ward
+  pub of-ward : at .ward ≡ first .ward
+  of-ward =
+      let w = first .ward * c .weeks * 672 in
+      let e = from-ward (c .weeks) first in
+      let f = from-ward (c .weeks) last ∙ ap (λ (k : ℕ). k * c .weeks * 672 + (dayOf last * 96 + last .quarter)) (o .one-ward) in
+      let d : u ≡ w + (u - w) = omega arith in
+      ap (λ (k : ℕ). quarterOf (c .weeks) k .ward) d ∙ ap (λ q. q .ward) (quarter-at (c .weeks) (first .ward) (u - w) (omega (arith, o .last-week, o .last-day, o .last-quarter)))
+
+  known : Known c at
+  known = quarter-known c u (v .figures .ranges .some-week) (omega (arith, unit-inside c last (v .last-known)))
+
+  pub between : Between c first last at
+  between =
+      let e = back-and-there (c .weeks) u in
+      record {
+        known = known;
+        ward = of-ward;
+        begun = λ h. omega (arith, earlier-lower c at first known (v .first-known) of-ward h, e);
+        going = λ h. omega (arith, earlier-lower c last at (v .last-known) known (o .one-ward ∙ sym of-ward) h, e);
+      }
+
 -- ---- what an accepted window has passed
 
 four-tests : (a b d e : Bool) (x : WindowAnswer) → choose a (windowRefused 1) (choose b (windowRefused 12) (choose d (windowRefused 13) (choose e (windowRefused 14) x))) .number ≡ 0
@@ -80,41 +108,16 @@ module _ (c : Calendar) (hours : List ℕ) (first last : Quarter) (l r : ℕ) (a
   ordered : Ordered (c .weeks) hours first last
   ordered = to-ordered c hours first last passed (tests .2)
 
-  -- every unit of it is one of its ward
-  in-ward : (u : ℕ) → l ≤ u → u < r → (first .ward * c .weeks * 672 ≤ u) × (u < first .ward * c .weeks * 672 + c .weeks * 672)
-  in-ward u a b =
-      let v = ordered in
-      let e = from-ward (c .weeks) first in
-      let f = from-ward (c .weeks) last ∙ ap (λ (w : ℕ). w * c .weeks * 672 + (dayOf last * 96 + last .quarter)) (v .one-ward) in
-      (omega (arith, edges .0), omega (arith, edges .1, v .last-week, v .last-day, v .last-quarter))
-
-  of-ward : (u : ℕ) → l ≤ u → u < r → quarterOf (c .weeks) u .ward ≡ first .ward
-  of-ward u a b =
-      let w = in-ward u a b in
-      let x = u - first .ward * c .weeks * 672 in
-      let e : u ≡ first .ward * c .weeks * 672 + x = omega arith in
-      ap (λ (k : ℕ). quarterOf (c .weeks) k .ward) e ∙ ap (λ at. at .ward) (quarter-at (c .weeks) (first .ward) x (omega arith))
-
-  inside : (u : ℕ) → u < r → u < unitCount c
-  inside u b = omega (arith, edges .1, unit-inside c last (passed .last-known))
-
-  known : (u : ℕ) → u < r → Known c (quarterOf (c .weeks) u)
-  known u b = quarter-known c u (passed .figures .ranges .some-week) (inside u b)
+  pub in-ward : (u : ℕ) → l ≤ u → u < r → quarterOf (c .weeks) u .ward ≡ first .ward
+  in-ward u a b = of-ward c hours first last passed ordered u (omega (arith, edges .0)) (omega (arith, edges .1))
 
   -- every unit of the window is an open quarter of the ward, from the first to the last
   pub each-open : (u : ℕ) → l ≤ u → u < r → OpenBetween c hours first last u
   unfolding someClosed
   each-open u a b =
-      let w = of-ward u a b in
-      let e = back-and-there (c .weeks) u in
       record {
-        between = record {
-          known = known u b;
-          ward = w;
-          begun = λ h. omega (arith, earlier-lower c (quarterOf (c .weeks) u) first (known u b) (passed .first-known) w h, edges .0, e);
-          going = λ h. omega (arith, earlier-lower c last (quarterOf (c .weeks) u) (passed .last-known) (known u b) (ordered .one-ward ∙ sym w) h, edges .1, e);
-        };
-        unit = e;
+        between = between c hours first last passed ordered u (omega (arith, edges .0)) (omega (arith, edges .1));
+        unit = back-and-there (c .weeks) u;
         opened =
             let i = u - l in
             let k : unitOf (c .weeks) first + i ≡ u = omega (arith, edges .0) in
@@ -138,4 +141,4 @@ module _ (c : Calendar) (hours : List ℕ) (first last : Quarter) (l r : ℕ) (a
 pub other-wards-apart : (c : Calendar) (hours hours′ : List ℕ) (first last first′ last′ : Quarter) (l r l′ r′ : ℕ)
     → Accepted c hours first last l r → Accepted c hours′ first′ last′ l′ r′ → (first .ward ≡ first′ .ward → ⊥) → Overlap l r l′ r′ → ⊥
 other-wards-apart c hours hours′ first last first′ last′ l r l′ r′ a b d o =
-    d (sym (of-ward c hours first last l r a (o .unit) (o .low) (o .high)) ∙ of-ward c hours′ first′ last′ l′ r′ b (o .unit) (o .other-low) (o .other-high))
+    d (sym (in-ward c hours first last l r a (o .unit) (o .low) (o .high)) ∙ in-ward c hours′ first′ last′ l′ r′ b (o .unit) (o .other-low) (o .other-high))

@@ -1,5 +1,6 @@
 -- To be believed: document 02, request 2.6, first and fourth sentence: the units of a calendar's quarters, the way back as a call, and causes 1 and 12 as far as they need no hours. Assumes nothing.
-use mathlib.Core.Bool.{Bool, _||_}
+use mathlib.Core.Path.{_≡_}
+use mathlib.Core.Bool.{Bool, false, _||_}
 use Prim.Native.Nat.{ℕ, _+_, _*_, _/_, _%_, _<_}
 use lib.Dec.{leb, ltb}
 use Rattle.base.specs.rules.Choice.{choose}
@@ -31,6 +32,11 @@ unknown c at = leb (c .wards) (at .ward) || leb (c .weeks) (at .week) || ltb 6 (
 -- "with 1 to 64 wards and 1 to 60 weeks, and wards × weeks × 672 no more than N": "calendar figures outside these ranges"
 unfoldable pub figuresOutside : Calendar → Bool
 figuresOutside c = ltb (c .wards) 1 || ltb 64 (c .wards) || ltb (c .weeks) 1 || ltb 60 (c .weeks) || ltb (units (c .levels)) (unitCount c)
+
+-- levels and figures that no call refuses
+pub record Fits (c : Calendar) : Type 0 where
+  pub levels : levelsOutside (c .levels) ≡ false
+  pub figures : figuresOutside c ≡ false
 
 -- the quarter that a unit is: a week is 672 units, a ward `weeks` of them, a day 96
 unfoldable pub quarterOf : ℕ → ℕ → Quarter
