@@ -155,7 +155,7 @@ typedef struct nolthewyr_calendar {
     uint64_t weeks;
 } nolthewyr_calendar;
 
-/* A quarter of an hour of a ward: the week and the ward from 0, the day 0..6, the quarter of that day 0..95. */
+/* A quarter of an hour of a ward: the ward and the week from 0, the day 0..6, the quarter of that day 0..95. */
 typedef struct nolthewyr_quarter {
     uint64_t ward;
     uint64_t week;
@@ -221,11 +221,12 @@ nolthewyr_step_count_answer nolthewyr_step_count(uint64_t levels, uint64_t dista
  * over midnight and over a week's end. `hours` has a pair for each ward and day, ward 0's days 0 to 6 first: the quarter at which the
  * ward opens and that at which it closes (0..96; closing is not open any more, and equal means closed all day). Tests the levels (1);
  * then the calendar, the hours and both quarters (12); that the last is not before the first, nor in another ward (13); and that every
- * quarter of the window is open (14). Edges that are answered are never refused by 7. docs/WARDS.md has more. */
+ * quarter of the window is open (14). In a tree of these levels the edges that are answered are never refused by 7. docs/WARDS.md has
+ * more. */
 nolthewyr_calendar_window_answer nolthewyr_calendar_window(const uint64_t *hours, size_t hour_count, nolthewyr_calendar calendar,
                                                            nolthewyr_quarter first, nolthewyr_quarter last);
 
-/* The way back: the ward, week, day and quarter that a unit is. Tests the levels (1), then the calendar and that the unit is one of it
+/* The way back: the ward, week, day and quarter that a unit is. Tests the levels (1), then the calendar, and that the unit is one of its
  * (12). */
 nolthewyr_calendar_quarter_answer nolthewyr_calendar_quarter(nolthewyr_calendar calendar, uint64_t unit);
 

@@ -1,3 +1,4 @@
+pub mod Back
 pub mod Calendar
 pub mod Hours
 pub mod Windows

@@ -1,7 +1,7 @@
 // The two calls.
 ghost use mathlib.Core.Path.{_≡_};
 ghost use Prim.Native.Nat.{_≤_};
-ghost use Rattle.calendar.specs.rules.Calendar.{quarterRefused, quarterFound, quarterAnswer};
+ghost use Rattle.calendar.specs.rules.Back.{quarterRefused, quarterFound, quarterAnswer};
 ghost use Rattle.calendar.specs.rules.Windows.{calendarWrong, outOfOrder, windowRefused, windowFound, windowAnswer};
 ghost use Rattle.calendar.specs.laws.Figures.{Small};
 use crate::Calendar;

@@ -32,7 +32,7 @@ fn closed_in_days(hours: &[u64], ward: u64, day: u64, days: u64) -> bool
     closed
 }
 
-// The days of all but the first and the last, seven at most.
+// How many whole days lie between a first day and the one that comes `days` days after it; seven at most.
 fn whole_days(days: u64) -> u64
     requires { ⌜ 0 < days ⌝ }
     ensures { λ n. ⌜ n ≡ min 7 (days - 1) ⌝ }
@@ -40,7 +40,7 @@ fn whole_days(days: u64) -> u64
     if 7 < days { 7 } else { days - 1 }
 }
 
-// (Of `weeks` the contract speaks alone.)
+// Whether some quarter of the window is closed. (Of `weeks` the contract speaks alone.)
 pub fn some_closed(hours: &[u64], weeks: u64, first: Quarter, last: Quarter) -> bool
     requires { ⌜ Ordered weeks (now hours) first last ⌝ }
     ensures { λ b. ⌜ b ≡ someClosed weeks (now (hours .entry)) first last ⌝ }

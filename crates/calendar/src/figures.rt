@@ -1,10 +1,19 @@
 // Cause 12 as far as it needs no hours: the calendar's figures, and a quarter that it does not have.
 ghost use mathlib.Core.Path.{_≡_};
 ghost use Prim.Native.Nat.{_≤_};
+ghost use Rattle.tree.specs.rules.Tree.{units};
 ghost use Rattle.calendar.specs.rules.Calendar.{unitCount, unknown, figuresOutside};
 ghost use Rattle.calendar.specs.laws.Figures.{Few};
 use crate::Calendar;
 use crate::Quarter;
+
+// N, how many units the tree has.
+fn tree_units(levels: u64) -> u64
+    requires { ⌜ (2 ≤ levels) × (levels ≤ 12) ⌝ }
+    ensures { λ n. ⌜ n ≡ units levels ⌝ }
+{
+    64u64 << (2 * (levels - 1))
+}
 
 // How many units the calendar has.
 pub fn unit_count(calendar: Calendar) -> u64
@@ -14,7 +23,6 @@ pub fn unit_count(calendar: Calendar) -> u64
     calendar.wards * calendar.weeks * 672
 }
 
-// Too many units are a window that the tree does not have.
 pub fn figures_outside(calendar: Calendar) -> bool
     requires { ⌜ (2 ≤ calendar .levels) × (calendar .levels ≤ 12) ⌝ }
     ensures { λ b. ⌜ b ≡ figuresOutside calendar ⌝ }
@@ -22,7 +30,7 @@ pub fn figures_outside(calendar: Calendar) -> bool
     if (calendar.wards < 1) | (64 < calendar.wards) | (calendar.weeks < 1) | (60 < calendar.weeks) {
         return true;
     }
-    cover::outside(calendar.levels, 0, unit_count(calendar))
+    tree_units(calendar.levels) < unit_count(calendar)
 }
 
 pub fn unknown(calendar: Calendar, at: Quarter) -> bool

@@ -1,12 +1,10 @@
-// Ward hours: windows of wards there to the units of the table, and back. Nothing of the lock needs this crate.
+// Ward hours: from a ward's window to its units, and from a unit back to its quarter. Nothing of the lock needs this crate.
 
 mod calls;
 mod closed;
 mod figures;
 mod hours;
 mod units;
-
-pub use figures::figures_outside;
 
 // The levels of the tree that the table's units are locked by, and how many wards and weeks there are.
 #[repr(C)]

@@ -7,7 +7,8 @@ use Rattle.tree.specs.rules.Tree.{units}
 use Rattle.cover.specs.rules.Answer.{levelsOutside}
 use Rattle.calendar.specs.declared.Calendar.{Calendar}
 use Rattle.calendar.specs.declared.Quarter.{Quarter}
-use Rattle.calendar.specs.rules.Calendar.{unitOf, unitCount, unknown, figuresOutside, quarterOf, quarterRefused, quarterFound, quarterAnswer}
+use Rattle.calendar.specs.rules.Calendar.{unitOf, unitCount, unknown, figuresOutside, quarterOf}
+use Rattle.calendar.specs.rules.Back.{quarterRefused, quarterFound, quarterAnswer}
 use Rattle.calendar.specs.rules.Hours.{opening, closing, someBelow, pairWrong, hoursWrong, isOpen}
 use Rattle.calendar.specs.rules.Windows.{calendarWrong, outOfOrder, someClosed, windowRefused, windowFound, windowAnswer}
 

@@ -10,7 +10,7 @@ use Rattle.calendar.specs.declared.Calendar.{Calendar}
 use Rattle.calendar.specs.declared.Quarter.{Quarter}
 use Rattle.calendar.specs.rules.Calendar.{unitOf, Known, Fits, quarterOf}
 use Rattle.calendar.specs.rules.Hours.{isOpen, hoursWrong}
-use Rattle.calendar.specs.rules.Windows.{calendarWrong, outOfOrder, someClosed, windowFound, Accepted, Earlier, Between}
+use Rattle.calendar.specs.rules.Windows.{calendarWrong, outOfOrder, someClosed, windowFound, WindowAccepted, Earlier, Between}
 use Rattle.calendar.specs.laws.SomeBelow.{all-fail, none-of}
 use Rattle.calendar.specs.laws.Figures.{from-known}
 use Rattle.calendar.specs.laws.Code.{to-right, to-ordered, window-0}
@@ -29,8 +29,8 @@ module _ (c : Calendar) (hours : List ℕ) (first last : Quarter)
   unfolding outOfOrder
   in-order = none-of _ _ (ap not (eq-eqb (last .ward) (first .ward) one-ward)) (le-ltb (unitOf (c .weeks) last) (unitOf (c .weeks) first) not-before)
 
-  pub accepted-where-open : ((at : Quarter) → Between c first last at → isOpen hours at ≡ true) → Accepted c hours first last (unitOf (c .weeks) first) (unitOf (c .weeks) last + 1)
-  unfolding Accepted windowFound someClosed
+  pub accepted-where-open : ((at : Quarter) → Between c first last at → isOpen hours at ≡ true) → WindowAccepted c hours first last (unitOf (c .weeks) first) (unitOf (c .weeks) last + 1)
+  unfolding WindowAccepted windowFound someClosed
   accepted-where-open all-open =
       let v = to-right c hours first last right in
       let o = to-ordered c hours first last v in-order in

@@ -6,8 +6,9 @@ use native.Mathlib.Omega.{arith}
 use borrow.Author.Tests.{lt-leb}
 use Rattle.calendar.specs.declared.Calendar.{Calendar}
 use Rattle.calendar.specs.declared.Quarter.{Quarter}
-use Rattle.calendar.specs.rules.Calendar.{unitOf, unitCount, Known, Fits, quarterOf, quarterFound, quarterAnswer}
-use Rattle.calendar.specs.rules.Windows.{Accepted}
+use Rattle.calendar.specs.rules.Calendar.{unitOf, unitCount, Known, Fits, quarterOf}
+use Rattle.calendar.specs.rules.Back.{quarterFound, quarterAnswer}
+use Rattle.calendar.specs.rules.Windows.{WindowAccepted}
 use Rattle.calendar.specs.laws.Figures.{to-inside}
 use Rattle.calendar.specs.laws.Inverse.{unit-inside, quarter-known, there-and-back, back-and-there}
 use Rattle.calendar.specs.laws.Code.{quarter-0}
@@ -30,7 +31,7 @@ module _ (c : Calendar) (f : Fits c) where
   )
 
 -- a window's edges lead back to its first and its last quarter
-pub ends-back : (c : Calendar) (hours : List ℕ) (first last : Quarter) (l r : ℕ) → Accepted c hours first last l r
+pub ends-back : (c : Calendar) (hours : List ℕ) (first last : Quarter) (l r : ℕ) → WindowAccepted c hours first last l r
     → (quarterAnswer c l ≡ quarterFound first) × (quarterAnswer c (r - 1) ≡ quarterFound last)
 ends-back c hours first last l r a =
     let t = tests c hours first last l r a in

@@ -64,7 +64,7 @@ module _ (weeks : ℕ) (hours : List ℕ) where
     distances : unitOf weeks last ≡ first .ward * weeks * 672 + (dayOf last * 96 + last .quarter)
     distances = from-ward weeks last ∙ ap (λ (w : ℕ). w * weeks * 672 + (dayOf last * 96 + last .quarter)) (v .one-ward)
 
-    pub in-order : dayOf first * 96 + first .quarter ≤ dayOf last * 96 + last .quarter
+    in-order : dayOf first * 96 + first .quarter ≤ dayOf last * 96 + last .quarter
     in-order = omega (arith, v .order, from-ward weeks first, distances)
 
     pub days-in-order : dayOf first ≤ dayOf last

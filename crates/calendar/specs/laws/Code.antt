@@ -11,7 +11,8 @@ use Rattle.base.specs.laws.TestLaws.{both-false}
 use Rattle.cover.specs.rules.Answer.{levelsOutside}
 use Rattle.calendar.specs.declared.Calendar.{Calendar}
 use Rattle.calendar.specs.declared.Quarter.{Quarter}
-use Rattle.calendar.specs.rules.Calendar.{unitOf, unitCount, Known, unknown, figuresOutside, quarterOf, quarterRefused, quarterFound, quarterAnswer}
+use Rattle.calendar.specs.rules.Calendar.{unitOf, unitCount, Known, unknown, figuresOutside, quarterOf}
+use Rattle.calendar.specs.rules.Back.{quarterRefused, quarterFound, quarterAnswer}
 use Rattle.calendar.specs.rules.Hours.{hoursWrong}
 use Rattle.calendar.specs.rules.Windows.{calendarWrong, outOfOrder, someClosed, windowRefused, windowFound, windowAnswer}
 use Rattle.calendar.specs.laws.Figures.{Small, Inside, to-inside, to-known, known-small}
@@ -22,7 +23,7 @@ use Rattle.calendar.specs.laws.Closed.{Ordered}
 pub record Right (c : Calendar) (hours : List ℕ) (first last : Quarter) : Type 0 where
   pub figures : Inside c
   pub figures-right : figuresOutside c ≡ false
-  pub hours-wrong : hoursWrong (c .wards) hours ≡ false
+  pub hours-right : hoursWrong (c .wards) hours ≡ false
   pub first-known : Known c first
   pub last-known : Known c last
 
@@ -33,7 +34,7 @@ module _ (c : Calendar) (hours : List ℕ) (first last : Quarter) where
       let a = both-false (figuresOutside c || hoursWrong (c .wards) hours || unknown c first) (unknown c last) e in
       let b = both-false (figuresOutside c || hoursWrong (c .wards) hours) (unknown c first) (a .0) in
       let d = both-false (figuresOutside c) (hoursWrong (c .wards) hours) (b .0) in
-      record { figures = to-inside c (d .0); figures-right = d .0; hours-wrong = d .1; first-known = to-known c first (b .1); last-known = to-known c last (a .1) }
+      record { figures = to-inside c (d .0); figures-right = d .0; hours-right = d .1; first-known = to-known c first (b .1); last-known = to-known c last (a .1) }
 
   pub wrong-figures : figuresOutside c ≡ true → true ≡ calendarWrong c hours first last
   unfolding calendarWrong
@@ -69,7 +70,7 @@ module _ (c : Calendar) (hours : List ℕ) (first last : Quarter) where
         last-day = v .last-known .day;
         last-quarter = v .last-known .quarter;
         weeks-few = f .weeks;
-        hours-there = omega (arith, pairs-there (c .wards) hours (v .hours-wrong), v .first-known .ward);
+        hours-there = omega (arith, pairs-there (c .wards) hours (v .hours-right), v .first-known .ward);
         order = ltb-false (unitOf (c .weeks) last) (unitOf (c .weeks) first) (t .1);
       }
 

@@ -61,8 +61,8 @@ module _ (opens closes : ℕ → ℕ) where
   day-is-open day from to v = none-of (ltb from (opens day)) (leb (closes day) to) (le-ltb from (opens day) (v .0)) (lt-leb (closes day) to (v .1))
 
   -- a whole day that is open, told by another number
-  again : (day other quarter : ℕ) → day ≡ other → quarter < 96 → OpenFrom other 0 95 → OpenFrom day quarter quarter
-  again day other quarter e h v = (omega (arith, v .0, ap opens e), omega (arith, v .1, ap closes e))
+  whole-day-open : (day other quarter : ℕ) → day ≡ other → quarter < 96 → OpenFrom other 0 95 → OpenFrom day quarter quarter
+  whole-day-open day other quarter e h v = (omega (arith, v .0, ap opens e), omega (arith, v .1, ap closes e))
 
   -- the window from quarter q of day d to quarter s of day e, counted from the ward's first day
   module _ (d q e s : ℕ) (qs : q < 96) (ss : s < 96) (order : d * 96 + q ≤ e * 96 + s) where
@@ -135,7 +135,7 @@ module _ (opens closes : ℕ → ℕ) where
                         let after = (x / 96 - d - 1) % 7 in
                         let g = same-day d (x / 96) e (omega arith) (omega arith) in
                         let v = day-opened ((d % 7 + 1 + after) % 7) 0 95 (none-below count (λ k. closedIn ((d % 7 + 1 + k) % 7) 0 95) (t .1) after (g .0)) in
-                        again (x / 96 % 7) ((d % 7 + 1 + after) % 7) (x % 96) (g .1) (omega arith) v
+                        whole-day-open (x / 96 % 7) ((d % 7 + 1 + after) % 7) (x % 96) (g .1) (omega arith) v
                   ]
             ]
 

@@ -16,7 +16,7 @@ use Rattle.calendar.specs.declared.Quarter.{Quarter}
 use Rattle.calendar.specs.declared.WindowAnswer.{WindowAnswer}
 use Rattle.calendar.specs.rules.Calendar.{unitOf, Known, quarterOf}
 use Rattle.calendar.specs.rules.Hours.{isOpen}
-use Rattle.calendar.specs.rules.Windows.{calendarWrong, outOfOrder, someClosed, windowRefused, windowFound, windowAnswer, Accepted, Earlier, Between, OpenBetween}
+use Rattle.calendar.specs.rules.Windows.{calendarWrong, outOfOrder, someClosed, windowRefused, windowFound, windowAnswer, WindowAccepted, Earlier, Between, OpenBetween}
 use Rattle.calendar.specs.laws.SomeBelow.{none-below}
 use Rattle.calendar.specs.laws.Inverse.{dayOf, from-ward, quarter-at, unit-inside, quarter-known, back-and-there}
 use Rattle.calendar.specs.laws.Closed.{Ordered}
@@ -56,7 +56,7 @@ module _ (c : Calendar) (hours : List ℕ) (first last : Quarter) (v : Right c h
   at = quarterOf (c .weeks) u
 
   -- each is one of their ward
-  pub of-ward : at .ward ≡ first .ward
+  of-ward : at .ward ≡ first .ward
   of-ward =
       let w = first .ward * c .weeks * 672 in
       let e = from-ward (c .weeks) first in
@@ -73,8 +73,8 @@ module _ (c : Calendar) (hours : List ℕ) (first last : Quarter) (v : Right c h
       record {
         known = known;
         ward = of-ward;
-        begun = λ h. omega (arith, earlier-lower c at first known (v .first-known) of-ward h, e);
-        going = λ h. omega (arith, earlier-lower c last at (v .last-known) known (o .one-ward ∙ sym of-ward) h, e);
+        not-before = λ h. omega (arith, earlier-lower c at first known (v .first-known) of-ward h, e);
+        not-after = λ h. omega (arith, earlier-lower c last at (v .last-known) known (o .one-ward ∙ sym of-ward) h, e);
       }
 
 -- ---- what an accepted window has passed
@@ -88,13 +88,13 @@ four-tests false false true e x h = absurd (omega arith)
 four-tests false false false true x h = absurd (omega arith)
 four-tests false false false false x h = (refl, refl, refl, refl)
 
-module _ (c : Calendar) (hours : List ℕ) (first last : Quarter) (l r : ℕ) (accepted : Accepted c hours first last l r) where
+module _ (c : Calendar) (hours : List ℕ) (first last : Quarter) (l r : ℕ) (accepted : WindowAccepted c hours first last l r) where
   pub tests : (levelsOutside (c .levels) ≡ false) × (calendarWrong c hours first last ≡ false) × (outOfOrder (c .weeks) first last ≡ false) × (someClosed (c .weeks) hours first last ≡ false)
-  unfolding Accepted windowAnswer
+  unfolding WindowAccepted windowAnswer
   tests = four-tests (levelsOutside (c .levels)) (calendarWrong c hours first last) (outOfOrder (c .weeks) first last) (someClosed (c .weeks) hours first last) (windowFound (c .weeks) first last) (ap (λ a. a .number) accepted)
 
   found : windowFound (c .weeks) first last ≡ record { number = 0; left = l; right = r }
-  unfolding Accepted windowAnswer choose
+  unfolding WindowAccepted windowAnswer choose
   found = rw (tests .0, tests .1, tests .2, tests .3) at accepted
 
   -- the edges are the first quarter's unit and the last's plus 1
@@ -108,7 +108,7 @@ module _ (c : Calendar) (hours : List ℕ) (first last : Quarter) (l r : ℕ) (a
   ordered : Ordered (c .weeks) hours first last
   ordered = to-ordered c hours first last passed (tests .2)
 
-  pub in-ward : (u : ℕ) → l ≤ u → u < r → quarterOf (c .weeks) u .ward ≡ first .ward
+  in-ward : (u : ℕ) → l ≤ u → u < r → quarterOf (c .weeks) u .ward ≡ first .ward
   in-ward u a b = of-ward c hours first last passed ordered u (omega (arith, edges .0)) (omega (arith, edges .1))
 
   -- every unit of the window is an open quarter of the ward, from the first to the last
@@ -118,7 +118,7 @@ module _ (c : Calendar) (hours : List ℕ) (first last : Quarter) (l r : ℕ) (a
       record {
         between = between c hours first last passed ordered u (omega (arith, edges .0)) (omega (arith, edges .1));
         unit = back-and-there (c .weeks) u;
-        opened =
+        is-open =
             let i = u - l in
             let k : unitOf (c .weeks) first + i ≡ u = omega (arith, edges .0) in
             ap (λ (x : ℕ). isOpen hours (quarterOf (c .weeks) x)) (sym k) ∙ not-false _ (none-below _ (λ j. not (isOpen hours (quarterOf (c .weeks) (unitOf (c .weeks) first + j)))) (tests .3) i (omega (arith, edges)));
@@ -127,8 +127,8 @@ module _ (c : Calendar) (hours : List ℕ) (first last : Quarter) (l r : ℕ) (a
   -- and no quarter from the first to the last is left out
   pub none-left-out : (at : Quarter) → Between c first last at → (l ≤ unitOf (c .weeks) at) × (unitOf (c .weeks) at < r)
   none-left-out at v = (
-    by-lt (unitOf (c .weeks) at) l (λ h. absurd (v .begun (lower-earlier c at first (v .known) (passed .first-known) (v .ward) (omega (arith, edges .0))))) (λ h. h),
-    by-lt (unitOf (c .weeks) at) r (λ h. h) (λ h. absurd (v .going (lower-earlier c last at (passed .last-known) (v .known) (ordered .one-ward ∙ sym (v .ward)) (omega (arith, edges .1))))),
+    by-lt (unitOf (c .weeks) at) l (λ h. absurd (v .not-before (lower-earlier c at first (v .known) (passed .first-known) (v .ward) (omega (arith, edges .0))))) (λ h. h),
+    by-lt (unitOf (c .weeks) at) r (λ h. h) (λ h. absurd (v .not-after (lower-earlier c last at (passed .last-known) (v .known) (ordered .one-ward ∙ sym (v .ward)) (omega (arith, edges .1))))),
   )
 
   -- a request for these edges is not refused by 7
@@ -139,6 +139,6 @@ module _ (c : Calendar) (hours : List ℕ) (first last : Quarter) (l r : ℕ) (a
 
 -- windows of different wards never overlap, whatever hours they were tested by
 pub other-wards-apart : (c : Calendar) (hours hours′ : List ℕ) (first last first′ last′ : Quarter) (l r l′ r′ : ℕ)
-    → Accepted c hours first last l r → Accepted c hours′ first′ last′ l′ r′ → (first .ward ≡ first′ .ward → ⊥) → Overlap l r l′ r′ → ⊥
+    → WindowAccepted c hours first last l r → WindowAccepted c hours′ first′ last′ l′ r′ → (first .ward ≡ first′ .ward → ⊥) → Overlap l r l′ r′ → ⊥
 other-wards-apart c hours hours′ first last first′ last′ l r l′ r′ a b d o =
     d (sym (in-ward c hours first last l r a (o .unit) (o .low) (o .high)) ∙ in-ward c hours′ first′ last′ l′ r′ b (o .unit) (o .other-low) (o .other-high))

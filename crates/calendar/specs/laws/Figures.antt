@@ -1,5 +1,5 @@
 -- Laws: which figures and quarters the tests let pass, and that the code's sums and products stay small. Assumes nothing.
-use mathlib.Core.Path.{_≡_}
+use mathlib.Core.Path.{_≡_, refl}
 use mathlib.Core.Bool.{Bool, true, false, _||_}
 use Prim.Native.Nat.{ℕ, _*_, _≤_, _<_}
 use native.Mathlib.Omega.{arith}
@@ -8,7 +8,6 @@ use borrow.Author.Tests.{ltb-false, leb-false, lt-leb, le-ltb}
 use lib.Dec.{leb, ltb}
 use Rattle.base.specs.laws.TestLaws.{both-false, true-first, next-test}
 use Rattle.tree.specs.rules.Tree.{units}
-use Rattle.cover.specs.rules.Answer.{windowOutside}
 use Rattle.calendar.specs.declared.Calendar.{Calendar}
 use Rattle.calendar.specs.declared.Quarter.{Quarter}
 use Rattle.calendar.specs.rules.Calendar.{unitOf, unitCount, Known, unknown, figuresOutside}
@@ -93,16 +92,9 @@ pub ranges-refused : (c : Calendar) → rangesOutside c ≡ true → true ≡ fi
 unfolding figuresOutside
 ranges-refused c e = true-first (rangesOutside c) (ltb (units (c .levels)) (unitCount c)) e
 
-some-units : (c : Calendar) → InRanges c → 0 < unitCount c
-unfolding unitCount
-some-units c i = omega (arith, mul-le-mul {n₁ = 1} {m₁ = 1} {n₂ = c .wards} {m₂ = c .weeks} (i .some-ward) (i .some-week))
-
--- the window of all of the calendar's units is outside the tree where they are too many
-pub count-tested : (c : Calendar) → rangesOutside c ≡ false → windowOutside (c .levels) 0 (unitCount c) ≡ figuresOutside c
-unfolding figuresOutside windowOutside
-count-tested c e =
-    next-test (windowOutside (c .levels) 0 (unitCount c)) (rangesOutside c) (ltb (units (c .levels)) (unitCount c)) e
-    (rw (lt-leb (unitCount c) 0 (some-units c (in-ranges c e))))
+pub count-tested : (c : Calendar) → rangesOutside c ≡ false → ltb (units (c .levels)) (unitCount c) ≡ figuresOutside c
+unfolding figuresOutside
+count-tested c e = next-test (ltb (units (c .levels)) (unitCount c)) (rangesOutside c) (ltb (units (c .levels)) (unitCount c)) e refl
 
 -- figures that the test lets pass
 pub record Inside (c : Calendar) : Type 0 where

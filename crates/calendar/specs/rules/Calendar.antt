@@ -1,14 +1,12 @@
--- To be believed: document 02, request 2.6, first and fourth sentence: the units of a calendar's quarters, the way back as a call, and causes 1 and 12 as far as they need no hours. Assumes nothing.
+-- To be believed: document 02, request 2.6: the units of a calendar's quarters, and cause 12 as far as it needs no hours. Assumes nothing.
 use mathlib.Core.Path.{_≡_}
 use mathlib.Core.Bool.{Bool, false, _||_}
 use Prim.Native.Nat.{ℕ, _+_, _*_, _/_, _%_, _<_}
 use lib.Dec.{leb, ltb}
-use Rattle.base.specs.rules.Choice.{choose}
 use Rattle.tree.specs.rules.Tree.{units}
 use Rattle.cover.specs.rules.Answer.{levelsOutside}
 use Rattle.calendar.specs.declared.Calendar.{Calendar}
 use Rattle.calendar.specs.declared.Quarter.{Quarter}
-use Rattle.calendar.specs.declared.QuarterAnswer.{QuarterAnswer}
 
 -- "Ward w, week k, day d (0..6), quarter q (0..95) is unit (w × weeks + k) × 672 + d × 96 + q"
 unfoldable pub unitOf : ℕ → Quarter → ℕ
@@ -33,26 +31,11 @@ unknown c at = leb (c .wards) (at .ward) || leb (c .weeks) (at .week) || ltb 6 (
 unfoldable pub figuresOutside : Calendar → Bool
 figuresOutside c = ltb (c .wards) 1 || ltb 64 (c .wards) || ltb (c .weeks) 1 || ltb 60 (c .weeks) || ltb (units (c .levels)) (unitCount c)
 
--- levels and figures that no call refuses
+-- a calendar whose H passes 1 and whose figures pass 12
 pub record Fits (c : Calendar) : Type 0 where
   pub levels : levelsOutside (c .levels) ≡ false
   pub figures : figuresOutside c ≡ false
 
--- the quarter that a unit is: a week is 672 units, a ward `weeks` of them, a day 96
+-- the quarter that a unit is: a week is 672 units, a ward `weeks` of them, a day 96. (`unit-there` and `quarter-back` in laws/BothWays.antt say that it is no other.)
 unfoldable pub quarterOf : ℕ → ℕ → Quarter
 quarterOf weeks unit = record { ward = unit / 672 / weeks; week = unit / 672 % weeks; day = unit / 96 % 7; quarter = unit % 96 }
-
--- "number only": the rest is 0
-unfoldable pub quarterRefused : ℕ → QuarterAnswer
-quarterRefused cause = record { number = cause; at = record { ward = 0; week = 0; day = 0; quarter = 0 } }
-
--- number 0, and the quarter
-unfoldable pub quarterFound : Quarter → QuarterAnswer
-quarterFound at = record { number = 0; at = at }
-
--- the call: "The way back gives ward, week, day and quarter of any calendar unit." It tests 1 for H, then 12: the figures, and "a unit past the last ward's".
-unfoldable pub quarterAnswer : Calendar → ℕ → QuarterAnswer
-quarterAnswer c unit =
-    choose (levelsOutside (c .levels)) (quarterRefused 1)
-    (choose (figuresOutside c || leb (unitCount c) unit) (quarterRefused 12)
-    (quarterFound (quarterOf (c .weeks) unit)))

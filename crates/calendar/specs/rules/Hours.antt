@@ -30,6 +30,6 @@ pairWrong opens closes = ltb 96 opens || ltb 96 closes || ltb closes opens
 unfoldable pub hoursWrong : ℕ → List ℕ → Bool
 hoursWrong wards hours = not (eqb (length hours) (14 * wards)) || someBelow (7 * wards) (λ pair. pairWrong (opening hours pair) (closing hours pair))
 
--- a quarter of an open hour: "closing not included; equal means closed"
+-- whether a quarter is open by the hours: "closing not included; equal means closed"
 unfoldable pub isOpen : List ℕ → Quarter → Bool
 isOpen hours at = leb (opening hours (pairOf (at .ward) (at .day))) (at .quarter) && ltb (at .quarter) (closing hours (pairOf (at .ward) (at .day)))

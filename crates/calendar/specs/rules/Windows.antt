@@ -24,7 +24,7 @@ rightEdge weeks last = unitOf weeks last + 1
 unfoldable pub calendarWrong : Calendar → List ℕ → Quarter → Quarter → Bool
 calendarWrong c hours first last = figuresOutside c || hoursWrong (c .wards) hours || unknown c first || unknown c last
 
--- cause 13: "a last quarter before the first or in another ward". In one ward the earlier quarter has the lower unit (`earlier-lower` in laws/Edges.antt).
+-- cause 13: "a last quarter before the first or in another ward". In one ward the earlier quarter is the one with the lower unit (`earlier-lower` and `lower-earlier` in laws/Edges.antt).
 unfoldable pub outOfOrder : ℕ → Quarter → Quarter → Bool
 outOfOrder weeks first last = not (eqb (last .ward) (first .ward)) || ltb (unitOf weeks last) (unitOf weeks first)
 
@@ -52,22 +52,22 @@ windowAnswer c hours first last =
 -- ---- What is claimed of accepted windows
 
 -- the call accepts the window, with these edges
-unfoldable pub Accepted : Calendar → List ℕ → Quarter → Quarter → ℕ → ℕ → Type 0
-Accepted c hours first last l r = windowAnswer c hours first last ≡ record { number = 0; left = l; right = r }
+unfoldable pub WindowAccepted : Calendar → List ℕ → Quarter → Quarter → ℕ → ℕ → Type 0
+WindowAccepted c hours first last l r = windowAnswer c hours first last ≡ record { number = 0; left = l; right = r }
 
 -- one quarter of a ward is before another: an earlier week, or day of the same week, or quarter of the same day
 unfoldable pub Earlier : Quarter → Quarter → Type 0
 Earlier a b = (a .week < b .week) ⊎ ((a .week ≡ b .week) × ((a .day < b .day) ⊎ ((a .day ≡ b .day) × (a .quarter < b .quarter))))
 
--- a quarter that lies in the window from `first` to `last`: it is of their ward, not before the one and not after the other
+-- "A window lies in one ward from a first to a last quarter": a quarter that lies in it is of that ward, not before the first and not after the last
 pub record Between (c : Calendar) (first last at : Quarter) : Type 0 where
   pub known : Known c at
   pub ward : at .ward ≡ first .ward
-  pub begun : Earlier at first → ⊥
-  pub going : Earlier last at → ⊥
+  pub not-before : Earlier at first → ⊥
+  pub not-after : Earlier last at → ⊥
 
 -- "every quarter in it must be open": unit u is a quarter between the two ends, and open
 pub record OpenBetween (c : Calendar) (hours : List ℕ) (first last : Quarter) (u : ℕ) : Type 0 where
   pub between : Between c first last (quarterOf (c .weeks) u)
   pub unit : unitOf (c .weeks) (quarterOf (c .weeks) u) ≡ u
-  pub opened : isOpen hours (quarterOf (c .weeks) u) ≡ true
+  pub is-open : isOpen hours (quarterOf (c .weeks) u) ≡ true

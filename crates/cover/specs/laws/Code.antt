@@ -232,7 +232,8 @@ module _ (h l r : ℕ) where
   unfolding answer choose
   window-covered e f = rw (e, f)
 
-  units-code : 1 ≤ h → h ≤ 12 → (64 * 2 ^ (2 * (h - 1))) % 2 ^ 64 ≡ units h
+  -- N, as the code shifts it
+  pub units-code : 1 ≤ h → h ≤ 12 → (64 * 2 ^ (2 * (h - 1))) % 2 ^ 64 ≡ units h
   unfolding units
   units-code a b = shifted 64 (h - 1) (omega (arith, four-small (h - 1) (omega arith)))
 

@@ -3,7 +3,8 @@ use mathlib.Core.Path.{sym, _∙_}
 use native.Mathlib.Omega.{arith}
 use Rattle.cover.specs.rules.Answer.{levelsOutside}
 use Rattle.cover.specs.laws.Code.{levels-inside}
-use Rattle.calendar.specs.rules.Calendar.{unitCount, quarterFound}
+use Rattle.calendar.specs.rules.Calendar.{unitCount}
+use Rattle.calendar.specs.rules.Back.{quarterFound}
 use Rattle.calendar.specs.laws.Figures.{to-inside}
 use Rattle.calendar.specs.laws.Code.{quarter-1, quarter-12, quarter-past, quarter-0}
 use borrow.Author.Needs.{needs}

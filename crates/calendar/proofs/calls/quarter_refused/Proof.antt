@@ -1,6 +1,6 @@
 -- `calendar::calls::quarter_refused` meets its contract. Assumes nothing.
 use mathlib.Core.Path.{refl}
-use Rattle.calendar.specs.rules.Calendar.{quarterRefused}
+use Rattle.calendar.specs.rules.Back.{quarterRefused}
 use Rattle.calendar.proofs.calls.quarter_refused.Statement.{statement}
 use Rattle.calendar.proofs.calls.quarter_refused.Tie as tie
 
