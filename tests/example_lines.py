@@ -1,4 +1,5 @@
-"""What the examples must print: examples/take.py run on a table that the model makes, with the model's step count."""
+"""What the examples must print: examples/take.py run on a table that the model makes, with the model's step count, and examples/ward.py with the
+model's calendar."""
 
 import sys
 from contextlib import redirect_stdout
@@ -6,9 +7,10 @@ from functools import lru_cache
 from importlib.util import module_from_spec, spec_from_file_location
 from io import StringIO
 
-from compiled_table import library
+from compiled_table import library, nolthewyr
 from library import ROOT
 from model.binding import ModelTable
+from model.calendar import Quarter, back, there
 from model.record import Settings
 from model.step_count import step_count
 
@@ -24,20 +26,50 @@ def steps_by_model(*asked):
 
 
 @lru_cache(maxsize=None)
-def example():
-    """The example as a module, without a folder of its own for compiled files beside it."""
+def example(name, *by_model):
+    """The example as a module, without a folder of its own for compiled files beside it, and with functions of the model in place of the
+    library's."""
     sys.dont_write_bytecode = True
-    spec = spec_from_file_location("take", ROOT / "examples" / "take.py")
+    spec = spec_from_file_location(name, ROOT / "examples" / f"{name}.py")
     module = module_from_spec(spec)
     spec.loader.exec_module(module)
-    module.step_count = steps_by_model
+    for called, function in by_model:
+        setattr(module, called, function)
     return module
 
 
-@lru_cache(maxsize=None)
-def lines(levels):
-    library()
-    written, settings = StringIO(), Settings(levels, DISTANCE, example().WAIT, example().PATIENCE)
+def printed_by(run, *arguments):
+    """The lines that an example prints."""
+    written = StringIO()
     with redirect_stdout(written):
-        example().run(settings, ModelTable(settings, CLIENTS))
+        run(*arguments)
     return written.getvalue().splitlines()
+
+
+@lru_cache(maxsize=None)
+def take_lines(levels):
+    library()
+    take = example("take", ("step_count", steps_by_model))
+    settings = Settings(levels, DISTANCE, take.WAIT, take.PATIENCE)
+    return printed_by(take.run, settings, ModelTable(settings, CLIENTS))
+
+
+def edges_by_model(hours, calendar, first, last):
+    """The edges of the model, as the binding gives them."""
+    number, left, right = there(*calendar, Quarter(*first), Quarter(*last), hours)
+    if number:
+        raise nolthewyr.Refused(number)
+    return left, right
+
+
+def quarter_by_model(calendar, unit):
+    number, *at = back(*calendar, unit)
+    assert number == 0
+    return at
+
+
+@lru_cache(maxsize=None)
+def ward_lines(levels):
+    library()
+    ward = example("ward", ("calendar_window", edges_by_model), ("calendar_quarter", quarter_by_model))
+    return printed_by(ward.run, nolthewyr.Calendar(levels, ward.WARDS, ward.WEEKS))

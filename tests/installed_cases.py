@@ -8,20 +8,21 @@ from itertools import zip_longest
 
 from compare import NAMES, case
 from compiled_table import library, nolthewyr
-from example_lines import lines
+from example_lines import take_lines, ward_lines
 from library import ROOT, command
 from name_cases import ENUMERATIONS
 from prefix import BUILDERS, asked, built, c_shared, environment, folder, place, prefix, printed, python, run, rust_shared
 
-NAMES["example line"] = ("place in the list of languages", "levels", "line"), ("as the model says",)
-NAMES["documented line"] = ("line",), ("as the model says",)
+NAMES["example line"] = ("place in the list of examples", "place in the list of languages", "levels", "line"), ("as the model says",)
+NAMES["documented line"] = ("place in the list of examples", "line"), ("as the model says",)
 NAMES["needs the shared library"] = ("place in the list of languages",), ("needs it",)
 NAMES["installed files"] = ("folder",), ("files", "files unlike")
 NAMES["found by Python"] = ("way",), ("found",)
 NAMES["program"] = ("claim",), ("holds",)
 NAMES["page"] = ("page",), ("warnings", "words unlike the program's")
 
-LEVELS = 3, 12
+# Each example, what it must print, by how many levels it is asked: the fewest that it can do with, and the most; and how its lines begin.
+EXAMPLES = ("take", take_lines, (3, 12), "client 0 needs"), ("ward", ward_lines, (4, 12), "ward 2 week 0")
 DOCUMENT = ROOT / "docs" / "LINKING.md"
 CASE = ROOT / "schedules" / "whole-case"
 PROGRAMS = "rangelog", "rangepages", "schedule"
@@ -42,22 +43,24 @@ def compared(name, before, expected, found):
 
 def example_lines():
     """The examples print the model's lines in a low tree and in the highest, no more and no fewer."""
-    for levels in LEVELS:
-        for number, builder in enumerate(BUILDERS):
-            yield from compared("example line", [number, levels], lines(levels), printed(builder, levels))
+    for place_of, (example, lines, in_trees, _) in enumerate(EXAMPLES):
+        for levels in in_trees:
+            for number, builder in enumerate(BUILDERS):
+                yield from compared("example line", [place_of, number, levels], lines(levels), printed(builder, example, levels))
 
 
 def documented_lines():
     """docs/LINKING.md shows what the examples print."""
-    [shown] = re.findall(r"```text\n(client 0 needs.*?)```", DOCUMENT.read_text(), re.DOTALL)
-    return compared("documented line", [], lines(LEVELS[0]), shown.splitlines())
+    for number, (_, lines, (levels, _), begin) in enumerate(EXAMPLES):
+        [shown] = re.findall(rf"```text\n({begin}.*?)```", DOCUMENT.read_text(), re.DOTALL)
+        yield from compared("documented line", [number], lines(levels), shown.splitlines())
 
 
 def linked_shared():
     """A program that is linked with the shared library needs it by its name for the loader, and one with the archive does not."""
     for number, builder in enumerate(BUILDERS):
         if builder is not python:
-            needed = f" libnolthewyr.so.{nolthewyr.SERIES}\n" in run("objdump", "-p", built(builder)[0])
+            needed = f" libnolthewyr.so.{nolthewyr.SERIES}\n" in run("objdump", "-p", built(builder, "take")[0])
             yield case("needs the shared library", [number], builder in (c_shared, rust_shared)), int(needed)
 
 

@@ -47,52 +47,52 @@ def asked(*words):
     return run("pkg-config", *words, "nolthewyr", PKG_CONFIG_PATH=str(prefix() / "lib" / "pkgconfig")).split()
 
 
-def c_program(*static):
-    program = place(f"take-c{''.join(static)}")
+def c_program(example, *static):
+    program = place(f"{example}-c{''.join(static)}")
     linked = asked("--cflags", "--libs", *(f"-{word}" for word in static))
-    command(*CHECKED_C, *static, ROOT / "examples" / "take.c", *linked, "-o", program)
+    command(*CHECKED_C, *static, ROOT / "examples" / f"{example}.c", *linked, "-o", program)
     return program
 
 
-def c_static():
-    return [c_program("-static")]
+def c_static(example):
+    return [c_program(example, "-static")]
 
 
-def c_shared():
-    return [c_program()]
+def c_shared(example):
+    return [c_program(example)]
 
 
-def rust_program(name, *linked):
+def rust_program(example, name, *linked):
     """The example with the declarations as a crate; `linked` says where the library is."""
     [share] = asked("--variable=pkgdatadir")
-    crate, program = place(f"lib{name}.rlib"), place(name)
+    crate, program = place(f"lib{example}-{name}.rlib"), place(f"{example}-{name}")
     command(*CHECKED_RUST, "--crate-type", "rlib", "--crate-name", "nolthewyr", f"{share}/nolthewyr.rs", "-o", crate)
-    command(*CHECKED_RUST, "--extern", f"nolthewyr={crate}", ROOT / "examples" / "take.rs", *linked, "-o", program)
+    command(*CHECKED_RUST, "--extern", f"nolthewyr={crate}", ROOT / "examples" / f"{example}.rs", *linked, "-o", program)
     return program
 
 
-def rust_static():
-    return [rust_program("take-rust-static", *asked("--libs-only-L"), "-l", "static=nolthewyr")]
+def rust_static(example):
+    return [rust_program(example, "rust-static", *asked("--libs-only-L"), "-l", "static=nolthewyr")]
 
 
-def rust_shared():
-    return [rust_program("take-rust", *asked("--libs"))]
+def rust_shared(example):
+    return [rust_program(example, "rust", *asked("--libs"))]
 
 
-def python():
-    return ["python3", ROOT / "examples" / "take.py"]
+def python(example):
+    return ["python3", ROOT / "examples" / f"{example}.py"]
 
 
 BUILDERS = c_static, c_shared, rust_static, rust_shared, python
 
 
 @lru_cache(maxsize=None)
-def built(builder):
+def built(builder, example):
     """The command that runs an example."""
-    return builder()
+    return builder(example)
 
 
-def printed(builder, levels):
+def printed(builder, example, levels):
     """The lines that an example prints. It finds the shared library where it is installed, if it needs it."""
     found = {"LD_LIBRARY_PATH": asked("--variable=libdir")[0], "PYTHONPATH": asked("--variable=pkgdatadir")[0]}
-    return run(*built(builder), str(levels), **found).splitlines()
+    return run(*built(builder, example), str(levels), **found).splitlines()
