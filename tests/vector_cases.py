@@ -5,10 +5,13 @@ from itertools import islice
 from operator import length_hint
 from typing import NamedTuple
 
+import compiled_calendar
 import compiled_table
 from compare import NAMES, case, unlike
+from compiled_calendar import CALENDAR
 from compiled_table import Table, clients_unlike
 from library import ROOT
+from model import calendar
 from model.cover import cover
 from model.history import KINDS, Call
 from model.record import Client, Record, Settings
@@ -22,6 +25,8 @@ VECTORS = ROOT / "tests" / "vectors"
 STATES = 600
 SCHEDULES = 40
 STEPS_AND_COVERS = 1500
+THERE = 2500
+BACK = 1500
 
 # In a state stand six settings, of which the last are none yet.
 SETTINGS = 6
@@ -29,6 +34,8 @@ SETTINGS = 6
 NAMES["state"] = ("place", "kind", "by"), ("number", "clocks unlike", "records unlike", "words unlike")
 NAMES["expected step count"] = ("by", "levels", "distance", "left", "right"), ("number", "steps")
 NAMES["expected cover"] = ("by", "levels", "left", "right"), ("number", "first", "second", "over-cover")
+NAMES["expected window of a ward"] = ("by", "line", *CALENDAR), ("number", "left", "right")
+NAMES["expected quarter"] = ("by", "line", *CALENDAR, "unit"), ("number", *calendar.Quarter._fields)
 NAMES["expected answers"] = ("place",), ("files, states or lines found", "names missing or too many, or numbers left over")
 
 
@@ -130,6 +137,32 @@ def steps_and_covers():
             yield case("expected cover", [by, levels, *window], answer_in(covered)), tuple(cover_of(levels, *window))
 
 
+def asked_and_answers(name):
+    """Of each line of a file its number, what it asks and the answer."""
+    for number, line in enumerate((VECTORS / name).read_text().splitlines(), 1):
+        asked, answer = line.split("|")
+        yield number, tuple(map(int, asked.split())), answer_in(answer)
+
+
+def there():
+    """Each window of a ward has the edges that are expected, or is refused by the number, by the model and compiled."""
+    lines = list(asked_and_answers("there.txt"))
+    yield case("expected answers", [4], (THERE, 0)), (len(lines), 0)
+    for line, asked, answer in lines:
+        figures, first, last, hours = asked[:3], calendar.Quarter(*asked[3:7]), calendar.Quarter(*asked[7:11]), asked[11:]
+        for by, window in enumerate((calendar.there, compiled_calendar.window)):
+            yield case("expected window of a ward", [by, line, *figures], answer), tuple(window(*figures, first, last, hours))
+
+
+def back():
+    """Each unit is the quarter that is expected, or is refused by the number, by the model and compiled."""
+    lines = list(asked_and_answers("back.txt"))
+    yield case("expected answers", [5], (BACK, 0)), (len(lines), 0)
+    for line, asked, answer in lines:
+        for by, quarter in enumerate((calendar.back, compiled_calendar.quarter)):
+            yield case("expected quarter", [by, line, *asked], tuple(calendar.Place(*answer))), tuple(quarter(*asked))
+
+
 def schedules(program):
     """Of each schedule the model and the program print what is expected."""
     folder = VECTORS / "schedules"
@@ -144,5 +177,7 @@ def schedules(program):
 SUITES = {
     "expected answers, lent tables of any content": states,
     "expected answers, step counts and covers": steps_and_covers,
+    "expected answers, ward hours there": there,
+    "expected answers, ward hours back": back,
     **{f"expected answers, {program.name}": lambda program=program: schedules(program) for program in PROGRAMS},
 }
