@@ -1,6 +1,6 @@
 """The compiled calls of ward hours, from Python: the structs and functions of the binding, with hours lent as a test wants them."""
 
-from ctypes import POINTER, c_uint64, cast
+from ctypes import c_uint64
 from functools import lru_cache
 
 from compiled_table import library, nolthewyr
@@ -31,11 +31,6 @@ def window_lent(levels, wards, weeks, first, last, hours, count):
 
 def window(levels, wards, weeks, first, last, hours):
     return window_lent(levels, wards, weeks, first, last, lent(hours), len(hours))
-
-
-def window_at(levels, wards, weeks, first, last, address, count):
-    """There, by the hours at an address."""
-    return window_lent(levels, wards, weeks, first, last, cast(address, POINTER(c_uint64)), count)
 
 
 def quarter(levels, wards, weeks, unit):
