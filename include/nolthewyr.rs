@@ -108,10 +108,11 @@ pub fn step_count(levels: u64, distance: u64, left: u64, right: u64) -> Result<u
 /// How many words a tree of so many levels has; 0 for levels that no tree has.
 pub use linked::nolthewyr_word_count as word_count;
 
-/// The edges [left, right) of the window from the first quarter of a ward to its last, which is locked too; it may run over midnight and over a
-/// week's end. `hours` has a pair for each ward and day, ward 0's days 0 to 6 first: the quarter at which the ward opens and that at which it
-/// closes (0..96; closing is not open any more, and equal means closed all day). docs/WARDS.md has more.
+/// The edges (left, right) of the window from the first quarter of a ward to its last, which is locked too; it may run over midnight
+/// and over a week's end. `hours` has two numbers for each ward and day, ward 0's days 0 to 6 first: the quarter at which the ward
+/// opens and that at which it closes (0..96; closing is not open any more, and equal means closed all day). docs/WARDS.md has more.
 pub fn calendar_window(hours: &[u64], calendar: Calendar, first: Quarter, last: Quarter) -> Result<(u64, u64), Cause> {
+    // The slice gives what the proof assumes: a length that is true, and nobody who writes the hours meanwhile.
     let answer = unsafe { nolthewyr_calendar_window(hours.as_ptr(), hours.len(), calendar, first, last) };
     accepted(answer.number).map(|()| (answer.left, answer.right))
 }

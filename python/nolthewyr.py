@@ -6,6 +6,7 @@
     table.release(0)                    # and steps until it is Phase.IDLE
     table.planners_page()               # a row for each client: phase, window, nodes, over-cover and steps needed
     table.run_page(0)                   # what client 0 may see: its own record, and how many clients hold
+    calendar_window(hours, calendar, first, last)   # a ward's window by its first and last quarter: the edges to request
 
 A refused call raises `Refused`. examples/take.py has the whole of it, with what to do if the window cannot be had.
 
@@ -124,9 +125,9 @@ def word_count(levels):
 
 
 def calendar_window(hours, calendar, first, last):
-    """The edges (left, right) of the window from the first quarter of a ward to its last, which is locked too; it may run over midnight and over
-    a week's end. `hours` has a pair for each ward and day, ward 0's days 0 to 6 first: the quarter at which the ward opens and that at which
-    it closes (0..96; closing is not open any more, and equal means closed all day). docs/WARDS.md has more."""
+    """The edges (left, right) of the window from the first quarter of a ward to its last, which is locked too; it may run over midnight and
+    over a week's end. `hours` is a list of numbers, two for each ward and day, ward 0's days 0 to 6 first: the quarter at which the ward
+    opens and that at which it closes (0..96; closing is not open any more, and equal means closed all day). docs/WARDS.md has more."""
     lent = (c_uint64 * len(hours))(*map(fitting, hours))
     answer = accepted_answer(library().nolthewyr_calendar_window(lent, len(lent), calendar, first, last))
     return answer.left, answer.right

@@ -18,10 +18,9 @@ Phase = IntEnum("Phase", "IDLE TICKET TURN CLIMB BLOCKED CLAIM NOTIFY WAIT CHECK
 # After LATE and OUT_OF_PATIENCE nothing is wrong with the window: the client asks for it again.
 Outcome = IntEnum("Outcome", "NONE RELEASED LATE CANCELLED OUT_OF_PATIENCE", start=0)
 # 10 and 11 are those of rangelog and rangepages alone.
-Cause = IntEnum("Cause", [
-    *((name, number) for number, name in enumerate(
-        "ACCEPTED SETTINGS WORD_COUNT CLIENT_COUNT CLIENT CLOCK UNREADABLE WINDOW PHASE CLEAR_BIT".split())),
-    ("CALENDAR", 12), ("LAST_QUARTER", 13), ("CLOSED", 14)])
+Cause = IntEnum("Cause", {
+    "ACCEPTED": 0, "SETTINGS": 1, "WORD_COUNT": 2, "CLIENT_COUNT": 3, "CLIENT": 4, "CLOCK": 5, "UNREADABLE": 6, "WINDOW": 7, "PHASE": 8,
+    "CLEAR_BIT": 9, "CALENDAR": 12, "LAST_QUARTER": 13, "CLOSED": 14})
 
 
 def fitting(number):
@@ -108,7 +107,7 @@ class Calendar(Numbers):
 
 
 class Quarter(Numbers):
-    """A quarter of an hour of a ward: the week and the ward from 0, the day 0..6, the quarter of that day 0..95."""
+    """A quarter of an hour of a ward: ward and week from 0, the day 0..6, the quarter of that day 0..95."""
 
     _fields_ = numbers("ward week day quarter")
 

@@ -14,7 +14,7 @@ from model import cover, pages, tree
 from model.history import Opened
 from model.record import IDLE_CLIENT, Settings
 from model.step_count import step_count
-from name_cases import ENUMERATIONS, TOP, UNKNOWN
+from name_cases import CAUSE_WORDS, ENUMERATIONS, TOP, UNKNOWN
 
 NAMES["opening of a table"] = ("language", "levels", "distance", "wait", "patience", "clients"), ("number",)
 NAMES["call on a table"] = ("language", "history", "call"), ("number", "the client's clock, or of a page the run's number", "fields unlike")
@@ -208,7 +208,7 @@ def step_counts():
 def texts_in_rust():
     """A phase, an outcome and a cause are written by the library's text."""
     library()
-    numbers = *range(13), *UNKNOWN
+    numbers = *range(len(CAUSE_WORDS) + 1), *UNKNOWN
     for place, name in enumerate(ENUMERATIONS):
         texts = asked_of_rust([(name, number) for number in numbers])
         for number, text in zip(numbers, texts, strict=True):

@@ -1,7 +1,6 @@
 """Cases for the compiled calls of ward hours: held to the model, which looks at every quarter of a window, for every unit of small calendars,
 for windows that begin and end where hours do, and for random ones; and what request 2.6 says of a window, on compiled answers alone."""
 
-from collections import Counter
 from functools import lru_cache
 from itertools import combinations, islice
 from random import Random
@@ -9,8 +8,8 @@ from random import Random
 import compiled_calendar
 import compiled_table
 from calendar_questions import (
-    ALL_OPEN, LONGEST, Asked, any_calendar, any_week, any_window, every_quarter, fitting, lent_hours, random_windows, telling_windows,
-    with_day)
+    ALL_OPEN, LONGEST, OPEN, Asked, any_calendar, any_week, any_window, every_quarter, fitting, lent_hours, own_hours, own_week,
+    random_windows, telling_windows, with_day)
 from compare import NAMES, case, unlike
 from compiled_calendar import CALENDAR
 from model import tree
@@ -24,7 +23,7 @@ NAMES["window of a ward"] = ASKED, EDGES
 NAMES["window of a ward, by the model in full"] = ASKED, EDGES
 NAMES["quarter of a unit"] = (*CALENDAR, "unit"), ("number", *Quarter._fields)
 NAMES["calendars that fit"] = ("levels",), ("calendars",)
-NAMES["window occurs"] = ("days", "number"), ("occurs",)
+NAMES["days of a window"] = ("days",), ("accepted", "closed on one day of the week")
 NAMES["units of a window"] = ASKED, ("number", "units not the next quarter of the ward", "units not open", "number of the cover")
 NAMES["windows of two wards"] = ("place", "wards with a window"), ("units in two of them",)
 NAMES["calendars with windows of two wards"] = (), ("enough of them",)
@@ -41,8 +40,7 @@ CALENDARS_WALKED = 40
 
 def named_arguments(asked):
     """The numbers that are asked, with the hours of the window's ward."""
-    own = asked.hours[2 * DAYS * asked.first.ward:][:2 * DAYS]
-    return *asked[:3], *asked.first, *asked.last, len(asked.hours), *own
+    return *asked[:3], *asked.first, *asked.last, len(asked.hours), *own_hours(asked.hours, asked.first.ward)
 
 
 def compared(answered):
@@ -64,17 +62,23 @@ def days_touched(asked):
     return 1 + DAYS * (asked.last.week - asked.first.week) + asked.last.day - asked.first.day
 
 
+def one_day_not_open(asked):
+    """Whether the ward is open at all times but for one day of the week."""
+    return own_week(asked.hours, asked.first.ward).count(OPEN) == DAYS - 1
+
+
 def from_telling_quarters(*figures):
-    """Windows from one telling quarter to another, whatever the ward's hours."""
+    """Windows from one telling quarter to another, whatever the ward's hours. Those of every number of days are accepted, and refused by 14 for
+    one day of the week alone."""
     answered = telling_windows(*figures)
     for asked, answer in answered[::ONE_IN]:
         yield case("window of a ward, by the model in full", named_arguments(asked), answer), tuple(there(*asked))
     yield from compared(answered)
-    found = Counter((days_touched(asked), answer.number) for asked, answer in answered)
+    accepted = {days_touched(asked) for asked, answer in answered if answer.number == 0}
+    closed = {days_touched(asked) for asked, answer in answered if answer.number == 14 and one_day_not_open(asked)}
     for days in TOUCHED:
         if days <= DAYS * figures[-1]:
-            for number in (0, 14):
-                yield case("window occurs", [days, number], 1), int(found[days, number] > 0)
+            yield case("days of a window", [days], (1, 1)), (days in accepted, days in closed)
 
 
 def next_quarter(at):

@@ -37,6 +37,16 @@ def lent_hours(*weeks):
     return tuple(hour for week in weeks for pair in week for hour in pair)
 
 
+def own_hours(hours, ward):
+    """A ward's own, as far as they are lent."""
+    return hours[2 * DAYS * ward:][:2 * DAYS]
+
+
+def own_week(hours, ward):
+    own = own_hours(hours, ward)
+    return list(zip(own[::2], own[1::2]))
+
+
 def fits(levels, wards, weeks):
     return wards * weeks * WEEK <= 64 * 4 ** (levels - 1)
 
@@ -110,8 +120,7 @@ def looked_at(weeks, ward, hours):
 def in_a_ward(levels, wards, weeks, ward, hours):
     """All windows of a ward from one telling quarter to another."""
     closed, before = looked_at(weeks, ward, hours), ward * weeks * WEEK
-    week = list(zip(*[iter(hours[2 * DAYS * ward:2 * DAYS * (ward + 1)])] * 2))
-    for first, last in combinations_with_replacement(telling_quarters(ward, weeks, week), 2):
+    for first, last in combinations_with_replacement(telling_quarters(ward, weeks, own_week(hours, ward)), 2):
         left, right = unit_of(weeks, first), unit_of(weeks, last) + 1
         found = Edges(14) if closed[right - before] > closed[left - before] else Edges(0, left, right)
         yield Answered(Asked(levels, wards, weeks, first, last, hours), found)

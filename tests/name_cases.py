@@ -11,11 +11,13 @@ NAMES["declared names"] = ("language", "enumeration"), ("names", "names unlike")
 NAMES["text"] = ("enumeration", "number"), ("as the documents say",)
 
 # What the documents call each number, outcome 4 by document 02's patience that has run out. The names of causes are short ones for the rows
-# of document 01's table.
+# of document 01's table and of request 2.6; 10 and 11 are those of the programs alone, and have none.
 ENUMERATIONS = {
     "phase": "idle ticket turn climb blocked claim notify wait check held returning".split(),
     "outcome": "none released late cancelled out_of_patience".split(),
-    "cause": "accepted settings word_count client_count client clock unreadable window phase clear_bit".split(),
+    "cause": [
+        *"accepted settings word_count client_count client clock unreadable window phase clear_bit".split(), None, None,
+        *"calendar last_quarter closed".split()],
 }
 
 # Words of the documents' table that the texts of the causes have.
@@ -25,6 +27,8 @@ CAUSE_WORDS = [
     "no clients, or over 32767", "client not below the table's count", "step clock below the client's last clock",
     "client's record unreadable", "window", "request when not idle, release when not held, or cancel",
     "returning leaf finds a wanted bit clear", "schedule", "over 6 levels or over 64 clients",
+    "hours not one pair for each ward and day, over 96, or opening after closing; or no such ward, week, day, quarter or unit",
+    "last quarter before the first, or in another ward", "closed in some quarter of the window",
 ]
 # The greatest number of 64 bits, and numbers of no phase, outcome or cause.
 TOP = 2 ** 64 - 1
@@ -49,8 +53,8 @@ def declared_names():
     for place, names_of in enumerate((c_names, rust_names, python_names)):
         for number, (name, names) in enumerate(ENUMERATIONS.items()):
             found = [(named.lower(), int(at)) for named, at in names_of(name)]
-            expected = [(named, at) for at, named in enumerate(names)]
-            yield case("declared names", [place, number], (len(names), 0)), (len(found), unlike(expected, found))
+            expected = [(named, at) for at, named in enumerate(names) if named]
+            yield case("declared names", [place, number], (len(expected), 0)), (len(found), unlike(expected, found))
 
 
 def texts():

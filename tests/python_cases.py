@@ -20,6 +20,14 @@ def raises(call):
     return 0
 
 
+def window_with_hour(place, hour):
+    """A window of a ward that is always open, but for one of its hours."""
+    hours = [0, 96] * 7
+    hours[place] = hour
+    at = nolthewyr.Quarter(0, 0, 0, 0)
+    return nolthewyr.calendar_window(hours, nolthewyr.Calendar(3, 1, 1), at, at)
+
+
 def numbers_that_do_not_fit():
     """ctypes cuts a number to its width, so that client 2^64 would be client 0. The Python file raises, and nothing is called."""
     library()
@@ -35,6 +43,10 @@ def numbers_that_do_not_fit():
             lambda: nolthewyr.Settings(2, outside, 5, 9), lambda: nolthewyr.Settings(levels=outside),
             lambda: nolthewyr.Settings(2, 1, 5, outside), lambda: nolthewyr.Settings(patience=outside), lambda: nolthewyr.cause_text(outside),
             lambda: nolthewyr.Table(nolthewyr.Settings(2, 1, 5, 9), outside),
+            lambda: nolthewyr.Calendar(outside, 1, 1), lambda: nolthewyr.Calendar(levels=3, wards=1, weeks=outside),
+            lambda: nolthewyr.Quarter(outside, 0, 0, 0), lambda: nolthewyr.Quarter(ward=0, week=0, day=0, quarter=outside),
+            *(lambda place=place: window_with_hour(place, outside) for place in range(14)),
+            lambda: nolthewyr.calendar_quarter(nolthewyr.Calendar(3, 1, 1), outside),
         ]
         for place, call in enumerate(calls):
             yield case("number that does not fit", [place], 1), raises(call)
@@ -97,7 +109,7 @@ def clock_read_in_turn():
 
 
 def shown_by_names():
-    """A struct is shown by the names of its fields, which can be gone through in order, a run's page too."""
+    """A struct is shown by the names of its fields, which can be gone through in order, a run's page and a unit's quarter too."""
     library()
     table = nolthewyr.Table(nolthewyr.Settings(2, 1, 5, 9), 1)
     row = nolthewyr.Row(9, 0, 256, 1, 0, 0, 5)
@@ -105,6 +117,8 @@ def shown_by_names():
     yield case("table in Python", [4], 1), int(repr(row) == "Row(phase=9, left=0, right=256, first=1, second=0, over=0, steps=5)")
     yield case("table in Python", [5], 1), int(repr(table.run_page(0)) == f"RunPageAnswer(number=0, own={nolthewyr.Record()}, held=0)")
     yield case("table in Python", [6], 1), int((number, tuple(own), held) == (0, tuple(IDLE), 0))
+    quarter = nolthewyr.calendar_quarter(nolthewyr.Calendar(3, 1, 1), 671)
+    yield case("table in Python", [11], 1), int(repr(quarter) == "Quarter(ward=0, week=0, day=6, quarter=95)" and tuple(quarter) == (0, 0, 6, 95))
 
 
 SUITES = {

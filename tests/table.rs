@@ -10,9 +10,13 @@
 //!     cover LEVELS LEFT RIGHT                     the number, the nodes and the over-cover
 //!     step_count LEVELS DISTANCE LEFT RIGHT       the number and the steps
 //!     word_count LEVELS                           the count
+//!     calendar_window CALENDAR FIRST LAST HOURS   the number and the edges; CALENDAR is levels wards weeks, and FIRST and LAST are each
+//!                                                 ward week day quarter
+//!     calendar_quarter CALENDAR UNIT              the number, and the ward, week, day and quarter
 //!     phase NUMBER                                its text; outcome and cause likewise
 
-use nolthewyr::{cover, step_count, word_count, Cause, CoverAnswer, Outcome, Phase, Record, Row, RunPageAnswer, Settings, Table};
+use nolthewyr::{calendar_quarter, calendar_window, cover, step_count, word_count};
+use nolthewyr::{Calendar, Cause, CoverAnswer, Outcome, Phase, Quarter, Record, Row, RunPageAnswer, Settings, Table};
 use std::io::stdin;
 
 /// The numbers of a record, in its order.
@@ -71,6 +75,27 @@ fn counted(levels: u64, distance: u64, left: u64, right: u64) -> String {
     format!("{number} {steps}")
 }
 
+fn calendar(numbers: &[u64]) -> Calendar {
+    Calendar { levels: numbers[0], wards: numbers[1], weeks: numbers[2] }
+}
+
+fn quarter(numbers: &[u64]) -> Quarter {
+    Quarter { ward: numbers[0], week: numbers[1], day: numbers[2], quarter: numbers[3] }
+}
+
+fn window_of_ward(numbers: &[u64]) -> String {
+    let answer = calendar_window(&numbers[11..], calendar(numbers), quarter(&numbers[3..]), quarter(&numbers[7..]));
+    let (number, (left, right)) = answer.map_or_else(|cause| (cause.0, (0, 0)), |edges| (0, edges));
+    format!("{number} {left} {right}")
+}
+
+fn quarter_of_unit(numbers: &[u64]) -> String {
+    let answer = calendar_quarter(calendar(numbers), numbers[3]);
+    let (number, at) = answer.map_or_else(|cause| (cause.0, Quarter::default()), |at| (0, at));
+    let Quarter { ward, week, day, quarter } = at;
+    format!("{number} {ward} {week} {day} {quarter}")
+}
+
 fn main() {
     let mut table: Option<Table> = None;
     for line in stdin().lines() {
@@ -87,6 +112,8 @@ fn main() {
             ("cover", &[levels, left, right]) => covered(levels, left, right),
             ("step_count", &[levels, distance, left, right]) => counted(levels, distance, left, right),
             ("word_count", &[levels]) => word_count(levels).to_string(),
+            ("calendar_window", numbers) => window_of_ward(numbers),
+            ("calendar_quarter", numbers) => quarter_of_unit(numbers),
             ("pages", &[client]) => pages(table.as_ref().expect("an open table"), client as usize),
             ("phase", &[number]) => Phase(number).to_string(),
             ("outcome", &[number]) => Outcome(number).to_string(),
