@@ -48,7 +48,7 @@ def own_week(hours, ward):
 
 
 def fits(levels, wards, weeks):
-    return wards * weeks * WEEK <= 64 * 4 ** (levels - 1)
+    return wards * weeks * WEEK <= tree.units(levels)
 
 
 def fitting(levels):
@@ -57,17 +57,23 @@ def fitting(levels):
 
 
 def any_pair(rng):
-    """Open all day, closed all day by equal hours, or open from some quarter on."""
+    """Open all day, closed all day by equal hours, or open from a quarter to another."""
     opening = rng.randrange(QUARTERS + 1)
     return rng.choice([OPEN, (opening, opening), (opening, rng.randint(opening, QUARTERS))])
 
 
+def any_days(rng):
+    return tuple(any_pair(rng) for _ in range(DAYS))
+
+
+def with_day(day, pair):
+    """A week that is open but for one day, which has other hours."""
+    return tuple(pair if each == day else OPEN for each in range(DAYS))
+
+
 def any_week(rng):
     """A ward's week: always open, but for one day, or anything on any day."""
-    week = [any_pair(rng) for _ in range(DAYS)]
-    but_one = [OPEN] * DAYS
-    but_one[rng.randrange(DAYS)] = any_pair(rng)
-    return rng.choice([ALL_OPEN, but_one, week])
+    return rng.choice([ALL_OPEN, with_day(rng.randrange(DAYS), any_pair(rng)), any_days(rng)])
 
 
 @lru_cache(maxsize=None)
@@ -76,17 +82,12 @@ def every_quarter(levels):
     found = []
     for wards, weeks in fitting(levels):
         rng = Random(f"every quarter of {wards} wards and {weeks} weeks")
-        hours = lent_hours(*([any_pair(rng) for _ in range(DAYS)] for _ in range(wards)))
+        hours = lent_hours(*(any_days(rng) for _ in range(wards)))
         for unit in range(wards * weeks * WEEK):
             at = quarter_of(weeks, unit)
             asked = Asked(levels, wards, weeks, at, at, hours)
             found.append(Answered(asked, there(*asked)))
     return found
-
-
-def with_day(day, pair, others=OPEN):
-    """A week in which one day has other hours."""
-    return tuple(pair if each == day else others for each in range(DAYS))
 
 
 @lru_cache(maxsize=None)
@@ -97,7 +98,7 @@ def weeks_of_hours():
     alike = [(pair,) * DAYS for pair in (OPEN, (0, 0), (48, 48), (96, 96), (0, 60), (30, 96), (24, 80), (0, 1), (95, 96))]
     of_one_day = [with_day(day, pair) for day in range(DAYS) for pair in ((0, 0), (48, 48), (96, 96), (1, 96), (0, 95), (50, 51))]
     over_midnight = [tuple(((70, 96), (0, 20))[(day + shift) % 2] for day in range(DAYS)) for shift in range(2)]
-    return [*alike, *of_one_day, *over_midnight, *([any_pair(rng) for _ in range(DAYS)] for _ in range(4))]
+    return [*alike, *of_one_day, *over_midnight, *(any_days(rng) for _ in range(4))]
 
 
 def telling(pair):
