@@ -9,7 +9,7 @@ use crate::row;
 use crate::rust::linked;
 use crate::settings::{SETTINGS, WINDOWS};
 use crate::tables::print_table;
-use crate::timing::{best, time};
+use crate::timing::{best, time_each};
 use std::hint::black_box;
 
 extern "C" {
@@ -77,15 +77,9 @@ fn clients(window: Window) -> Vec<Client> {
     clients
 }
 
-/// Nanoseconds of a call that is made on each item of a mix in turn.
-fn time_each<T: Copy>(mix: &[T], mut call: impl FnMut(T)) -> f64 {
-    let times = CALLS / mix.len();
-    time(times, || mix.iter().for_each(|item| call(*item))) / mix.len() as f64
-}
-
 fn cover_times(mix: &[Window]) -> [f64; 2] {
     black_box(COVER).map(|cover| {
-        time_each(mix, |(l, r)| {
+        time_each(CALLS, mix, |(l, r)| {
             black_box(unsafe { cover(SETTINGS.levels, l, r) });
         })
     })
@@ -93,7 +87,7 @@ fn cover_times(mix: &[Window]) -> [f64; 2] {
 
 fn step_count_times(mix: &[Window]) -> [f64; 2] {
     black_box(STEP_COUNT).map(|step_count| {
-        time_each(mix, |(l, r)| {
+        time_each(CALLS, mix, |(l, r)| {
             black_box(unsafe { step_count(SETTINGS.levels, SETTINGS.distance, l, r) });
         })
     })
@@ -101,7 +95,7 @@ fn step_count_times(mix: &[Window]) -> [f64; 2] {
 
 fn wanted_bits_times(mix: &[(u64, Window)]) -> [f64; 2] {
     black_box(WANTED_BITS).map(|wanted_bits| {
-        time_each(mix, |(edge, (l, r))| {
+        time_each(CALLS, mix, |(edge, (l, r))| {
             black_box(unsafe { wanted_bits(edge, l, r) });
         })
     })
@@ -109,7 +103,7 @@ fn wanted_bits_times(mix: &[(u64, Window)]) -> [f64; 2] {
 
 fn test_times(mix: &[Client]) -> [f64; 2] {
     black_box(UNREADABLE).map(|unreadable| {
-        time_each(mix, |Client { clock, record }| {
+        time_each(CALLS, mix, |Client { clock, record }| {
             black_box(unsafe { unreadable(record, SETTINGS, clock) });
         })
     })

@@ -2,6 +2,7 @@
 //! with its files to lock in the directory. `main` alone makes the calls whose instructions callgrind counts.
 
 mod alone;
+mod calendar;
 mod called;
 mod growth;
 mod histories;
@@ -38,4 +39,5 @@ fn main() {
     growth::measure_levels();
     opening::measure();
     pages::measure();
+    calendar::measure();
 }

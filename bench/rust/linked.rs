@@ -1,6 +1,7 @@
 //! The calls by C's convention, with the signatures that the libraries `nolthewyr` and `probe` have.
 
 use super::Cover;
+use crate::nolthewyr::{Calendar, CalendarQuarterAnswer, CalendarWindowAnswer, Quarter};
 use crate::nolthewyr::{Call, Client, CoverAnswer, Record, Row, RunPageAnswer, Settings, StepCountAnswer};
 use std::slice::{from_raw_parts, from_raw_parts_mut};
 
@@ -80,4 +81,30 @@ pub unsafe extern "C" fn step_count(levels: u64, distance: u64, l: u64, r: u64) 
 
 pub unsafe extern "C" fn unreadable(record: Record, settings: Settings, last: u64) -> bool {
     record.unreadable(&settings, last)
+}
+
+macro_rules! linked_window {
+    ($($name:ident),+) => {
+        $(pub unsafe extern "C" fn $name(
+            hours: *const u64,
+            hour_count: usize,
+            calendar: Calendar,
+            first: Quarter,
+            last: Quarter,
+        ) -> CalendarWindowAnswer {
+            match super::$name(from_raw_parts(hours, hour_count), &calendar, &first, &last) {
+                Ok((left, right)) => CalendarWindowAnswer { number: 0, left, right },
+                Err(cause) => CalendarWindowAnswer { number: cause as u64, ..CalendarWindowAnswer::default() },
+            }
+        })+
+    };
+}
+
+linked_window!(calendar_window, window_by_quarters);
+
+pub unsafe extern "C" fn calendar_quarter(calendar: Calendar, unit: u64) -> CalendarQuarterAnswer {
+    match super::calendar_quarter(&calendar, unit) {
+        Ok(at) => CalendarQuarterAnswer { number: 0, at },
+        Err(cause) => CalendarQuarterAnswer { number: cause as u64, at: Quarter::default() },
+    }
 }

@@ -1,6 +1,7 @@
 //! The lock in plain Rust, the competitor of the Rattle code: the calls over the table, each of which tests all that the documents
 //! say and changes the client where it stands.
 
+mod calendar;
 mod client;
 pub mod linked;
 mod pages;
@@ -12,13 +13,14 @@ mod word;
 
 use crate::nolthewyr::{Call, Client, Settings};
 
+pub use calendar::{calendar_quarter, calendar_window, window_by_quarters};
 pub use pages::{planners_page, run_page};
 pub use tree::{nodes, Cover};
 pub use word::wanted_bits;
 
 const MOST_CLIENTS: usize = 32767;
 
-/// Why a call is refused, by document 01's numbers.
+/// Why a call is refused, by the documents' numbers.
 #[derive(Clone, Copy)]
 pub enum Cause {
     Settings = 1,
@@ -30,6 +32,9 @@ pub enum Cause {
     Window = 7,
     Phase = 8,
     ClearBit = 9,
+    Calendar = 12,
+    LastQuarter = 13,
+    Closed = 14,
 }
 
 fn has_levels(levels: u64) -> bool {
