@@ -26,11 +26,12 @@ const CALLS: usize = 2000;
 const COMPARED: usize = 200_000;
 const UNITS: usize = 1000;
 
+/// The hours, the calendar, and the first and the last quarter.
+type Asked = (Vec<u64>, Calendar, Quarter, Quarter);
+
 fn call(window: Window, (hours, calendar, first, last): &Asked) -> CalendarWindowAnswer {
     unsafe { window(hours.as_ptr(), hours.len(), *calendar, *first, *last) }
 }
-
-type Asked = (Vec<u64>, Calendar, Quarter, Quarter);
 
 /// Random calendars, of which some do not fit.
 fn any_calendar(random: &mut Random) -> Calendar {
@@ -38,7 +39,7 @@ fn any_calendar(random: &mut Random) -> Calendar {
     Calendar { levels: random.below(14), wards: random.below(most), weeks: random.below(most.min(62)) }
 }
 
-/// Open all day, closed all day, or open for some quarters, and now and then no hours at all.
+/// Mostly open all day; else open for some quarters, closed all day, or any two numbers, which may be no hours.
 fn any_pair(random: &mut Random) -> [u64; 2] {
     let opening = random.below(QUARTERS + 1);
     let closing = opening + random.below(QUARTERS + 1 - opening);
