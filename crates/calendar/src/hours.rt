@@ -17,13 +17,14 @@ fn some_pair_wrong(hours: &[u64], pairs: usize) -> bool
     requires { ⌜ 2 * pairs ≤ length (now hours) ⌝ }
     ensures { λ b. ⌜ b ≡ somePairWrong (now (hours .entry)) pairs ⌝ }
 {
-    let mut wrong = false;
     let mut pair = 0;
     while pair < pairs {
-        wrong = wrong | pair_wrong(hours[2 * pair], hours[2 * pair + 1]);
+        if pair_wrong(hours[2 * pair], hours[2 * pair + 1]) {
+            return true;
+        }
         pair = pair + 1;
     }
-    wrong
+    false
 }
 
 pub fn hours_wrong(hours: &[u64], wards: u64) -> bool

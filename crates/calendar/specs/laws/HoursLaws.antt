@@ -2,7 +2,7 @@
 use mathlib.Core.Path.{_≡_, refl, ap}
 use mathlib.Core.Bool.{Bool, true, false, not, _||_}
 use mathlib.Core.List.{List}
-use Prim.Native.Nat.{ℕ, _+_, _*_, _/_, _≤_}
+use Prim.Native.Nat.{ℕ, _+_, _*_, _/_, _≤_, _<_}
 use native.Mathlib.Omega.{arith}
 use native.Mathlib.Numerals.{add-one}
 use borrow.Author.Tests.{ltb-false, le-ltb, eqb-true, eq-eqb, ne-eqb, not-false}
@@ -10,7 +10,7 @@ use lib.Dec.{eqb, ltb}
 use lib.ListN.{length, getD}
 use Rattle.base.specs.laws.TestLaws.{both-false, true-first, next-test}
 use Rattle.calendar.specs.rules.Hours.{opening, closing, someBelow, pairWrong, hoursWrong}
-use Rattle.calendar.specs.laws.SomeBelow.{fail-together, none-of}
+use Rattle.calendar.specs.laws.SomeBelow.{some-below, fail-together, none-of}
 
 -- one of the first pairs is wrong
 unfoldable pub somePairWrong : List ℕ → ℕ → Bool
@@ -29,14 +29,19 @@ pair-tested opens closes =
     let t = both-false (ltb 96 opens || ltb 96 closes) (ltb closes opens) e in
     none-of (ltb 96 closes) (ltb closes opens) (both-false (ltb 96 opens) (ltb 96 closes) (t .0) .1) (t .1))
 
-pub no-pairs : (hours : List ℕ) → false ≡ somePairWrong hours 0
+-- none of no pairs is wrong, and a right one leaves it so
+pub no-pairs : (hours : List ℕ) → somePairWrong hours 0 ≡ false
 unfolding somePairWrong someBelow
 no-pairs hours = refl
 
-pub next-pair : (hours : List ℕ) (pair : ℕ) (wrong next : Bool) → wrong ≡ somePairWrong hours pair
-    → next ≡ pairWrong (getD hours (2 * pair) 0) (getD hours (2 * pair + 1) 0) → (wrong || next) ≡ somePairWrong hours (pair + 1)
+pub right-pair : (hours : List ℕ) (pair : ℕ) → somePairWrong hours pair ≡ false → pairWrong (getD hours (2 * pair) 0) (getD hours (2 * pair + 1) 0) ≡ false
+    → somePairWrong hours (pair + 1) ≡ false
 unfolding somePairWrong someBelow opening closing
-next-pair hours pair wrong next e f = rw (add-one pair, e, f)
+right-pair hours pair e f = rw (add-one pair) (none-of _ _ e f)
+
+pub wrong-pair : (hours : List ℕ) (pair pairs : ℕ) → pair < pairs → pairWrong (getD hours (2 * pair) 0) (getD hours (2 * pair + 1) 0) ≡ true → somePairWrong hours pairs ≡ true
+unfolding somePairWrong opening closing
+wrong-pair hours pair pairs h e = some-below pairs _ pair h e
 
 module _ (wards : ℕ) (hours : List ℕ) where
   pub other-length : (length hours ≡ 14 * wards → ⊥) → true ≡ hoursWrong wards hours

@@ -4,7 +4,7 @@ use mathlib.Core.Bool.{Bool, true, false, _||_}
 use Prim.Native.Nat.{ℕ, zero, suc, _<_}
 use native.Mathlib.Decide.{ℕ-discrete}
 use native.Mathlib.Omega.{arith}
-use Rattle.base.specs.laws.TestLaws.{both-false}
+use Rattle.base.specs.laws.TestLaws.{both-false, true-first, true-later}
 use Rattle.calendar.specs.rules.Hours.{someBelow}
 
 -- it passes at none
@@ -23,6 +23,16 @@ pub all-fail : (n : ℕ) (test : ℕ → Bool) → ((i : ℕ) → i < n → test
 unfolding someBelow
 all-fail zero test f = refl
 all-fail (suc n) test f = rw (all-fail n test (λ i h. f i (omega arith)), f n (omega arith))
+
+-- it passes at one
+pub some-below : (n : ℕ) (test : ℕ → Bool) (i : ℕ) → i < n → test i ≡ true → someBelow n test ≡ true
+unfolding someBelow
+some-below zero test i h e = absurd (omega arith)
+some-below (suc n) test i h e =
+    elim (ℕ-discrete i n) [
+      | yes q ↦ sym (true-later (someBelow n test) (test n) (sym e ∙ ap test q))
+      | no d ↦ sym (true-first (someBelow n test) (test n) (some-below n test i (omega arith) e))
+    ]
 
 -- two tests are equal where each fails with the other
 pub fail-together : (a b : Bool) → (a ≡ false → b ≡ false) → (b ≡ false → a ≡ false) → a ≡ b

@@ -1,17 +1,18 @@
--- `calendar::hours::some_pair_wrong` meets its contract: the invariant has what is found of the first pairs. Assumes nothing.
-use mathlib.Core.Path.{_≡_, ap, _∙_}
+-- `calendar::hours::some_pair_wrong` meets its contract: the invariant says that none of the first pairs is wrong. Assumes nothing.
+use mathlib.Core.Path.{_≡_, sym, ap, _∙_}
+use mathlib.Core.Bool.{false}
 use Prim.Native.Nat.{_-_, _≤_}
 use native.Mathlib.Omega.{arith}
 use borrow.Author.Needs.{needs}
-use Rattle.calendar.specs.laws.HoursLaws.{somePairWrong, no-pairs, next-pair}
+use Rattle.calendar.specs.laws.HoursLaws.{somePairWrong, no-pairs, right-pair, wrong-pair}
 use Rattle.calendar.proofs.hours.some_pair_wrong.Statement.{statement}
 use Rattle.calendar.proofs.hours.some_pair_wrong.Tie as tie
 
 abbrev Inv-loop : tie.InvT-loop
-Inv-loop hours pairs wrong₀ pair₀ wrong pair = (wrong ≡ somePairWrong hours pair) × (pair ≤ pairs)
+Inv-loop hours pairs pair₀ pair = (somePairWrong hours pair ≡ false) × (pair ≤ pairs)
 
 abbrev μ-loop : tie.MeasureT-loop
-μ-loop hours pairs wrong₀ pair₀ wrong pair = pairs - pair
+μ-loop hours pairs pair₀ pair = pairs - pair
 
 loop-holds : tie.Need-loop-holds Inv-loop μ-loop
 loop-holds c = (no-pairs (c .before .args .hours .now), omega arith)
@@ -40,6 +41,12 @@ shared-slice-read-pair-wrong-2 c = search needs
 pair-wrong-requires : tie.Need-pair-wrong-requires Inv-loop μ-loop
 pair-wrong-requires c κs = search needs
 
+returns : tie.Need-returns Inv-loop μ-loop
+returns c =
+    let s = c .before .before .before .before .before in
+    let a = s .before .before .args in
+    sym (wrong-pair (a .hours .now) (s .loop .pair) (a .pairs) (omega arith) (sym (c .before .pair-wrong .ensures) ∙ c .if1 .taken))
+
 add-pair : tie.Need-add-pair Inv-loop μ-loop
 add-pair c = search needs
 
@@ -48,14 +55,14 @@ loop-less c = search needs
 
 loop-again : tie.Need-loop-again Inv-loop μ-loop
 loop-again c =
-    let s = c .before .before .before .before in
-    (next-pair (s .before .before .args .hours .now) (s .loop .pair) (s .loop .wrong) (c .pair-wrong .result) (s .loop .inv .0) (c .pair-wrong .ensures), omega arith)
+    let s = c .before .before .before .before .before in
+    (right-pair (s .before .before .args .hours .now) (s .loop .pair) (s .loop .inv .0) (sym (c .before .pair-wrong .ensures) ∙ c .if1 .left), omega arith)
 
-returns : tie.Need-returns Inv-loop μ-loop
-returns c =
+returns-2 : tie.Need-returns-2 Inv-loop μ-loop
+returns-2 c =
     let a = c .before .before .before .args in
     let all : c .before .loop .pair ≡ a .pairs = omega (arith, c .before .loop .inv .1, c .loop-test .left) in
-    c .before .loop .inv .0 ∙ ap (somePairWrong (a .hours .now)) all
+    sym (sym (ap (somePairWrong (a .hours .now)) all) ∙ c .before .loop .inv .0)
 
 pub some-pair-wrong-spec : {M : Type 1} → statement M
 some-pair-wrong-spec =
@@ -72,7 +79,8 @@ some-pair-wrong-spec =
     mul-pair-wrong-4
     shared-slice-read-pair-wrong-2
     pair-wrong-requires
+    returns
     add-pair
     loop-less
     loop-again
-    returns)
+    returns-2)
