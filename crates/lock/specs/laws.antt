@@ -19,6 +19,7 @@ pub mod PromptLaws
 pub mod ReadableLaws
 pub mod Ready
 pub mod ReturnLaws
+pub mod Rows
 pub mod SettledLaws
 pub mod ShortPatience
 pub mod StepLaws

@@ -1,7 +1,8 @@
 // The work of a step's phase: the node that it touches, and a match on the phase number that picks what it does there.
 ghost use mathlib.Core.Path.{_≡_};
 ghost use Prim.Native.Nat.{_≤_, _<_};
-ghost use Rattle.lock.specs.rules.Steps.{touchedIn, ownTouched, ownMoved, claimPiece};
+ghost use Rattle.lock.specs.rules.Steps.{touchedIn, ownTouched};
+ghost use Rattle.lock.specs.laws.Rows.{ownMoved, claimPiece};
 ghost use Rattle.lock.specs.rules.Records.{returning};
 ghost use Rattle.lock.specs.laws.Active.{Settled};
 ghost use Rattle.lock.specs.laws.Placed.{Placed, Sound};

@@ -4,7 +4,7 @@ use mathlib.Core.Path.{_≡_, sym, ap, ap₂, _∙_, subst}
 use mathlib.Core.Bool.{Bool}
 use mathlib.Core.List.{List, [], _∷_}
 use Prim.Native.Nat.{ℕ, suc, _+_, _-_, _*_, _/_, _%_, _^_, _≤_, _<_}
-use native.Mathlib.Nat.{mod-lt, mod-eq-of-lt, lt-of-lt-of-le, le-of-eq, add-mod, pow-suc}
+use native.Mathlib.Nat.{mod-lt, mod-eq-of-lt, lt-of-lt-of-le, le-of-eq, add-mod, add-comm, pow-suc}
 use native.Mathlib.Numerals.{one-add}
 use native.Mathlib.Omega.{arith}
 use lib.Pow.{pow-pos, pow-mono, split, high, low, shr-lt, mod-pow-add, ones-lt, add-lt-pow}
@@ -12,6 +12,7 @@ use lib.Bits.{bitAnd, bitXor, and-mask, and-block, xor-block, and-zero-r, xor-ze
 use lib.Dec.{T, eqb, eqb→eq}
 use Rattle.base.specs.laws.Every.{every, every-at}
 use Rattle.word.specs.rules.Word.{addFields}
+use Rattle.word.specs.laws.AddFields.{sum}
 
 -- the top bit of each field, and the bits below it; a field has at least one bit, and j is its width less one
 unfoldable pub tops : List ℕ → ℕ
@@ -73,10 +74,13 @@ module _ (j x y : ℕ) (hx : x < 2 ^ suc j) (hy : y < 2 ^ suc j) where
       gather p q a b c s t e = omega arith
 
 -- all of them
-pub fields-at-once : (js : List ℕ) (d w : ℕ) → bitXor (bitAnd w (lows js) + bitAnd d (lows js)) (bitAnd (bitXor w d) (tops js)) ≡ addFields (widths js) d w
+pub fields-at-once : (js : List ℕ) (d w : ℕ) → w < 2 ^ sum (widths js) → bitXor (bitAnd w (lows js) + bitAnd d (lows js)) (bitAnd (bitXor w d) (tops js)) ≡ addFields (widths js) d w
 unfolding tops lows widths addFields
-fields-at-once [] d w = ap₂ bitXor (ap₂ (λ (m n : ℕ). m + n) (and-zero-r w) (and-zero-r d)) (and-zero-r (bitXor w d))
-fields-at-once (j ∷ js) d w =
+fields-at-once [] d w h = ap₂ bitXor (ap₂ (λ (m n : ℕ). m + n) (and-zero-r w) (and-zero-r d)) (and-zero-r (bitXor w d)) ∙ none-above w h
+  where
+    none-above : (w : ℕ) → w < 2 ^ 0 → 0 ≡ w
+    none-above w h = omega arith
+fields-at-once (j ∷ js) d w h =
     let k : ℕ = suc j in
     let x : ℕ = w % 2 ^ k in
     let y : ℕ = d % 2 ^ k in
@@ -101,7 +105,7 @@ fields-at-once (j ∷ js) d w =
     ap₂ bitXor sums high-bits
     ∙ xor-block k (a + b) (bitAnd (bitXor w-above d-above) (tops js)) (x % 2 ^ j + y % 2 ^ j) (bitAnd (bitXor x y) (2 ^ j))
     (add-lt-pow j (mod-lt x (pow-pos j)) (mod-lt y (pow-pos j))) (and-lt k (bitXor x y) (2 ^ j) (xor-lt k x y hx hy) ht)
-    ∙ ap₂ (λ (m n : ℕ). m * 2 ^ k + n) (fields-at-once js d-above w-above) (one-field j x y hx hy ∙ sym (add-mod w d (2 ^ k)))
+    ∙ ap₂ (λ (m n : ℕ). m * 2 ^ k + n) (fields-at-once js d-above w-above (shr-lt (sum (widths js)) k (subst (λ (n : ℕ). w < 2 ^ n) (add-comm k (sum (widths js))) h))) (one-field j x y hx hy ∙ sym (add-mod w d (2 ^ k)))
   where
     under-double : (p : ℕ) → 0 < p → p < p * 2
     under-double p h = omega arith

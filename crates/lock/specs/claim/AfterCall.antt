@@ -12,7 +12,8 @@ use Rattle.lock.specs.declared.Moved.{Moved}
 use Rattle.lock.specs.declared.Record.{Record}
 use Rattle.lock.specs.declared.Settings.{Settings}
 use Rattle.lock.specs.rules.Records.{Phase, idle, ticket, turn, climb, blocked, claim, notify, wait, check, held, returning, unknown, phaseOf, wordAt, clientWith, idleClient}
-use Rattle.lock.specs.rules.Steps.{begin, firstNoted, taken, ticketTaken, turnAwaited, goUp, climbed, unblocked, bitsClaimed, occClaimed, allNotified, noticeGiven, waited, checkPassed, pieceReturned, wordReturned, turnReturned, claimPiece, returnBits, returnInner, giveBack, movedIn, outOfPatience, touched, moved}
+use Rattle.lock.specs.rules.Steps.{begin, firstNoted, taken, ticketTaken, turnAwaited, goUp, climbed, unblocked, bitsClaimed, occClaimed, allNotified, noticeGiven, waited, checkPassed, pieceReturned, wordReturned, turnReturned, touched, moved}
+use Rattle.lock.specs.laws.Rows.{claimPiece, returnBits, returnInner, giveBack, movedIn, on-moved}
 use Rattle.lock.specs.rules.Calls.{requested, released, cancelled}
 use Rattle.lock.specs.rules.Table.{State, Call, request, step, release, cancel, clientOf, clientAt, recordAt, clockAt, numberOf, after, call}
 use Rattle.lock.specs.laws.Accepted.{accepted}
@@ -131,4 +132,4 @@ module _ (l q : ℕ) where
 
     -- or patience has run out
     pub edges-stepped : (r : Record) (w t : ℕ) → HasEdges r → EdgesOrIdle (moved s r w t .next)
-    edges-stepped r w t e = on-choose (λ (x : Moved). EdgesOrIdle (x .next)) (outOfPatience s r t) _ _ (λ _. inr e) (λ _. edges-moved r w t (phaseOf (r .phase)) e)
+    edges-stepped r w t e = on-moved s r w (λ (x : Moved). EdgesOrIdle (x .next)) t (inr e) (edges-moved r w t (phaseOf (r .phase)) e)

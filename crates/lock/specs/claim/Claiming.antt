@@ -23,7 +23,8 @@ use Rattle.lock.specs.declared.Moved.{Moved}
 use Rattle.lock.specs.declared.Record.{Record}
 use Rattle.lock.specs.declared.Settings.{Settings}
 use Rattle.lock.specs.rules.Records.{pieces, pieceAt, currentPiece, isLeaf, isRoot, toPhase, withGrip, withT0}
-use Rattle.lock.specs.rules.Steps.{bitsClaimed, occClaimed, wanted, leaves, claimPiece}
+use Rattle.lock.specs.rules.Steps.{bitsClaimed, occClaimed, wanted}
+use Rattle.lock.specs.laws.Rows.{leaves, claimPiece}
 use Rattle.lock.specs.laws.Active.{Settled}
 use Rattle.lock.specs.laws.Placed.{widen}
 use Rattle.lock.specs.laws.ActiveLaws.{below-root, notified}

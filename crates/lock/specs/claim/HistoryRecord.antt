@@ -11,7 +11,8 @@ use Rattle.lock.specs.declared.Client.{Client}
 use Rattle.lock.specs.declared.Record.{Record}
 use Rattle.lock.specs.declared.Settings.{Settings}
 use Rattle.lock.specs.rules.Records.{wordAt, idleClient}
-use Rattle.lock.specs.rules.Steps.{touched, movedIn}
+use Rattle.lock.specs.rules.Steps.{touched}
+use Rattle.lock.specs.laws.Rows.{movedIn}
 use Rattle.lock.specs.rules.Calls.{requested, released, cancelled}
 use Rattle.lock.specs.rules.Table.{State, Call, request, step, release, cancel, clientOf, clientAt, recordAt, numberOf, call}
 use Rattle.lock.specs.laws.Phases.{at-idle, at-held}

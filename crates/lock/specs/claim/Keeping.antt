@@ -9,11 +9,13 @@ use lib.Dec.{eqb, eqb→eq}
 use lib.ListN.{length}
 use Rattle.base.specs.rules.Choice.{choose}
 use Rattle.base.specs.laws.ChoiceLaws.{on-choose}
+use Rattle.lock.specs.declared.Moved.{Moved}
 use Rattle.lock.specs.declared.Record.{Record}
 use Rattle.lock.specs.declared.Settings.{Settings}
 use Rattle.lock.specs.rules.Records.{Phase, phaseOf, wordAt, written, sentBack}
 use Rattle.lock.specs.laws.Phases.{on-phase}
-use Rattle.lock.specs.rules.Steps.{touchedIn, movedIn, leaves, ownTouched, ownMoved, outOfPatience, touched, moved}
+use Rattle.lock.specs.rules.Steps.{touchedIn, ownTouched, outOfPatience, touched, moved}
+use Rattle.lock.specs.laws.Rows.{movedIn, leaves, ownMoved, moved-chosen}
 use Rattle.lock.specs.rules.Calls.{requested, released, cancelled}
 use Rattle.lock.specs.rules.Table.{State, Call, request, step, release, cancel, clientOf, recordAt, clockAt, withClient, numberOf, after, call}
 use Rattle.lock.specs.rules.History.{run}
@@ -99,10 +101,13 @@ module _ (s : Settings) (st : State) (inv : Invariant s (partsOf st)) (c : ℕ) 
 
     pub step-keeps : let w = wordAt (st .words) (touched s r t) in moved s r w t .number ≡ 0 → Keeps s rs r (touched s r t) w (moved s r w t .word) (moved s r w t .next) t
     step-keeps =
-        step-by (outOfPatience s r t)
+        let x = touched s r t in
+        let w = wordAt (st .words) x in
+        subst (λ (m : Moved). m .number ≡ 0 → Keeps s rs r x w (m .word) (m .next) t) (sym (moved-chosen s r w t))
+        (step-by (outOfPatience s r t)
         (λ e. let v = out-of-patience s r t e in
         let rd = fit-ready s r t (fit-later s r last (inv .fit c) t later) (inv .settled) (λ z. omega (arith, v .begun)) in
-        out-of-patience-keeps s rs r t (inv .settled) rd (λ z. omega (arith, v .untaken)) (wordAt (st .words) 0) (v .later))
+        out-of-patience-keeps s rs r t (inv .settled) rd (λ z. omega (arith, v .untaken)) (wordAt (st .words) 0) (v .later)))
 
   -- what a call on node x leaves in the table
   after-keeps : c < length (st .clients) → (x v t : ℕ) (q : Record) → Keeps s rs r x (wordAt (st .words) x) v q t → Invariant s (partsOf (withClient st (written (st .words) x v) c t q))

@@ -11,7 +11,8 @@ use Rattle.base.specs.laws.ChoiceLaws.{choose-eq, choose-ne, by-eq}
 use Rattle.lock.specs.declared.Record.{Record}
 use Rattle.lock.specs.declared.Settings.{Settings}
 use Rattle.lock.specs.rules.Records.{phaseOf, pieces, wordAt}
-use Rattle.lock.specs.rules.Steps.{touchedIn, movedIn, moved}
+use Rattle.lock.specs.rules.Steps.{touchedIn, moved}
+use Rattle.lock.specs.laws.Rows.{movedIn}
 use Rattle.lock.specs.rules.Calls.{clientsOutside, settingsOutside}
 use Rattle.lock.specs.rules.Table.{State, step, clientOf, recordAt, clockAt, numberOf, after, call}
 use Rattle.lock.specs.rules.History.{run, events}

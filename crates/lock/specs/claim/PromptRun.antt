@@ -4,17 +4,18 @@ use mathlib.Core.Path.{_≡_, refl, sym, ap, subst, _∙_}
 use mathlib.Core.Logic.{_≢_}
 use mathlib.Core.Bool.{not}
 use mathlib.Core.List.{List, [], _∷_, _++_}
-use Prim.Native.Nat.{ℕ, zero, suc, _+_, _≤_, _<_}
+use Prim.Native.Nat.{ℕ, zero, suc, _+_, _≤_}
 use native.Mathlib.Omega.{arith}
 use borrow.Author.Tests.{eq-eqb, le-ltb, lt-leb}
-use lib.ListN.{length, getD}
+use lib.ListN.{length}
 use Rattle.base.specs.laws.ChoiceLaws.{on-choose, choose-eq, choose-ne, by-eq}
-use Rattle.tree.specs.rules.Tree.{level, wordCount}
+use Rattle.tree.specs.rules.Tree.{wordCount}
 use Rattle.lock.specs.declared.Moved.{Moved}
 use Rattle.lock.specs.declared.Record.{Record}
 use Rattle.lock.specs.declared.Settings.{Settings}
-use Rattle.lock.specs.rules.Records.{Phase, phaseOf, pieces, pieceAt, wordAt}
-use Rattle.lock.specs.rules.Steps.{claimPiece, movedIn, outOfPatience, touched, moved}
+use Rattle.lock.specs.rules.Records.{Phase, pieces, pieceAt, wordAt}
+use Rattle.lock.specs.rules.Steps.{touched, moved}
+use Rattle.lock.specs.laws.Rows.{claimPiece, movedIn, on-moved}
 use Rattle.lock.specs.rules.Calls.{treeTests, clientTests, stepTests}
 use Rattle.lock.specs.rules.Table.{State, step, clientOf, clientAt, recordAt, clockAt, ownTests, numberOf, call}
 use Rattle.lock.specs.rules.History.{events}
@@ -32,8 +33,8 @@ use Rattle.lock.specs.claim.OnItsWay.{OnItsWay, way-fit, way-ready, adva
 moved-number : (s : Settings) (r : Record) (w t : ℕ) → r .phase ≢ 10 → moved s r w t .number ≡ 0
 unfolding movedIn claimPiece
 moved-number s r w t d =
-    on-choose (λ (m : Moved). m .number ≡ 0) (outOfPatience s r t) _ _ (λ _. refl)
-    (λ _. on-phase (r .phase) (λ (p : Phase). movedIn s r w t p .number ≡ 0)
+    on-moved s r w (λ (m : Moved). m .number ≡ 0) t refl
+    (on-phase (r .phase) (λ (p : Phase). movedIn s r w t p .number ≡ 0)
     (λ _. refl) (λ _. refl) (λ _. refl) (λ _. refl) (λ _. refl) (λ _. on-choose (λ (m : Moved). m .number ≡ 0) _ _ _ (λ _. refl) (λ _. refl)) (λ _. refl) (λ _. refl) (λ _. refl)
     (λ _. refl) (λ e. absurd (d e)) (λ _. refl))
 

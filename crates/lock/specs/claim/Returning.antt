@@ -17,7 +17,8 @@ use Rattle.lock.specs.declared.Moved.{Moved}
 use Rattle.lock.specs.declared.Record.{Record}
 use Rattle.lock.specs.declared.Settings.{Settings}
 use Rattle.lock.specs.rules.Records.{returning, pieces, pieceAt, currentPiece, givenPiece, isLeaf, gripOf, noticesOf, withGiving, withGrip, withPlace, idleWith}
-use Rattle.lock.specs.rules.Steps.{touchedIn, wordReturned, pieceReturned, turnReturned, wanted, leaves, returnBits, returnInner, giveBack}
+use Rattle.lock.specs.rules.Steps.{touchedIn, wordReturned, pieceReturned, turnReturned, wanted}
+use Rattle.lock.specs.laws.Rows.{leaves, returnBits, returnInner, giveBack}
 use Rattle.lock.specs.laws.Active.{Settled}
 use Rattle.lock.specs.laws.Placed.{placed, given-notices}
 use Rattle.lock.specs.laws.Pieces.{grip-before, grip-current, grip-after}

@@ -10,7 +10,7 @@ use lib.ListN.{take, drop, replicate}
 use Rattle.base.specs.laws.Every.{both}
 use Rattle.base.specs.rules.Choice.{choose}
 use Rattle.base.specs.laws.Sum.{getD-fresh}
-use Rattle.word.specs.rules.Word.{field, putField, addField, matches, replaced, maskedSwap, leafBits, wantedBits, takeBits, giveBits, returnOcc}
+use Rattle.word.specs.rules.Word.{field, matches, replaced, maskedSwap, leafBits, wantedBits, addFields}
 use Rattle.tree.specs.rules.Tree.{climb, leftmost, first, level, levelWithin, size, left, units, holder, wordCount}
 use Rattle.tree.specs.rules.Lists.{upward, ancestors, ancestor, notifies, notifiedFrom, notifyLevels, notifyList, row, descendants, nearest, checkList}
 use Rattle.cover.specs.rules.Cover.{part, over, total, rank}
@@ -18,7 +18,7 @@ use Rattle.cover.specs.rules.Search.{before, lesser, behind, leastOf, rest, sea
 use Rattle.cover.specs.rules.Answer.{levelsOutside, windowOutside}
 use Rattle.lock.specs.rules.Records.{phaseOf, pieces, pieceAt, isLeaf, gripOf, noticesOf, wordAt, written, idleWith, clientWith}
 use Rattle.lock.specs.rules.Unreadable.{numberTooLarge, idleFilled, notCovered, noCurrent, ticketTooLarge, fieldsWrong, listLength, placePast, noticesWrong, timeAhead, phaseElsewhere, heldEarly, outcomeWrong, lacksGrip, givingWrong, outOfPatienceFirst, takenFirst, unreadable}
-use Rattle.lock.specs.rules.Steps.{touchedIn, startPhase, begin, firstNoted, taken, ticketTaken, turnAwaited, goUp, climbed, unblocked, bitsClaimed, occClaimed, late, allNotified, noticeGiven, waited, checkPassed, pieceReturned, wordReturned, turnReturned, claimPiece, returnBits, returnInner, giveBack, movedIn, outOfPatience}
+use Rattle.lock.specs.rules.Steps.{touchedIn, startPhase, begin, firstNoted, taken, ticketTaken, turnAwaited, goUp, climbed, unblocked, bitsClaimed, occClaimed, late, allNotified, noticeGiven, waited, checkPassed, pieceReturned, wordReturned, turnReturned, outOfPatience, applied, claimAccess, ownWordAccess, returnAccess, accessIn, pieceClaimed, bitsReturned, gripReturned, givenBack, completedIn}
 use Rattle.lock.specs.rules.Calls.{firstCause, settingsOutside, treeTests, clientsOutside, clientTests, requestTests, stepTests, releaseTests, cancelTests, requested, released, cancelled}
 use Rattle.lock.specs.rules.Table.{State, Call, request, step, release, clientOf, clientAt, ownTests, numberOf, after, call, openingNumber, opened, opening}
 use Rattle.lock.specs.declared.Settings.{Settings}
@@ -66,7 +66,7 @@ words-returned = (2 * 65536 + 2) ∷ (140737488355328 + 4294967296) ∷ (65536 +
 
 pub computed : (opening settings lent .number ≡ 0) × (events settings fresh holding ≡ events-holding)
     × (events settings fresh returned ≡ events-returned) × (run settings fresh returned .words ≡ words-returned)
-unfolding run events call numberOf after ownTests clientAt clientOf opening openingNumber opened firstCause settingsOutside treeTests clientsOutside clientTests requestTests stepTests releaseTests cancelTests requested released cancelled touchedIn startPhase begin firstNoted taken ticketTaken turnAwaited goUp climbed unblocked bitsClaimed occClaimed late allNotified noticeGiven waited checkPassed pieceReturned wordReturned turnReturned claimPiece returnBits returnInner giveBack movedIn numberTooLarge idleFilled notCovered noCurrent ticketTooLarge fieldsWrong listLength placePast noticesWrong timeAhead phaseElsewhere heldEarly outcomeWrong lacksGrip givingWrong outOfPatienceFirst takenFirst unreadable phaseOf pieces pieceAt isLeaf gripOf noticesOf wordAt written levelsOutside windowOutside lesser behind leastOf rest search found leastCover before part over total rank upward ancestors ancestor notifies notifiedFrom notifyLevels notifyList row descendants nearest checkList climb leftmost first level levelWithin size left units holder wordCount field putField addField matches replaced maskedSwap leafBits wantedBits takeBits giveBits returnOcc choose outOfPatience
+unfolding run events call numberOf after ownTests clientAt clientOf opening openingNumber opened firstCause settingsOutside treeTests clientsOutside clientTests requestTests stepTests releaseTests cancelTests requested released cancelled touchedIn startPhase begin firstNoted taken ticketTaken turnAwaited goUp climbed unblocked bitsClaimed occClaimed late allNotified noticeGiven waited checkPassed pieceReturned wordReturned turnReturned applied claimAccess ownWordAccess returnAccess accessIn pieceClaimed bitsReturned gripReturned givenBack completedIn numberTooLarge idleFilled notCovered noCurrent ticketTooLarge fieldsWrong listLength placePast noticesWrong timeAhead phaseElsewhere heldEarly outcomeWrong lacksGrip givingWrong outOfPatienceFirst takenFirst unreadable phaseOf pieces pieceAt isLeaf gripOf noticesOf wordAt written levelsOutside windowOutside lesser behind leastOf rest search found leastCover before part over total rank upward ancestors ancestor notifies notifiedFrom notifyLevels notifyList row descendants nearest checkList climb leftmost first level levelWithin size left units holder wordCount field addFields matches replaced maskedSwap leafBits wantedBits choose outOfPatience
 computed = (refl, refl, refl, refl)
 
 -- ---- both hold

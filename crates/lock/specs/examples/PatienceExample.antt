@@ -10,7 +10,7 @@ use lib.Dec.{leb, ltb}
 use lib.ListN.{getD, set, take, replicate}
 use Rattle.base.specs.rules.Choice.{choose}
 use Rattle.base.specs.laws.ChoiceLaws.{choose-eq}
-use Rattle.word.specs.rules.Word.{field, putField, addField, matches, replaced, maskedSwap, leafBits, wantedBits, takeBits, giveBits, returnOcc}
+use Rattle.word.specs.rules.Word.{field, matches, replaced, maskedSwap, leafBits, wantedBits, addFields}
 use Rattle.tree.specs.rules.Tree.{climb, leftmost, first, level, levelWithin, size, left, units, holder, wordCount}
 use Rattle.tree.specs.rules.Lists.{upward, ancestors, ancestor, notifies, notifiedFrom, notifyLevels, notifyList, row, descendants, nearest, checkList}
 use Rattle.cover.specs.rules.Cover.{part, over, total, rank}
@@ -20,7 +20,8 @@ use Rattle.lock.specs.declared.Record.{Record}
 use Rattle.lock.specs.declared.Settings.{Settings}
 use Rattle.lock.specs.rules.Records.{phaseOf, pieces, pieceAt, isLeaf, gripOf, noticesOf, wordAt, written, sentBack, idleWith, clientWith, idleClient}
 use Rattle.lock.specs.rules.Unreadable.{differ, numberTooLarge, idleFilled, notCovered, noCurrent, ticketTooLarge, fieldsWrong, listLength, placePast, noticesWrong, timeAhead, phaseElsewhere, heldEarly, outcomeWrong, lacksGrip, givingWrong, outOfPatienceFirst, takenFirst, unreadable}
-use Rattle.lock.specs.rules.Steps.{touchedIn, startPhase, begin, firstNoted, taken, ticketTaken, turnAwaited, goUp, climbed, unblocked, bitsClaimed, occClaimed, late, allNotified, noticeGiven, waited, checkPassed, pieceReturned, wordReturned, turnReturned, claimPiece, returnBits, returnInner, giveBack, movedIn, leaves, ownTouched, ownMoved, outOfPatience, touched, moved}
+use Rattle.lock.specs.rules.Steps.{touchedIn, startPhase, begin, firstNoted, taken, ticketTaken, turnAwaited, goUp, climbed, unblocked, bitsClaimed, occClaimed, late, allNotified, noticeGiven, waited, checkPassed, pieceReturned, wordReturned, turnReturned, ownTouched, outOfPatience, touched, moved, applied, claimAccess, ownWordAccess, returnAccess, accessIn, pieceClaimed, bitsReturned, gripReturned, givenBack, completedIn}
+use Rattle.lock.specs.laws.Rows.{movedIn, leaves, ownMoved}
 use Rattle.lock.specs.rules.Calls.{firstCause, settingsOutside, treeTests, clientsOutside, clientTests, requestTests, stepTests, releaseTests, cancelTests, requested, released, cancelled}
 use Rattle.lock.specs.rules.History.{run}
 use Rattle.lock.specs.laws.CallLaws.{cause-skip, tree-passed}
@@ -133,7 +134,7 @@ Stays r t = let w = wordAt (waiting 0 0 .words) (ownTouched settings r) in ownMo
 
 computed : (t : ℕ) → (run settings fresh deadlock ≡ waiting 3 7) × (unreadable settings blocked-0 3 ≡ false) × (unreadable settings checking-1 7 ≡ false) × Stays blocked-0 t × Stays checking-1 t
     × (log settings (returning-0 21 7) end ≡ end-lines) × (recordAt (run settings (returning-0 21 7) (take 2 end)) 0 ≡ idleWith 4)
-unfolding log run call numberOf after ownTests clientAt clientOf opening openingNumber opened firstCause settingsOutside treeTests clientsOutside clientTests requestTests stepTests releaseTests cancelTests requested released cancelled touchedIn startPhase begin firstNoted taken ticketTaken turnAwaited goUp climbed unblocked bitsClaimed occClaimed late allNotified noticeGiven waited checkPassed pieceReturned wordReturned turnReturned claimPiece returnBits returnInner giveBack movedIn numberTooLarge idleFilled notCovered noCurrent ticketTooLarge fieldsWrong listLength placePast noticesWrong timeAhead phaseElsewhere heldEarly outcomeWrong lacksGrip givingWrong outOfPatienceFirst takenFirst unreadable phaseOf pieces pieceAt isLeaf gripOf noticesOf wordAt written levelsOutside windowOutside lesser behind leastOf rest search found leastCover before part over total rank upward ancestors ancestor notifies notifiedFrom notifyLevels notifyList row descendants nearest checkList climb leftmost first level levelWithin size left units holder wordCount field putField addField matches replaced maskedSwap leafBits wantedBits takeBits giveBits returnOcc choose outOfPatience
+unfolding log run call numberOf after ownTests clientAt clientOf opening openingNumber opened firstCause settingsOutside treeTests clientsOutside clientTests requestTests stepTests releaseTests cancelTests requested released cancelled touchedIn startPhase begin firstNoted taken ticketTaken turnAwaited goUp climbed unblocked bitsClaimed occClaimed late allNotified noticeGiven waited checkPassed pieceReturned wordReturned turnReturned applied claimAccess ownWordAccess returnAccess accessIn pieceClaimed bitsReturned gripReturned givenBack completedIn movedIn numberTooLarge idleFilled notCovered noCurrent ticketTooLarge fieldsWrong listLength placePast noticesWrong timeAhead phaseElsewhere heldEarly outcomeWrong lacksGrip givingWrong outOfPatienceFirst takenFirst unreadable phaseOf pieces pieceAt isLeaf gripOf noticesOf wordAt written levelsOutside windowOutside lesser behind leastOf rest search found leastCover before part over total rank upward ancestors ancestor notifies notifiedFrom notifyLevels notifyList row descendants nearest checkList climb leftmost first level levelWithin size left units holder wordCount field addFields matches replaced maskedSwap leafBits wantedBits choose outOfPatience
 computed t = (refl, refl, refl, refl, refl, refl, refl)
 
 pub deadlock-reached : run settings fresh deadlock ≡ waiting 3 7

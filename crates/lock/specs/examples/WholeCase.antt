@@ -5,7 +5,7 @@ use mathlib.Core.List.{List, [], _∷_}
 use Prim.Native.Nat.{ℕ}
 use lib.ListN.{getD, replicate}
 use Rattle.base.specs.rules.Choice.{choose}
-use Rattle.word.specs.rules.Word.{field, putField, addField, matches, replaced, maskedSwap, leafBits, wantedBits, takeBits, giveBits, returnOcc}
+use Rattle.word.specs.rules.Word.{field, matches, replaced, maskedSwap, leafBits, wantedBits, addFields}
 use Rattle.tree.specs.rules.Tree.{climb, leftmost, first, level, levelWithin, size, left, units, holder, wordCount}
 use Rattle.tree.specs.rules.Lists.{upward, ancestors, ancestor, notifies, notifiedFrom, notifyLevels, notifyList, row, descendants, nearest, checkList}
 use Rattle.cover.specs.rules.Cover.{part, over, total, rank}
@@ -15,7 +15,7 @@ use Rattle.lock.specs.declared.Record.{Record}
 use Rattle.lock.specs.declared.Settings.{Settings}
 use Rattle.lock.specs.rules.Records.{phaseOf, pieces, pieceAt, isLeaf, gripOf, noticesOf, wordAt, written, idleWith, clientWith}
 use Rattle.lock.specs.rules.Unreadable.{numberTooLarge, idleFilled, notCovered, noCurrent, ticketTooLarge, fieldsWrong, listLength, placePast, noticesWrong, timeAhead, phaseElsewhere, heldEarly, outcomeWrong, lacksGrip, givingWrong, outOfPatienceFirst, takenFirst, unreadable}
-use Rattle.lock.specs.rules.Steps.{touchedIn, startPhase, begin, firstNoted, taken, ticketTaken, turnAwaited, goUp, climbed, unblocked, bitsClaimed, occClaimed, late, allNotified, noticeGiven, waited, checkPassed, pieceReturned, wordReturned, turnReturned, claimPiece, returnBits, returnInner, giveBack, movedIn, outOfPatience}
+use Rattle.lock.specs.rules.Steps.{touchedIn, startPhase, begin, firstNoted, taken, ticketTaken, turnAwaited, goUp, climbed, unblocked, bitsClaimed, occClaimed, late, allNotified, noticeGiven, waited, checkPassed, pieceReturned, wordReturned, turnReturned, outOfPatience, applied, claimAccess, ownWordAccess, returnAccess, accessIn, pieceClaimed, bitsReturned, gripReturned, givenBack, completedIn}
 use Rattle.lock.specs.rules.Calls.{firstCause, settingsOutside, treeTests, clientsOutside, clientTests, requestTests, stepTests, releaseTests, cancelTests, requested, released, cancelled}
 use Rattle.lock.specs.rules.Table.{State, Call, request, step, release, clientOf, clientAt, recordAt, ownTests, numberOf, after, call, openingNumber, opened, opening}
 
@@ -46,5 +46,5 @@ pub whole-case : (log settings (opening settings lent .state) (calls 5) ≡
     ∷ (0 ∷ 7 ∷ 0 ∷ 256 ∷ []) ∷ (0 ∷ 6 ∷ 10 ∷ 20 ∷ []) ∷ (0 ∷ 9 ∷ 10 ∷ 20 ∷ []) ∷ (0 ∷ 8 ∷ 0 ∷ 256 ∷ []) ∷ (0 ∷ 8 ∷ 0 ∷ 256 ∷ [])
     ∷ (0 ∷ 10 ∷ 10 ∷ 20 ∷ []) ∷ (0 ∷ 10 ∷ 10 ∷ 20 ∷ []) ∷ (0 ∷ 0 ∷ 0 ∷ 0 ∷ []) ∷ (0 ∷ 9 ∷ 0 ∷ 256 ∷ []) ∷ [])
     × (getD (log settings (opening settings lent .state) (calls 6)) 7 [] ≡ 0 ∷ 10 ∷ 10 ∷ 20 ∷ [])
-unfolding log call numberOf after ownTests clientAt clientOf opening openingNumber opened firstCause settingsOutside treeTests clientsOutside clientTests requestTests stepTests releaseTests cancelTests requested released cancelled touchedIn startPhase begin firstNoted taken ticketTaken turnAwaited goUp climbed unblocked bitsClaimed occClaimed late allNotified noticeGiven waited checkPassed pieceReturned wordReturned turnReturned claimPiece returnBits returnInner giveBack movedIn numberTooLarge idleFilled notCovered noCurrent ticketTooLarge fieldsWrong listLength placePast noticesWrong timeAhead phaseElsewhere heldEarly outcomeWrong lacksGrip givingWrong outOfPatienceFirst takenFirst unreadable phaseOf pieces pieceAt isLeaf gripOf noticesOf wordAt written levelsOutside windowOutside lesser behind leastOf rest search found leastCover before part over total rank upward ancestors ancestor notifies notifiedFrom notifyLevels notifyList row descendants nearest checkList climb leftmost first level levelWithin size left units holder wordCount field putField addField matches replaced maskedSwap leafBits wantedBits takeBits giveBits returnOcc choose outOfPatience
+unfolding log call numberOf after ownTests clientAt clientOf opening openingNumber opened firstCause settingsOutside treeTests clientsOutside clientTests requestTests stepTests releaseTests cancelTests requested released cancelled touchedIn startPhase begin firstNoted taken ticketTaken turnAwaited goUp climbed unblocked bitsClaimed occClaimed late allNotified noticeGiven waited checkPassed pieceReturned wordReturned turnReturned applied claimAccess ownWordAccess returnAccess accessIn pieceClaimed bitsReturned gripReturned givenBack completedIn numberTooLarge idleFilled notCovered noCurrent ticketTooLarge fieldsWrong listLength placePast noticesWrong timeAhead phaseElsewhere heldEarly outcomeWrong lacksGrip givingWrong outOfPatienceFirst takenFirst unreadable phaseOf pieces pieceAt isLeaf gripOf noticesOf wordAt written levelsOutside windowOutside lesser behind leastOf rest search found leastCover before part over total rank upward ancestors ancestor notifies notifiedFrom notifyLevels notifyList row descendants nearest checkList climb leftmost first level levelWithin size left units holder wordCount field addFields matches replaced maskedSwap leafBits wantedBits choose outOfPatience
 whole-case = (refl, refl)

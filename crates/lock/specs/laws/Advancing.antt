@@ -21,7 +21,8 @@ use Rattle.lock.specs.declared.Moved.{Moved}
 use Rattle.lock.specs.declared.Record.{Record}
 use Rattle.lock.specs.declared.Settings.{Settings}
 use Rattle.lock.specs.rules.Records.{Phase, phaseOf, pieces, pieceAt, currentPiece, isLeaf, toPhase, withGrip, withPlace, withNotices, withT1, withT0, withTaken}
-use Rattle.lock.specs.rules.Steps.{begin, firstNoted, taken, ticketTaken, turnAwaited, goUp, climbed, noticeGiven, waited, late, checkPassed, wanted, claimPiece, movedIn}
+use Rattle.lock.specs.rules.Steps.{begin, firstNoted, taken, ticketTaken, turnAwaited, goUp, climbed, noticeGiven, waited, late, checkPassed, wanted}
+use Rattle.lock.specs.laws.Rows.{claimPiece, movedIn}
 use Rattle.lock.specs.rules.StepCount.{OnTime}
 use Rattle.lock.specs.laws.Active.{Settled}
 use Rattle.lock.specs.laws.Phases.{at-ticket, at-turn, at-climb, at-claim, at-notify, at-wait, at-check, at-held, on-phase}

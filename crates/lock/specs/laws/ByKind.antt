@@ -20,7 +20,8 @@ use Rattle.lock.specs.declared.Moved.{Moved}
 use Rattle.lock.specs.declared.Stepped.{Stepped}
 use Rattle.lock.specs.rules.Records.{wordAt, written, sentBack, clientWith}
 use Rattle.lock.specs.rules.Unreadable.{differ, unreadable}
-use Rattle.lock.specs.rules.Steps.{leaves, ownTouched, ownMoved, outOfPatience, touched, moved}
+use Rattle.lock.specs.rules.Steps.{ownTouched, outOfPatience, touched, moved}
+use Rattle.lock.specs.laws.Rows.{leaves, ownMoved}
 use Rattle.lock.specs.rules.Calls.{Tests, firstCause, treeTests, requestTests, stepTests, releaseTests, cancelTests, requested, released, cancelled, answered, requestNumber, requestAnswer, releaseAnswer, cancelAnswer, stepNumber, stepAnswer, stepWords}
 use Rattle.lock.specs.rules.Table.{Call, request, step, release, cancel, clientOf}
 use Rattle.lock.specs.rules.ByValue.{callOf, answerTo, wordsAfter}

@@ -11,7 +11,8 @@ use Rattle.tree.specs.rules.Lists.{notifyList}
 use Rattle.lock.specs.declared.Record.{Record}
 use Rattle.lock.specs.declared.Settings.{Settings}
 use Rattle.lock.specs.rules.Records.{returning, phaseOf, currentPiece, givenPiece, isLeaf}
-use Rattle.lock.specs.rules.Steps.{touchedIn, movedIn, bitsClaimed, occClaimed, wanted, leaves, claimPiece}
+use Rattle.lock.specs.rules.Steps.{touchedIn, bitsClaimed, occClaimed, wanted}
+use Rattle.lock.specs.laws.Rows.{movedIn, leaves, claimPiece}
 use Rattle.lock.specs.laws.Phases.{on-phase}
 
 module _ (s : Settings) (r : Record) where

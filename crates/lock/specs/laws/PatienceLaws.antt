@@ -14,7 +14,8 @@ use Rattle.base.specs.laws.TestLaws.{both-true, second-false}
 use Rattle.lock.specs.declared.Record.{Record}
 use Rattle.lock.specs.declared.Settings.{Settings}
 use Rattle.lock.specs.rules.Records.{pieces, wordAt, withTaken, sentBack}
-use Rattle.lock.specs.rules.Steps.{firstNoted, leaves, ownTouched, ownMoved, outOfPatience, touched, moved}
+use Rattle.lock.specs.rules.Steps.{firstNoted, ownTouched, outOfPatience, touched, moved}
+use Rattle.lock.specs.laws.Rows.{leaves, ownMoved, moved-row, moved-impatient}
 use Rattle.lock.specs.rules.Unreadable.{nonzero, takenFirst}
 use Rattle.lock.specs.laws.Placed.{Pieced}
 use Rattle.lock.specs.laws.StepLaws.{pieced-kept}
@@ -53,8 +54,7 @@ module _ (s : Settings) (r : Record) (t : ℕ) where
     own-touched = ap (λ (b : Bool). choose b 0 (ownTouched s r)) e
 
     pub own-moved : (w : ℕ) → moved s r w t ≡ ownMoved s r w t
-    unfolding choose
-    own-moved w = ap (λ (b : Bool). choose b (leaves w (sentBack 4 r)) (ownMoved s r w t)) e
+    own-moved w = moved-row s r w t e
 
   module _ (e : outOfPatience s r t ≡ true) where
     pub sent-back-touched : touched s r t ≡ 0
@@ -62,8 +62,7 @@ module _ (s : Settings) (r : Record) (t : ℕ) where
     sent-back-touched = ap (λ (b : Bool). choose b 0 (ownTouched s r)) e
 
     pub sent-back-moved : (w : ℕ) → moved s r w t ≡ leaves w (sentBack 4 r)
-    unfolding choose
-    sent-back-moved w = ap (λ (b : Bool). choose b (leaves w (sentBack 4 r)) (ownMoved s r w t)) e
+    sent-back-moved w = moved-impatient s r w t e
 
 -- where it has not run out, and the work of the phase leaves word and record as they are, so does the step
 pub unmoved : (s : Settings) (r : Record) (words : List ℕ) (t : ℕ) → outOfPatience s r t ≡ false

@@ -16,7 +16,8 @@ use Rattle.lock.specs.declared.Moved.{Moved}
 use Rattle.lock.specs.declared.Record.{Record}
 use Rattle.lock.specs.declared.Settings.{Settings}
 use Rattle.lock.specs.rules.Records.{Phase, phaseOf, pieces, pieceAt, currentPiece, isLeaf, toPhase, withGrip, withT1, withT0, withTaken, clientWith}
-use Rattle.lock.specs.rules.Steps.{startPhase, begin, firstNoted, taken, ticketTaken, turnAwaited, goUp, climbed, unblocked, bitsClaimed, occClaimed, late, allNotified, noticeGiven, waited, checkPassed, claimPiece, movedIn, outOfPatience}
+use Rattle.lock.specs.rules.Steps.{startPhase, begin, firstNoted, taken, ticketTaken, turnAwaited, goUp, climbed, unblocked, bitsClaimed, occClaimed, late, allNotified, noticeGiven, waited, checkPassed, outOfPatience}
+use Rattle.lock.specs.laws.Rows.{claimPiece, movedIn}
 use Rattle.lock.specs.rules.StepCount.{OnTime, nextClock}
 use Rattle.lock.specs.laws.Active.{Settled}
 use Rattle.lock.specs.laws.LateLaws.{in-time-not-late}

@@ -12,7 +12,8 @@ use Rattle.tree.specs.rules.Tree.{level}
 use Rattle.lock.specs.declared.Record.{Record}
 use Rattle.lock.specs.declared.Settings.{Settings}
 use Rattle.lock.specs.rules.Records.{givenPiece, isLeaf, gripOf, noticesOf, withGiving, withGrip, withPlace, idleWith}
-use Rattle.lock.specs.rules.Steps.{pieceReturned, wordReturned, turnReturned, wanted, leaves, returnBits, returnInner, giveBack}
+use Rattle.lock.specs.rules.Steps.{pieceReturned, wordReturned, turnReturned, wanted}
+use Rattle.lock.specs.laws.Rows.{leaves, returnBits, returnInner, giveBack}
 
 module _ (r : Record) where
   plus-one : r .giving + 1 ≡ suc (r .giving)

@@ -15,7 +15,8 @@ use Rattle.lock.specs.declared.Moved.{Moved}
 use Rattle.lock.specs.declared.Record.{Record}
 use Rattle.lock.specs.declared.Settings.{Settings}
 use Rattle.lock.specs.rules.Records.{Phase, phaseOf, pieces, pieceAt, currentPiece, isLeaf, toPhase, toBlocked, withGrip, withT1, withT0, withTaken}
-use Rattle.lock.specs.rules.Steps.{startPhase, begin, firstNoted, taken, ticketTaken, turnAwaited, goUp, climbed, bitsClaimed, occClaimed, allNotified, noticeGiven, waited, checkPassed, claimPiece, movedIn, outOfPatience}
+use Rattle.lock.specs.rules.Steps.{startPhase, begin, firstNoted, taken, ticketTaken, turnAwaited, goUp, climbed, bitsClaimed, occClaimed, allNotified, noticeGiven, waited, checkPassed, outOfPatience}
+use Rattle.lock.specs.laws.Rows.{claimPiece, movedIn}
 use Rattle.lock.specs.rules.StepCount.{OnTime}
 use Rattle.lock.specs.laws.Phases.{on-phase}
 use Rattle.lock.specs.laws.Progress.{Going}

@@ -1,12 +1,12 @@
--- To be believed: document 01, section "Phases", the table: for each phase which node a step touches, what it leaves there, and the next record; and document 02,
+-- To be believed: document 01, section "Phases", the table: for each phase which node a step touches, which operation it makes there, and how the record goes on; and document 02,
 -- requests 2.2 and 2.3: when patience has run out, and what the step does then; when a claim is late.
 -- s are the settings, r the record, w the word found at the touched node, t the step's clock. Assumes nothing.
-use mathlib.Core.Bool.{Bool, not, _&&_}
+use mathlib.Core.Bool.{Bool, not, _&&_, _||_}
 use Prim.Native.Nat.{ℕ, suc, _*_, _-_}
 use lib.Dec.{eqb, leb, ltb}
 use lib.ListN.{length, getD}
 use Rattle.base.specs.rules.Choice.{choose}
-use Rattle.word.specs.rules.Word.{occ, tcnt, tmax, dcnt, dmax, addOcc, addTcnt, addTmax, addDcnt, addDmax, wantedBits, takeBits, giveBits, returnOcc}
+use Rattle.word.specs.rules.Word.{occ, tcnt, tmax, dcnt, dmax, layout, addFields, deltas, matches, maskedSwap, wantedBits}
 use Rattle.tree.specs.rules.Tree.{left}
 use Rattle.tree.specs.rules.Lists.{ancestors, notifyList, checkList}
 use Rattle.lock.specs.declared.Moved.{Moved}
@@ -120,64 +120,104 @@ wordReturned s r = choose (ltb (r .place) (noticesOf s r (r .giving))) (withPlac
 unfoldable pub turnReturned : Record → ℕ → Record
 turnReturned r w = choose (eqb (tcnt w) (r .ticket)) (withGrip 2 r) r
 
--- ---- what a step leaves at the touched node, and the next record
-
-abbrev pub leaves : ℕ → Record → Moved
-leaves w r = record { number = 0; word = w; next = r }
-
 -- the wanted bits of leaf n
 abbrev pub wanted : Settings → Record → ℕ → ℕ
 wanted s r n = wantedBits (left (s .levels) n) (r .left) (r .right)
 
+-- ---- the operation at the touched node, a row of the table each
+
+-- what is done to one word: none, where no word is touched; a read; a masked add of the deltas of the six fields; a masked compare-and-swap
+pub data Access : Type 0 where
+  none read : Access
+  add : (deltas : ℕ) → Access
+  swap : (compared expected swapped value : ℕ) → Access
+
+-- what it leaves of the word found
+unfoldable pub applied : Access → ℕ → ℕ
+applied none w = w
+applied read w = w
+applied (add d) w = addFields layout d w
+applied (swap compared expected swapped value) w = maskedSwap compared expected swapped value w .word
+
 -- "leaf: swap the wanted bits from all 0 to all 1 .. Inner: Occ + 1"
-unfoldable pub claimPiece : Settings → Record → ℕ → ℕ → Moved
-claimPiece s r w t =
-    choose (isLeaf s (currentPiece r))
-    (leaves (takeBits (wanted s r (currentPiece r)) w .word) (bitsClaimed r (takeBits (wanted s r (currentPiece r)) w .done)))
-    (leaves (addOcc 1 w) (occClaimed r t))
+unfoldable pub claimAccess : Settings → Record → Access
+claimAccess s r =
+    let bits = wanted s r (currentPiece r) in
+    choose (isLeaf s (currentPiece r)) (swap bits 0 bits bits) (add (deltas 0 1 0 0 0 0))
 
--- "Leaf bits taken: swap them from all 1 to all 0"; "returning leaf finds a wanted bit clear" is cause 9
-unfoldable pub returnBits : Settings → Record → ℕ → Moved
-returnBits s r w =
-    choose (giveBits (wanted s r (givenPiece r)) w .done)
-    (leaves (giveBits (wanted s r (givenPiece r)) w .word) (wordReturned s r))
-    (record { number = 9; word = w; next = r })
-
--- "Occ set: Occ - 1 and TCnt + 1 in one add. Turn reached, Occ not set: TCnt + 1."
-unfoldable pub returnInner : Settings → Record → ℕ → Moved
-returnInner s r w =
-    choose (eqb (gripOf r (r .giving)) 3) (leaves (returnOcc w) (wordReturned s r))
-    (choose (eqb (gripOf r (r .giving)) 2) (leaves (addTcnt 1 w) (wordReturned s r))
-    (leaves w (turnReturned r w)))
+-- "Leaf bits taken: swap them from all 1 to all 0. Occ set: Occ - 1 and TCnt + 1 in one add. Turn reached, Occ not set: TCnt + 1. .. Grip 1: the step reads". Occ has one bit, so that less 1 is
+-- plus 1
+unfoldable pub ownWordAccess : Settings → Record → Access
+ownWordAccess s r =
+    let bits = wanted s r (givenPiece r) in
+    choose (isLeaf s (givenPiece r)) (swap bits bits bits 0)
+    (choose (eqb (gripOf r (r .giving)) 3) (add (deltas 0 1 1 0 0 0)) (choose (eqb (gripOf r (r .giving)) 2) (add (deltas 0 0 1 0 0 0)) read))
 
 -- the own word at place 0; "Then DCnt + 1 at each ancestor notified, in the order of notifying."
-unfoldable pub giveBack : Settings → Record → ℕ → Moved
-giveBack s r w =
+unfoldable pub returnAccess : Settings → Record → Access
+returnAccess s r = choose (eqb (r .place) 0) (ownWordAccess s r) (add (deltas 0 0 0 0 1 0))
+
+unfoldable pub accessIn : Settings → Record → Phase → Access
+accessIn s r idle = none
+accessIn s r ticket = add (deltas 0 0 0 1 0 0)
+accessIn s r turn = read
+accessIn s r climb = read
+accessIn s r blocked = read
+accessIn s r claim = claimAccess s r
+accessIn s r notify = add (deltas 0 0 0 0 0 1)
+accessIn s r wait = none
+accessIn s r check = read
+accessIn s r held = none
+accessIn s r returning = returnAccess s r
+accessIn s r unknown = none
+
+-- ---- the completion: what becomes of the record when the word found is known, a row of the table each
+
+-- the number, 0 or 9, and the next record
+pub record Completion : Type 0 where
+  pub number : ℕ
+  pub next : Record
+
+abbrev pub goesTo : Record → Completion
+goesTo r = record { number = 0; next = r }
+
+-- a claim: whether the wanted bits of a leaf were all 0; of an inner node the clock is noted
+unfoldable pub pieceClaimed : Settings → Record → ℕ → ℕ → Record
+pieceClaimed s r w t = choose (isLeaf s (currentPiece r)) (bitsClaimed r (matches (wanted s r (currentPiece r)) 0 w)) (occClaimed r t)
+
+-- "returning leaf finds a wanted bit clear" is cause 9
+unfoldable pub bitsReturned : Settings → Record → ℕ → Completion
+bitsReturned s r w =
+    let bits = wanted s r (givenPiece r) in
+    choose (matches bits bits w) (goesTo (wordReturned s r)) (record { number = 9; next = r })
+
+-- Occ or the turn given back; a ticket waits for its turn
+unfoldable pub gripReturned : Settings → Record → ℕ → Record
+gripReturned s r w = choose (eqb (gripOf r (r .giving)) 3 || eqb (gripOf r (r .giving)) 2) (wordReturned s r) (turnReturned r w)
+
+unfoldable pub givenBack : Settings → Record → ℕ → Completion
+givenBack s r w =
     choose (eqb (r .place) 0)
-    (choose (isLeaf s (givenPiece r)) (returnBits s r w) (returnInner s r w))
-    (leaves (addDcnt 1 w) (wordReturned s r))
+    (choose (isLeaf s (givenPiece r)) (bitsReturned s r w) (goesTo (gripReturned s r w)))
+    (goesTo (wordReturned s r))
 
--- the table; a phase that reads leaves the word as it was found
-unfoldable pub movedIn : Settings → Record → ℕ → ℕ → Phase → Moved
-movedIn s r w t idle = leaves w r
-movedIn s r w t ticket = leaves (addTmax 1 w) (ticketTaken r w)
-movedIn s r w t turn = leaves w (turnAwaited r w)
-movedIn s r w t climb = leaves w (climbed r w t)
-movedIn s r w t blocked = leaves w (unblocked r w)
-movedIn s r w t claim = claimPiece s r w t
-movedIn s r w t notify = leaves (addDmax 1 w) (noticeGiven s r t)
-movedIn s r w t wait = leaves w (waited s r t)
-movedIn s r w t check = leaves w (checkPassed s r w t)
-movedIn s r w t held = leaves w r
-movedIn s r w t returning = giveBack s r w
-movedIn s r w t unknown = leaves w r
+unfoldable pub completedIn : Settings → Record → ℕ → ℕ → Phase → Completion
+completedIn s r w t idle = goesTo r
+completedIn s r w t ticket = goesTo (ticketTaken r w)
+completedIn s r w t turn = goesTo (turnAwaited r w)
+completedIn s r w t climb = goesTo (climbed r w t)
+completedIn s r w t blocked = goesTo (unblocked r w)
+completedIn s r w t claim = goesTo (pieceClaimed s r w t)
+completedIn s r w t notify = goesTo (noticeGiven s r t)
+completedIn s r w t wait = goesTo (waited s r t)
+completedIn s r w t check = goesTo (checkPassed s r w t)
+completedIn s r w t held = goesTo r
+completedIn s r w t returning = givenBack s r w
+completedIn s r w t unknown = goesTo r
 
--- the work of the record's phase
+-- the record's phase
 abbrev pub ownTouched : Settings → Record → ℕ
 ownTouched s r = touchedIn s r (phaseOf (r .phase))
-
-abbrev pub ownMoved : Settings → Record → ℕ → ℕ → Moved
-ownMoved s r w t = movedIn s r w t (phaseOf (r .phase))
 
 -- ---- 2.2, "Patience between two pieces"
 
@@ -189,5 +229,13 @@ outOfPatience s r t = leb 1 (r .phase) && leb (r .phase) 8 && ltb 0 (r .current)
 abbrev pub touched : Settings → Record → ℕ → ℕ
 touched s r t = choose (outOfPatience s r t) 0 (ownTouched s r)
 
+abbrev pub access : Settings → Record → ℕ → Access
+access s r t = choose (outOfPatience s r t) none (accessIn s r (phaseOf (r .phase)))
+
+abbrev pub completed : Settings → Record → ℕ → ℕ → Completion
+completed s r w t = choose (outOfPatience s r t) (goesTo (sentBack 4 r)) (completedIn s r w t (phaseOf (r .phase)))
+
+-- ---- a step: the operation is found, applied to the word, and completed
+
 abbrev pub moved : Settings → Record → ℕ → ℕ → Moved
-moved s r w t = choose (outOfPatience s r t) (leaves w (sentBack 4 r)) (ownMoved s r w t)
+moved s r w t = record { number = completed s r w t .number; word = applied (access s r t) w; next = completed s r w t .next }

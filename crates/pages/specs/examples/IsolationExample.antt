@@ -8,7 +8,7 @@ use Prim.Native.Nat.{ℕ}
 use native.Mathlib.Omega.{arith}
 use lib.ListN.{length, getD, set}
 use Rattle.base.specs.rules.Choice.{choose}
-use Rattle.word.specs.rules.Word.{field, putField, addField, matches, replaced, maskedSwap, leafBits, wantedBits, takeBits, giveBits, returnOcc}
+use Rattle.word.specs.rules.Word.{field, matches, replaced, maskedSwap, leafBits, wantedBits, addFields}
 use Rattle.tree.specs.rules.Tree.{climb, leftmost, first, level, levelWithin, size, left, units, holder, wordCount}
 use Rattle.tree.specs.rules.Lists.{upward, ancestors, ancestor, notifies, notifiedFrom, notifyLevels, notifyList, row, descendants, nearest, checkList}
 use Rattle.cover.specs.rules.Cover.{part, over, total, rank}
@@ -16,7 +16,7 @@ use Rattle.cover.specs.rules.Search.{before, lesser, behind, leastOf, rest, sea
 use Rattle.cover.specs.rules.Answer.{levelsOutside, windowOutside}
 use Rattle.lock.specs.rules.Records.{phaseOf, pieces, pieceAt, isLeaf, gripOf, noticesOf, wordAt, written, clientWith, idleClient}
 use Rattle.lock.specs.rules.Unreadable.{numberTooLarge, idleFilled, notCovered, noCurrent, ticketTooLarge, fieldsWrong, listLength, placePast, noticesWrong, timeAhead, phaseElsewhere, heldEarly, outcomeWrong, lacksGrip, givingWrong, outOfPatienceFirst, takenFirst, unreadable}
-use Rattle.lock.specs.rules.Steps.{touchedIn, startPhase, begin, firstNoted, taken, ticketTaken, turnAwaited, goUp, climbed, unblocked, bitsClaimed, occClaimed, late, allNotified, noticeGiven, waited, checkPassed, pieceReturned, wordReturned, turnReturned, claimPiece, returnBits, returnInner, giveBack, movedIn, outOfPatience}
+use Rattle.lock.specs.rules.Steps.{touchedIn, startPhase, begin, firstNoted, taken, ticketTaken, turnAwaited, goUp, climbed, unblocked, bitsClaimed, occClaimed, late, allNotified, noticeGiven, waited, checkPassed, pieceReturned, wordReturned, turnReturned, outOfPatience, applied, claimAccess, ownWordAccess, returnAccess, accessIn, pieceClaimed, bitsReturned, gripReturned, givenBack, completedIn}
 use Rattle.lock.specs.rules.Calls.{firstCause, settingsOutside, treeTests, clientsOutside, clientTests, requestTests, stepTests, releaseTests, cancelTests, requested, released, cancelled}
 use Rattle.lock.specs.rules.Table.{Call, request, step, clientOf, clientAt, ownTests, numberOf, after, call, openingNumber, opened, opening}
 use Rattle.lock.specs.declared.Client.{Client}
@@ -67,7 +67,7 @@ computed :
     × (ownClient (table climbing) 0 ≡ ownClient (table holding) 0)
     × (seen climbing .number ≡ 0) × (seen climbing .held ≡ 1) × (seen holding .number ≡ 0) × (seen holding .held ≡ 2)
     × (ownClient (set-back (table climbing)) 0 .«record» ≡ ownClient (table climbing) 0 .«record») × (runPage settings (set-back (table climbing)) 0 .number ≡ 6)
-unfolding run call numberOf after ownTests clientAt clientOf opening openingNumber opened firstCause settingsOutside treeTests clientsOutside clientTests requestTests stepTests releaseTests cancelTests requested released cancelled touchedIn startPhase begin firstNoted taken ticketTaken turnAwaited goUp climbed unblocked bitsClaimed occClaimed late allNotified noticeGiven waited checkPassed pieceReturned wordReturned turnReturned claimPiece returnBits returnInner giveBack movedIn numberTooLarge idleFilled notCovered noCurrent ticketTooLarge fieldsWrong listLength placePast noticesWrong timeAhead phaseElsewhere heldEarly outcomeWrong lacksGrip givingWrong outOfPatienceFirst takenFirst unreadable phaseOf pieces pieceAt isLeaf gripOf noticesOf wordAt written levelsOutside windowOutside lesser behind leastOf rest search found leastCover before part over total rank upward ancestors ancestor notifies notifiedFrom notifyLevels notifyList row descendants nearest checkList climb leftmost first level levelWithin size left units holder wordCount field putField addField matches replaced maskedSwap leafBits wantedBits takeBits giveBits returnOcc choose anyUnreadable inPhase9 heldCount runTests runNumber runPage outOfPatience
+unfolding run call numberOf after ownTests clientAt clientOf opening openingNumber opened firstCause settingsOutside treeTests clientsOutside clientTests requestTests stepTests releaseTests cancelTests requested released cancelled touchedIn startPhase begin firstNoted taken ticketTaken turnAwaited goUp climbed unblocked bitsClaimed occClaimed late allNotified noticeGiven waited checkPassed pieceReturned wordReturned turnReturned applied claimAccess ownWordAccess returnAccess accessIn pieceClaimed bitsReturned gripReturned givenBack completedIn numberTooLarge idleFilled notCovered noCurrent ticketTooLarge fieldsWrong listLength placePast noticesWrong timeAhead phaseElsewhere heldEarly outcomeWrong lacksGrip givingWrong outOfPatienceFirst takenFirst unreadable phaseOf pieces pieceAt isLeaf gripOf noticesOf wordAt written levelsOutside windowOutside lesser behind leastOf rest search found leastCover before part over total rank upward ancestors ancestor notifies notifiedFrom notifyLevels notifyList row descendants nearest checkList climb leftmost first level levelWithin size left units holder wordCount field addFields matches replaced maskedSwap leafBits wantedBits choose anyUnreadable inPhase9 heldCount runTests runNumber runPage outOfPatience
 computed = (refl, refl, refl, refl, refl, refl, refl, refl, refl, refl, refl, refl, refl, refl, refl, refl)
 
 -- ---- the same page of tables that differ, and pages that differ

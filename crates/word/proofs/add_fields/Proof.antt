@@ -10,7 +10,7 @@ add-result c = record { fits = low-sum-lt _ (c .args .word) (c .args .deltas) (l
 
 returns : tie.Need-returns
 unfolding tops lows widths
-returns c = fields-at-once (15 ∷ 15 ∷ 14 ∷ 14 ∷ 0 ∷ 0 ∷ []) (c .args .deltas) (c .args .word)
+returns c = fields-at-once (15 ∷ 15 ∷ 14 ∷ 14 ∷ 0 ∷ 0 ∷ []) (c .args .deltas) (c .args .word) (c .fits .word .fits)
 
 pub add-fields-spec : {M : Type 1} → statement M
 add-fields-spec = tie.close (tie.spec add-result returns)

@@ -9,7 +9,7 @@ add-fields-requires : tie.Need-add-fields-requires
 add-fields-requires c κs = search needs
 
 returns : tie.Need-returns
-returns c = c .add-fields .ensures ∙ return-occ-one-add (c .before .args .word) (c .before .fits .word .fits)
+returns c = c .add-fields .ensures ∙ return-occ-one-add (c .before .args .word)
 
 pub return-occ-spec : {M : Type 1} → statement M
 return-occ-spec = tie.close (tie.spec add-fields-requires returns)

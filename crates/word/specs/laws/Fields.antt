@@ -78,6 +78,11 @@ module _ (s k delta w : ℕ) where
   unfolding addField
   field-add-other = field-put-other s k _ w new-lt
 
+  -- what stands above the field stays
+  pub add-above : (n : ℕ) → s + k ≤ n → addField s k delta w / 2 ^ n ≡ w / 2 ^ n
+  unfolding addField
+  add-above n h = above _ _ (k + s) n (omega arith) (put-above s k _ w new-lt)
+
   pub add-lt : (n : ℕ) → s + k ≤ n → w < 2 ^ n → addField s k delta w < 2 ^ n
   unfolding addField
   add-lt = put-lt s k _ w new-lt

@@ -75,10 +75,14 @@ addDmax = addField 0 16
 abbrev pub layout : List ℕ
 layout = 16 ∷ 16 ∷ 15 ∷ 15 ∷ 1 ∷ 1 ∷ []
 
--- every field of two words added: "each field wraps by itself and nothing is carried into its neighbour"
+-- every field of two words added: "each field wraps by itself and nothing is carried into its neighbour"; what stands above the fields stays
 unfoldable pub addFields : List ℕ → ℕ → ℕ → ℕ
-addFields [] deltas w = 0
+addFields [] deltas w = w
 addFields (width ∷ above) deltas w = addFields above (deltas / 2 ^ width) (w / 2 ^ width) * 2 ^ width + (w + deltas) % 2 ^ width
+
+-- the deltas of the six fields in one word, each where its field is
+abbrev pub deltas : (in-exp in-occ in-tcnt in-tmax in-dcnt in-dmax : ℕ) → ℕ
+deltas in-exp in-occ in-tcnt in-tmax in-dcnt in-dmax = in-exp * 2 ^ 63 + (in-occ * 2 ^ 62 + (in-tcnt * 2 ^ 47 + (in-tmax * 2 ^ 32 + (in-dcnt * 2 ^ 16 + in-dmax))))
 
 -- ---- "A masked compare-and-swap compares and sets only the bits under its masks."
 

@@ -3,7 +3,8 @@ use mathlib.Core.Path.{sym, ap, ap₂, _∙_, subst}
 use Prim.Native.Nat.{ℕ}
 use Rattle.tree.specs.rules.Tree.{Node}
 use Rattle.lock.specs.rules.Records.{isLeaf}
-use Rattle.lock.specs.rules.Steps.{taken, leaves, wanted}
+use Rattle.lock.specs.rules.Steps.{taken, wanted}
+use Rattle.lock.specs.laws.Rows.{leaves}
 use Rattle.word.specs.rules.Word.{takeBits}
 use Rattle.cover.specs.rules.Cover.{Meets}
 use Rattle.lock.specs.laws.Placed.{pieced}

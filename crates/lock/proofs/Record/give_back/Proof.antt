@@ -5,7 +5,8 @@ use native.Mathlib.Omega.{arith}
 use lib.ListN.{length}
 use Rattle.tree.specs.rules.Tree.{Node, left}
 use Rattle.lock.specs.rules.Records.{pieces, isLeaf, givenPiece}
-use Rattle.lock.specs.rules.Steps.{taken, leaves}
+use Rattle.lock.specs.rules.Steps.{taken}
+use Rattle.lock.specs.laws.Rows.{leaves}
 use Rattle.lock.specs.laws.Placed.{pieced}
 use Rattle.lock.specs.laws.ReturnLaws.{own-leaf, own-inner, own-notice, leaf-level}
 use borrow.Author.Needs.{needs}

@@ -2,7 +2,8 @@
 use mathlib.Core.Path.{sym, ap, ap₂, _∙_}
 use native.Mathlib.Omega.{arith}
 use mathlib.Core.Logic.{inl}
-use Rattle.lock.specs.rules.Steps.{touchedIn, leaves, movedIn, climbed, unblocked, waited}
+use Rattle.lock.specs.rules.Steps.{touchedIn, climbed, unblocked, waited}
+use Rattle.lock.specs.laws.Rows.{leaves, movedIn}
 use Rattle.lock.specs.laws.Placed.{pieced, sound-placed}
 use Rattle.lock.specs.laws.Phases.{at-ticket, at-turn, at-climb, at-blocked, at-claim, at-notify, at-wait, at-check, at-returning}
 use Rattle.lock.specs.laws.MoveLaws.{moved-none}

@@ -2,7 +2,8 @@
 use mathlib.Core.Path.{_≡_, sym, ap, _∙_, subst}
 use Prim.Native.Nat.{ℕ}
 use Rattle.tree.specs.rules.Tree.{level, left}
-use Rattle.lock.specs.rules.Steps.{taken, leaves, wanted}
+use Rattle.lock.specs.rules.Steps.{taken, wanted}
+use Rattle.lock.specs.laws.Rows.{leaves}
 use Rattle.word.specs.rules.Word.{giveBits}
 use Rattle.cover.specs.rules.Cover.{Meets}
 use Rattle.lock.specs.laws.Placed.{pieced}

@@ -1,6 +1,7 @@
 -- `lock::Record::return_inner` meets its contract. Assumes nothing.
 use mathlib.Core.Path.{sym, ap, ap₂, _∙_}
-use Rattle.lock.specs.rules.Steps.{taken, leaves}
+use Rattle.lock.specs.rules.Steps.{taken}
+use Rattle.lock.specs.laws.Rows.{leaves}
 use Rattle.tree.specs.rules.Tree.{left}
 use Rattle.lock.specs.laws.ReturnLaws.{inner-occ, inner-turn, inner-ticket}
 use borrow.Author.Needs.{needs}
