@@ -7,6 +7,7 @@ pub mod CallLaws
 pub mod CoverLaws
 pub mod LateLaws
 pub mod MoveLaws
+pub mod OperationLaws
 pub mod OwnTests
 pub mod PatienceLaws
 pub mod PhaseTests

@@ -2,6 +2,7 @@ pub mod ByValue
 pub mod Calls
 pub mod History
 pub mod Readings
+pub mod Operations
 pub mod Records
 pub mod StepCount
 pub mod Steps

@@ -1,8 +1,9 @@
 // The calls by value: from the client, the lent tree, the settings and the call to the number and the client after it.
 ghost use mathlib.Core.Path.{_≡_};
-ghost use mathlib.Core.Bool.{false};
+ghost use mathlib.Core.Bool.{false, _||_};
 ghost use mathlib.Core.List.{[], _∷_};
 ghost use Prim.Native.Nat.{_≤_};
+ghost use lib.Dec.{eqb};
 ghost use lib.ListN.{length, getD};
 ghost use Rattle.tree.specs.rules.Tree.{wordCount};
 ghost use Rattle.cover.specs.rules.Answer.{windowOutside};
@@ -11,7 +12,7 @@ ghost use Rattle.lock.specs.declared.Stepped.{Stepped};
 ghost use Rattle.lock.specs.rules.Records.{coverOf, wordAt, written, sentBack, clientWith, idleClient};
 ghost use Rattle.lock.specs.rules.Steps.{touched, moved};
 ghost use Rattle.lock.specs.rules.Unreadable.{differ, unreadable};
-ghost use Rattle.lock.specs.rules.Calls.{firstCause, treeTests, requested, cancelled, answered};
+ghost use Rattle.lock.specs.rules.Calls.{firstCause, treeTests, requested, released, cancelled, answered};
 ghost use Rattle.lock.specs.rules.ByValue.{callOf, answerTo, wordsAfter};
 ghost use Rattle.lock.specs.laws.Active.{Settled};
 ghost use Rattle.lock.specs.laws.ByKind.{steppedOf, clearBit, leftBy};
@@ -85,7 +86,7 @@ impl Record {
     }
 
     // "set outcome 1 or 3 and phase 10"; 2.2, "sets outcome 4 and goes to returning"
-    fn sent_back(mut self, outcome: u64) -> Record
+    pub fn sent_back(mut self, outcome: u64) -> Record
         ensures { λ r. ⌜ r ≡ sentBack outcome self ⌝ }
     {
         self.phase = 10;
@@ -156,8 +157,23 @@ impl Record {
         }
     }
 
+    // What is left of a release after 1, 2 and 6: 8, "release when not held".
+    pub fn release(self, last: u64) -> Acted
+        ensures { λ s. ⌜ steppedOf s ≡ answered (firstCause ((differ (self .phase) 9, 8) ∷ [])) (clientWith last self) (clientWith last (released self)) ⌝ }
+    {
+        self.unless(self.phase != 9, self.sent_back(1), last)
+    }
+
+    // What is left of a cancel after 1, 2 and 6: 8, "cancel in 0, 9 or 10".
+    pub fn cancel(self, last: u64) -> Acted
+        ensures { λ s. ⌜ steppedOf s ≡ answered (firstCause ((eqb (self .phase) 0 || eqb (self .phase) 9 || eqb (self .phase) 10, 8) ∷ [])) (clientWith last self) (clientWith last (cancelled self)) ⌝ }
+    {
+        let wrong = (self.phase == 0) | (self.phase == 9) | (self.phase == 10);
+        self.unless(wrong, self.cancelled(), last)
+    }
+
     // What is left of a request after 1, 2 and 6: 7, "request with l ≥ r or r > N", and 8.
-    fn request(self, settings: Settings, last: u64, a: u64, b: u64) -> Acted
+    pub fn request(self, settings: Settings, last: u64, a: u64, b: u64) -> Acted
         requires { ⌜ Settled settings ⌝ }
         ensures { λ s. ⌜ steppedOf s ≡ answered (firstCause ((windowOutside (settings .levels) a b, 7) ∷ (differ (self .phase) 0, 8) ∷ [])) (clientWith last self) (clientWith last (requested settings a b)) ⌝ }
     {
@@ -188,11 +204,8 @@ impl Record {
         match kind {
             0 => self.request(settings, last, call.a, call.b),
             1 => self.step(words, settings, last, call.a),
-            2 => self.unless(self.phase != 9, self.sent_back(1), last),
-            _ => {
-                let wrong = (self.phase == 0) | (self.phase == 9) | (self.phase == 10);
-                self.unless(wrong, self.cancelled(), last)
-            }
+            2 => self.release(last),
+            _ => self.cancel(last),
         }
     }
 }
@@ -215,13 +228,6 @@ impl Client {
     {
         let own = self.record;
         let acted = own.act(words, settings, call, self.clock, kind);
-        let next = acted.next;
-        Stepped {
-            number: acted.number,
-            next: Client {
-                clock: acted.clock,
-                record: next,
-            },
-        }
+        acted.stepped()
     }
 }

@@ -68,6 +68,19 @@ pub struct Moved {
     pub next: Record,
 }
 
+// What a run posts: number 0, the kind (0 none, 1 read, 2 masked add, 3 masked compare-and-swap) and the node (0 for none); of a swap the mask and the bits that are compared, and the mask and the
+// bits that are set; of an add in `value` the deltas of the six fields, each where its field is. Refused: the cause, and 0.
+#[repr(C)]
+pub struct Operation {
+    pub number: u64,
+    pub kind: u64,
+    pub node: u64,
+    pub compared: u64,
+    pub expected: u64,
+    pub swapped: u64,
+    pub value: u64,
+}
+
 // How many steps a window needs: number 0 and the steps; else the cause of a refusal, and 0.
 #[repr(C)]
 pub struct StepCount {
@@ -76,10 +89,12 @@ pub struct StepCount {
 }
 
 mod by_phase;
+mod by_value;
 mod calls;
 mod counting;
 mod late;
 mod moves;
+mod operations;
 mod outside;
 mod patience;
 mod pieces;

@@ -1,13 +1,10 @@
 -- `lock::Record::act` meets its contract. Assumes nothing.
 use mathlib.Core.Path.{refl, sym, ap, _∙_}
 use mathlib.Core.Bool.{_||_}
-use mathlib.Core.List.{[], _∷_}
+use mathlib.Core.List.{_∷_}
 use Prim.Native.Nat.{_-_}
-use lib.Dec.{eqb}
 use Rattle.lock.specs.declared.Record.{Record}
 use Rattle.lock.specs.rules.Records.{clientWith}
-use Rattle.lock.specs.rules.Unreadable.{differ, unreadable}
-use Rattle.lock.specs.rules.Calls.{firstCause, answered, released, cancelled}
 use Rattle.lock.specs.rules.Table.{request, step, release, cancel}
 use Rattle.lock.specs.laws.ByKind.{steppedOf, restOf, nextBy, wordsBy, step-onward, kind-request, kind-step, kind-release, kind-cancel, refuses-tree, settles, counts, refuses-back, refuses-unreadable, gives}
 use borrow.Author.Needs.{needs}
@@ -58,17 +55,11 @@ step-requires c κs =
     let z = c .before .before .before .before .before .before .if1 .left in
     (settles (a .settings) (clientWith (a .last) (a .self)) (a .words .now) (a .call) (a .kind) _ e z, counts (a .settings) (clientWith (a .last) (a .self)) (a .words .now) (a .call) (a .kind) _ e z, sym (c .before .before .before .unreadable .ensures) ∙ c .before .before .if3 .left, step-onward (a .kind) (a .call .a) (a .last) (c .before .match .keys2) (c .before .before .before .before .if2 .left))
 
-sent-back-requires : tie.Need-sent-back-requires
-sent-back-requires c κs = search needs
+release-requires : tie.Need-release-requires
+release-requires c κs = search needs
 
-unless-requires : tie.Need-unless-requires
-unless-requires c κs = search needs
-
-cancelled-requires : tie.Need-cancelled-requires
-cancelled-requires c κs = search needs
-
-unless-requires-2 : tie.Need-unless-requires-2
-unless-requires-2 c κs = search needs
+cancel-requires : tie.Need-cancel-requires
+cancel-requires c κs = search needs
 
 returns-4 : tie.Need-returns-4
 unfolding restOf nextBy wordsBy
@@ -86,18 +77,16 @@ returns-5 c =
     gives (a .settings) (clientWith (a .last) (a .self)) (a .words .now) (a .call) (a .kind) _ (c .before .before .before .before .before .before .before .before .before .before .tree-cause .ensures) (c .before .before .before .before .before .before .before .before .before .if1 .left) (c .before .before .before .before .before .before .before .if2 .left) (step (a .call .client) (a .call .a)) (sym (c .before .before .before .before .before .before .unreadable .ensures) ∙ c .before .before .before .before .before .if3 .left) (kind-step _ _ _ _ (c .before .before .before .before .match .keys2)) (c .before .before .step .ensures .0) (c .before .before .step .ensures .1)
 
 returns-6 : tie.Need-returns-6
-unfolding restOf nextBy wordsBy released
+unfolding restOf nextBy wordsBy
 returns-6 c =
-    let a = c .before .before .before .before .before .before .before .before .before .before .before .args in
-    gives (a .settings) (clientWith (a .last) (a .self)) (a .words .now) (a .call) (a .kind) _ (c .before .before .before .before .before .before .before .before .before .tree-cause .ensures) (c .before .before .before .before .before .before .before .before .if1 .left) (c .before .before .before .before .before .before .if2 .left) (release (a .call .client)) (sym (c .before .before .before .before .before .unreadable .ensures) ∙ c .before .before .before .before .if3 .left) (kind-release _ _ _ _ (c .before .before .before .match .keys3))
-    (c .unless .ensures ∙ ap (λ (y : Record). answered (firstCause ((differ (a .self .phase) 9, 8) ∷ [])) (clientWith (a .last) (a .self)) (clientWith (a .last) y)) (c .before .sent-back .ensures)) refl
+    let a = c .before .before .before .before .before .before .before .before .before .args in
+    gives (a .settings) (clientWith (a .last) (a .self)) (a .words .now) (a .call) (a .kind) _ (c .before .before .before .before .before .before .before .tree-cause .ensures) (c .before .before .before .before .before .before .if1 .left) (c .before .before .before .before .if2 .left) (release (a .call .client)) (sym (c .before .before .before .unreadable .ensures) ∙ c .before .before .if3 .left) (kind-release _ _ _ _ (c .before .match .keys3)) (c .release .ensures) refl
 
 returns-7 : tie.Need-returns-7
 unfolding restOf nextBy wordsBy
 returns-7 c =
-    let a = c .before .before .before .before .before .before .before .before .before .before .before .before .before .args in
-    gives (a .settings) (clientWith (a .last) (a .self)) (a .words .now) (a .call) (a .kind) _ (c .before .before .before .before .before .before .before .before .before .before .before .tree-cause .ensures) (c .before .before .before .before .before .before .before .before .before .before .if1 .left) (c .before .before .before .before .before .before .before .before .if2 .left) (cancel (a .call .client)) (sym (c .before .before .before .before .before .before .before .unreadable .ensures) ∙ c .before .before .before .before .before .before .if3 .left) (kind-cancel _ _ _ _ (c .before .before .before .before .before .match .rest .0 .0 .1) (c .before .before .before .before .before .match .rest .0 .1) (c .before .before .before .before .before .match .rest .1))
-    (c .unless2 .ensures ∙ ap (λ (y : Record). answered (firstCause ((eqb (a .self .phase) 0 || eqb (a .self .phase) 9 || eqb (a .self .phase) 10, 8) ∷ [])) (clientWith (a .last) (a .self)) (clientWith (a .last) y)) (c .before .cancelled .ensures)) refl
+    let a = c .before .before .before .before .before .before .before .before .before .args in
+    gives (a .settings) (clientWith (a .last) (a .self)) (a .words .now) (a .call) (a .kind) _ (c .before .before .before .before .before .before .before .tree-cause .ensures) (c .before .before .before .before .before .before .if1 .left) (c .before .before .before .before .if2 .left) (cancel (a .call .client)) (sym (c .before .before .before .unreadable .ensures) ∙ c .before .before .if3 .left) (kind-cancel _ _ _ _ (c .before .match .rest .0 .0 .1) (c .before .match .rest .0 .1) (c .before .match .rest .1)) (c .cancel .ensures) refl
 
 pub act-spec : {M : Type 1} → statement M
 act-spec =
@@ -113,10 +102,8 @@ act-spec =
     returns-3
     request-requires
     step-requires
-    sent-back-requires
-    unless-requires
-    cancelled-requires
-    unless-requires-2
+    release-requires
+    cancel-requires
     returns-4
     same-length
     returns-5
