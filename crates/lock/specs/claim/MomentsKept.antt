@@ -121,7 +121,7 @@ run-checked s (k ∷ ks) st inv touch reading read v =
 pub read-at-once : (s : Settings) (st : State) (ks : List Call) (moment : ℕ → ℕ) → TrueMoments (events s st ks) moment → ReadApart s st ks moment moment
 read-at-once s st ks moment v = record {
   never-back = v .never-back;
-  not-slow = λ i j c t u b x y _ _ _ _. omega (arith, v .steady i j c t u b x y .0);
+  not-slow = λ i j c t u b x y _ _ _ far. omega (arith, far, v .steady i j c t u b x y .0);
   not-fast = λ i j c t u b x y _ _ _ _. omega (arith, v .steady i j c t u b x y .1);
   read-first = λ _ _ _ _ _. omega arith;
   touched-first = λ _ _ _ _ _. omega arith;

@@ -23,18 +23,17 @@ foundIn s st (k ∷ ks) (suc i) = foundIn s (call s st k .state) ks i
 abbrev pub WithinRequest : List Event → (i j c : ℕ) → Type 0
 WithinRequest h i j c = (k : ℕ) → i < k → k < j → RequestAt h k c → ⊥
 
--- from the clock t, read at the moment m, to the clock u, read at the moment n: it is not slower than 2.3 allows, where so much time has passed that another's wait may be over;
--- and it is not faster, where its own wait is over. Over less time than that nothing is asked
+-- from the clock t, read at the moment m, to the clock u, read at the moment n: where so much time has passed that another's wait may be over, u finds the claim late, as a clock does that is not slower
+-- than 2.3 allows; and the clock is not faster than that, where its own wait is over. Over less time than that nothing is asked
 abbrev pub NotSlow : (wait t u m n : ℕ) → Type 0
-NotSlow wait t u m n = 10000 * wait ≤ 10001 * (n - m) → 9999 * (n - m) ≤ 10000 * (u - t)
+NotSlow wait t u m n = 10000 * wait ≤ 10001 * (n - m) → 9999 * wait ≤ 10001 * (u - t)
 
 abbrev pub NotFast : (wait t u m n : ℕ) → Type 0
 NotFast wait t u m n = wait ≤ u - t → 10000 * (u - t) ≤ 10001 * (n - m)
 
 -- of the accepted step at place i, `touch i` is the moment at which its word was touched (of a step that touches none, the moment of the step), and `reading i` that at which
 -- its clock was read. The clocks matter in four phases: 3, where t1 is noted, and 6, where a claim may be late; 5, where t0 is noted, and 7, where the wait ends. (In a later
--- piece the clock also says, before a word is touched, whether patience has run out: a run that reads its clock after the touch posts an operation only where patience cannot
--- run out meanwhile.)
+-- piece the clock also says, before a word is touched, whether patience has run out: a run that reads its clock after the touch completes by one at which it has not.)
 pub record ReadApart (s : Settings) (st : State) (ks : List Call) (touch reading : ℕ → ℕ) : Type 0 where
   -- a history has the steps in the order in which they touched the words
   pub never-back : (i j c d t u : ℕ) → i < j → StepAt (events s st ks) i c t → StepAt (events s st ks) j d u → touch i ≤ touch j
