@@ -1,0 +1,3 @@
+pub mod ActLaws
+pub mod Shown
+pub mod StepByOperation

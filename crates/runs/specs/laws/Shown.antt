@@ -1,0 +1,133 @@
+-- A network as the history sees it: each run's client as it is when the operation that was carried out is completed. Assumes nothing.
+use mathlib.Core.Path.{_≡_, refl, ap, ap₂, _∙_}
+use mathlib.Core.Bool.{Bool}
+use mathlib.Core.List.{List, [], _∷_, map}
+use Prim.Native.Nat.{ℕ, zero, suc, _≤_}
+use native.Mathlib.Omega.{arith}
+use lib.ListN.{length, getD, set, length-set, length-replicate}
+use Rattle.base.specs.rules.Choice.{choose}
+use Rattle.base.specs.laws.ChoiceLaws.{choose-eq, on-choose}
+use Rattle.lock.specs.declared.Client.{Client}
+use Rattle.lock.specs.declared.Record.{Record}
+use Rattle.lock.specs.declared.Settings.{Settings}
+use Rattle.lock.specs.declared.Stepped.{Stepped}
+use Rattle.lock.specs.rules.Records.{Phase, phaseOf, written, sentBack, idleClient}
+use Rattle.lock.specs.rules.Steps.{goesTo, completedIn, completed}
+use Rattle.lock.specs.rules.Calls.{answered}
+use Rattle.lock.specs.rules.Operations.{completedAnswer}
+use Rattle.lock.specs.rules.Table.{State, clientAt, openingNumber, opened, opening}
+use Rattle.lock.specs.laws.PatienceLaws.{patient-taken}
+use Rattle.lock.specs.laws.Phases.{at-held}
+use Rattle.runs.specs.rules.Network.{Flight, free, posted, answering, Run, Network, runAt, clientOn, withRun, started}
+
+unfoldable pub seenBy : Settings → Client → Flight → Client
+seenBy s c free = c
+seenBy s c (posted o) = c
+seenBy s c (answering u w) = completedAnswer s c u w .next
+
+unfoldable pub seen : Settings → Run → Client
+seen s x = seenBy s (x .client) (x .flight)
+
+abbrev pub shown : Settings → Network → State
+shown s net = record { words = net .words; clients = map (seen s) (net .runs) }
+
+-- ---- lists
+
+module _ {A B : Type 0} (f : A → B) where
+  pub map-set : (l : List A) (i : ℕ) (x : A) → map f (set l i x) ≡ set (map f l) i (f x)
+  map-set [] i x = refl
+  map-set (y ∷ l) zero x = refl
+  map-set (y ∷ l) (suc i) x = ap (λ (k : List B). f y ∷ k) (map-set l i x)
+
+  pub map-at : (l : List A) (i : ℕ) (d : A) → getD (map f l) i (f d) ≡ f (getD l i d)
+  map-at [] i d = refl
+  map-at (y ∷ l) zero d = refl
+  map-at (y ∷ l) (suc i) d = map-at l i d
+
+  pub map-count : (l : List A) → length (map f l) ≡ length l
+  map-count [] = refl
+  map-count (y ∷ l) = ap suc (map-count l)
+
+pub set-past : {A : Type 0} (l : List A) (i : ℕ) (x : A) → length l ≤ i → set l i x ≡ l
+set-past [] i x h = refl
+set-past (y ∷ l) zero x h = absurd (omega arith)
+set-past {A} (y ∷ l) (suc i) x h = ap (λ (k : List A). y ∷ k) (set-past l i x (omega arith))
+
+-- ---- what is shown of a run
+
+module _ (s : Settings) (net : Network) (c : ℕ) where
+  pub client-shown : clientAt (shown s net) c ≡ seen s (runAt net c)
+  unfolding clientAt runAt seen seenBy
+  client-shown = map-at (seen s) (net .runs) c (record { client = idleClient; flight = free })
+
+  abbrev flight : Flight
+  flight = runAt net c .flight
+
+  by-flight : (f : Flight) → flight ≡ f → seen s (runAt net c) ≡ seenBy s (clientOn net c) f
+  unfolding seen
+  by-flight f e = ap (seenBy s (clientOn net c)) e
+
+  pub shown-free : flight ≡ free → clientAt (shown s net) c ≡ clientOn net c
+  unfolding seenBy
+  shown-free e = client-shown ∙ by-flight free e
+
+  pub shown-posted : {o : _} → flight ≡ posted o → clientAt (shown s net) c ≡ clientOn net c
+  unfolding seenBy
+  shown-posted {o} e = client-shown ∙ by-flight (posted o) e
+
+  pub shown-answering : (u w : ℕ) → flight ≡ answering u w → clientAt (shown s net) c ≡ completedAnswer s (clientOn net c) u w .next
+  unfolding seenBy
+  shown-answering u w e = client-shown ∙ by-flight (answering u w) e
+
+  -- a run changed: one client of those shown is
+  pub shown-with : (words : List ℕ) (x : Client) (f : Flight) → shown s (withRun net words c x f) ≡ record { words = words; clients = set (shown s net .clients) c (seenBy s x f) }
+  unfolding seen
+  shown-with words x f = ap (λ (cs : List Client). record { words = words; clients = cs }) (map-set (seen s) (net .runs) c (record { client = x; flight = f }))
+
+-- ---- as it starts
+
+all-free : (s : Settings) (cs : List Client) → map (seen s) (map (λ (x : Client). record { client = x; flight = free }) cs) ≡ cs
+unfolding seen seenBy
+all-free s [] = refl
+all-free s (x ∷ cs) = ap (λ (k : List Client). x ∷ k) (all-free s cs)
+
+pub shown-started : (s : Settings) (st : State) → shown s (started st) ≡ st
+shown-started s st = ap (λ (cs : List Client). record { words = st .words; clients = cs }) (all-free s (st .clients))
+
+-- ---- counts stay
+
+pub written-count : (words : List ℕ) (n w : ℕ) → length (written words n w) ≡ length words
+unfolding written
+written-count words zero w = refl
+written-count words (suc i) w = length-set words i w
+
+pub started-counts : (s : Settings) (lent : State) → opening s lent .number ≡ 0
+    → let net = started (opening s lent .state) in openingNumber s (length (net .words)) (length (net .runs)) ≡ 0
+unfolding opening opened
+started-counts s lent e =
+    let st = opening s lent .state in
+    let same : st ≡ opened lent = choose-eq (opening s lent .number) 0 (opened lent) lent e in
+    ap₂ (λ (m n : ℕ). openingNumber s m n) (ap (λ (x : State). length (x .words)) same ∙ length-replicate (length (lent .words)) 0)
+    (map-count _ (st .clients) ∙ ap (λ (x : State). length (x .clients)) same ∙ length-replicate (length (lent .clients)) idleClient) ∙ e
+
+-- ---- a run that holds: what it has in flight changes nothing of its client's record
+
+module _ (s : Settings) (c : Client) (e : c .«record» .phase ≡ 9) where
+  abbrev r : Record
+  r = c .«record»
+
+  stays-held : (u w : ℕ) → completed s r w u .next ≡ r
+  unfolding choose completedIn
+  stays-held u w =
+      ap (λ (b : Bool). choose b (goesTo (sentBack 4 r)) (completedIn s r w u (phaseOf (r .phase))) .next) (patient-taken s r u (omega arith))
+      ∙ ap (λ (p : Phase). completedIn s r w u p .next) (at-held (r .phase) e)
+
+  held-seen : (f : Flight) → seenBy s c f .«record» ≡ r
+  unfolding seenBy completedAnswer answered
+  held-seen free = refl
+  held-seen (posted o) = refl
+  held-seen (answering u w) = on-choose (λ (x : Stepped). x .next .«record» ≡ r) _ _ _ (λ _. stays-held u w) (λ _. refl)
+
+pub shown-held : (s : Settings) (net : Network) (c : ℕ) → clientOn net c .«record» .phase ≡ 9 → clientAt (shown s net) c .«record» ≡ clientOn net c .«record»
+unfolding seen
+shown-held s net c e = ap (λ (x : Client). x .«record») (client-shown s net c) ∙ held-seen s (clientOn net c) e (runAt net c .flight)

@@ -1,0 +1,2 @@
+pub mod ByOperation
+pub mod Network
