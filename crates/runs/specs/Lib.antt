@@ -1,3 +1,4 @@
 pub mod claim
+pub mod examples
 pub mod laws
 pub mod rules

@@ -1,3 +1,4 @@
 pub mod ActLaws
+pub mod Completing
 pub mod Shown
 pub mod StepByOperation

@@ -12,9 +12,9 @@ use Rattle.base.specs.laws.ChoiceLaws.{on-choose}
 use Rattle.lock.specs.declared.Moved.{Moved}
 use Rattle.lock.specs.declared.Record.{Record}
 use Rattle.lock.specs.declared.Settings.{Settings}
-use Rattle.lock.specs.rules.Records.{Phase, phaseOf, wordAt, written, sentBack}
+use Rattle.lock.specs.rules.Records.{Phase, phaseOf, wordAt, written}
 use Rattle.lock.specs.laws.Phases.{on-phase}
-use Rattle.lock.specs.rules.Steps.{touchedIn, ownTouched, outOfPatience, touched, moved}
+use Rattle.lock.specs.rules.Steps.{touchedIn, ownTouched, outOfPatience, touched, moved, givenUp}
 use Rattle.lock.specs.laws.Rows.{movedIn, leaves, ownMoved, moved-chosen}
 use Rattle.lock.specs.rules.Calls.{requested, released, cancelled}
 use Rattle.lock.specs.rules.Table.{State, Call, request, step, release, cancel, clientOf, recordAt, clockAt, withClient, numberOf, after, call}
@@ -91,9 +91,9 @@ module _ (s : Settings) (st : State) (inv : Invariant s (partsOf st)) (c : ℕ) 
         (λ b _. stays _)
 
     -- the work of the phase, or none where patience has run out: by the test, whatever it gives
-    step-by : (out : Bool) → (out ≡ true → Keeps s rs r 0 (wordAt (st .words) 0) (wordAt (st .words) 0) (sentBack 4 r) t)
+    step-by : (out : Bool) → (out ≡ true → Keeps s rs r 0 (wordAt (st .words) 0) (wordAt (st .words) 0) (givenUp r) t)
         → let x = choose out 0 (ownTouched s r) in
-        let m = choose out (leaves (wordAt (st .words) x) (sentBack 4 r)) (ownMoved s r (wordAt (st .words) x) t) in
+        let m = choose out (leaves (wordAt (st .words) x) (givenUp r)) (ownMoved s r (wordAt (st .words) x) t) in
         m .number ≡ 0 → Keeps s rs r x (wordAt (st .words) x) (m .word) (m .next) t
     unfolding choose
     step-by true f e = f refl

@@ -17,7 +17,7 @@ use Rattle.lock.specs.declared.Record.{Record}
 use Rattle.lock.specs.declared.Settings.{Settings}
 use Rattle.lock.specs.rules.Records.{coverOf, pieces, pieceAt, gripOf, idleWith, sentBack}
 use Rattle.lock.specs.laws.Pieces.{piece-first, grip-before, grip-current, first-gripped}
-use Rattle.lock.specs.rules.Steps.{startPhase}
+use Rattle.lock.specs.rules.Steps.{startPhase, givenUp}
 use Rattle.lock.specs.rules.Calls.{requested, released, cancelled}
 use Rattle.lock.specs.laws.Active.{Settled}
 use Rattle.lock.specs.laws.ActiveLaws.{pieces-are}
@@ -105,5 +105,5 @@ module _ (s : Settings) (rs : List Record) (r : Record) (now : ℕ) (g : Settled
       })
       (λ t. returns 3 (λ z. omega arith) (omega arith) (λ z. absurd (omega arith)) (λ e _. rd .no-early-time e early (λ z. absurd (ahead z))) (neqb→ne (gripOf r 0) 0 t))
 
-  pub out-of-patience-keeps : 0 < r .current → Keeps s rs r 0 w w (sentBack 4 r) now
+  pub out-of-patience-keeps : 0 < r .current → Keeps s rs r 0 w w (givenUp r) now
   out-of-patience-keeps b = returns 4 (λ z. omega arith) (omega arith) (λ _ z. omega arith) (λ z. absurd (omega arith)) (λ z. omega (arith, grip-before r 0 b))

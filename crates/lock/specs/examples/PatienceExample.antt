@@ -18,9 +18,9 @@ use Rattle.cover.specs.rules.Search.{before, lesser, behind, leastOf, rest, sea
 use Rattle.cover.specs.rules.Answer.{levelsOutside, windowOutside}
 use Rattle.lock.specs.declared.Record.{Record}
 use Rattle.lock.specs.declared.Settings.{Settings}
-use Rattle.lock.specs.rules.Records.{phaseOf, pieces, pieceAt, isLeaf, gripOf, noticesOf, wordAt, written, sentBack, idleWith, clientWith, idleClient}
+use Rattle.lock.specs.rules.Records.{phaseOf, pieces, pieceAt, isLeaf, gripOf, noticesOf, wordAt, written, idleWith, clientWith, idleClient}
 use Rattle.lock.specs.rules.Unreadable.{differ, numberTooLarge, idleFilled, notCovered, noCurrent, ticketTooLarge, fieldsWrong, listLength, placePast, noticesWrong, timeAhead, phaseElsewhere, heldEarly, outcomeWrong, lacksGrip, givingWrong, outOfPatienceFirst, takenFirst, unreadable}
-use Rattle.lock.specs.rules.Steps.{touchedIn, startPhase, begin, firstNoted, taken, ticketTaken, turnAwaited, goUp, climbed, unblocked, bitsClaimed, occClaimed, late, allNotified, noticeGiven, waited, checkPassed, pieceReturned, wordReturned, turnReturned, ownTouched, outOfPatience, touched, moved, applied, claimAccess, ownWordAccess, returnAccess, accessIn, pieceClaimed, bitsReturned, gripReturned, givenBack, completedIn}
+use Rattle.lock.specs.rules.Steps.{touchedIn, startPhase, begin, firstNoted, taken, ticketTaken, turnAwaited, goUp, climbed, unblocked, bitsClaimed, occClaimed, late, allNotified, noticeGiven, waited, checkPassed, pieceReturned, wordReturned, turnReturned, ownTouched, outOfPatience, touched, moved, applied, claimAccess, ownWordAccess, returnAccess, accessIn, pieceClaimed, bitsReturned, gripReturned, givenBack, completedIn, givenUp}
 use Rattle.lock.specs.laws.Rows.{movedIn, leaves, ownMoved}
 use Rattle.lock.specs.rules.Calls.{firstCause, settingsOutside, treeTests, clientsOutside, clientTests, requestTests, stepTests, releaseTests, cancelTests, requested, released, cancelled}
 use Rattle.lock.specs.rules.History.{run}
@@ -112,7 +112,7 @@ waiting x y = record { words = 4611686022722355201 ∷ 17293822569102704640 ∷ 
 
 -- client 0 touches no word and goes to returning with outcome 4
 abbrev pub returning-0 : ℕ → ℕ → State
-returning-0 x y = record { words = waiting 0 0 .words; clients = clientWith x (sentBack 4 blocked-0) ∷ clientWith y checking-1 ∷ [] }
+returning-0 x y = record { words = waiting 0 0 .words; clients = clientWith x (givenUp blocked-0) ∷ clientWith y checking-1 ∷ [] }
 
 -- client 0 gives back its leaf and its notice, client 1's check passes and it holds; it releases and returns, and client 0 asks again and takes both leaves
 abbrev pub end : List Call
@@ -175,7 +175,7 @@ module _ (x y : ℕ) (since-0 : 3 ≤ x) (since-1 : 7 ≤ y) where
 
   pub runs-out : (t : ℕ) → x ≤ t → 21 ≤ t → call settings (waiting x y) (step 0 t) ≡ record { number = 0; state = returning-0 t y }
   unfolding clientAt outOfPatience
-  runs-out t later b = steps 0 3 t (sentBack 4 blocked-0) (omega arith) since-0 later (computed t .1) (sent-back-moved settings blocked-0 t (le-leb 20 (t - 1) (omega arith)) _)
+  runs-out t later b = steps 0 3 t (givenUp blocked-0) (omega arith) since-0 later (computed t .1) (sent-back-moved settings blocked-0 t (le-leb 20 (t - 1) (omega arith)) _)
 
 pub both-taken : (log settings (returning-0 21 7) end ≡ end-lines) × (recordAt (run settings (returning-0 21 7) (take 2 end)) 0 ≡ idleWith 4)
 both-taken = (computed 0 .5, computed 0 .6)

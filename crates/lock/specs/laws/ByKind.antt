@@ -18,9 +18,9 @@ use Rattle.lock.specs.declared.Record.{Record}
 use Rattle.lock.specs.declared.Settings.{Settings}
 use Rattle.lock.specs.declared.Moved.{Moved}
 use Rattle.lock.specs.declared.Stepped.{Stepped}
-use Rattle.lock.specs.rules.Records.{wordAt, written, sentBack, clientWith}
+use Rattle.lock.specs.rules.Records.{wordAt, written, clientWith}
 use Rattle.lock.specs.rules.Unreadable.{differ, unreadable}
-use Rattle.lock.specs.rules.Steps.{ownTouched, outOfPatience, touched, moved}
+use Rattle.lock.specs.rules.Steps.{ownTouched, outOfPatience, touched, moved, givenUp}
 use Rattle.lock.specs.laws.Rows.{leaves, ownMoved}
 use Rattle.lock.specs.rules.Calls.{Tests, firstCause, treeTests, requestTests, stepTests, releaseTests, cancelTests, requested, released, cancelled, answered, requestNumber, requestAnswer, releaseAnswer, cancelAnswer, stepNumber, stepAnswer, stepWords}
 use Rattle.lock.specs.rules.Table.{Call, request, step, release, cancel, clientOf}
@@ -207,7 +207,7 @@ module _ (s : Settings) (own : Client) (words : List ℕ) (clock : ℕ) where
         )
 
   -- patience has run out
-  pub step-sent-back : outOfPatience s before clock ≡ true → (q : Record) → q ≡ sentBack 4 before → StepGives (record { number = 0; next = clientWith clock q }) words
+  pub step-sent-back : outOfPatience s before clock ≡ true → (q : Record) → q ≡ givenUp before → StepGives (record { number = 0; next = clientWith clock q }) words
   unfolding written
   step-sent-back e q f =
       let w = wordAt words (touched s before clock) in

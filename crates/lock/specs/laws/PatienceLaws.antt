@@ -13,8 +13,8 @@ use Rattle.base.specs.laws.ChoiceLaws.{on-choose}
 use Rattle.base.specs.laws.TestLaws.{both-true, second-false}
 use Rattle.lock.specs.declared.Record.{Record}
 use Rattle.lock.specs.declared.Settings.{Settings}
-use Rattle.lock.specs.rules.Records.{pieces, wordAt, withTaken, sentBack}
-use Rattle.lock.specs.rules.Steps.{firstNoted, ownTouched, outOfPatience, touched, moved}
+use Rattle.lock.specs.rules.Records.{pieces, wordAt, withTaken}
+use Rattle.lock.specs.rules.Steps.{firstNoted, ownTouched, outOfPatience, touched, moved, givenUp}
 use Rattle.lock.specs.laws.Rows.{leaves, ownMoved, moved-row, moved-impatient}
 use Rattle.lock.specs.rules.Unreadable.{nonzero, takenFirst}
 use Rattle.lock.specs.laws.Placed.{Pieced}
@@ -61,7 +61,7 @@ module _ (s : Settings) (r : Record) (t : ℕ) where
     unfolding choose
     sent-back-touched = ap (λ (b : Bool). choose b 0 (ownTouched s r)) e
 
-    pub sent-back-moved : (w : ℕ) → moved s r w t ≡ leaves w (sentBack 4 r)
+    pub sent-back-moved : (w : ℕ) → moved s r w t ≡ leaves w (givenUp r)
     sent-back-moved w = moved-impatient s r w t e
 
 -- where it has not run out, and the work of the phase leaves word and record as they are, so does the step

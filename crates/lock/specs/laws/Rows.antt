@@ -11,8 +11,8 @@ use Rattle.word.specs.laws.Inner.{one-in-occ, one-in-tcnt, one-in-tmax, one-in-
 use Rattle.lock.specs.declared.Moved.{Moved}
 use Rattle.lock.specs.declared.Record.{Record}
 use Rattle.lock.specs.declared.Settings.{Settings}
-use Rattle.lock.specs.rules.Records.{Phase, idle, ticket, turn, climb, blocked, claim, notify, wait, check, held, returning, unknown, phaseOf, currentPiece, givenPiece, isLeaf, gripOf, sentBack}
-use Rattle.lock.specs.rules.Steps.{ticketTaken, turnAwaited, climbed, unblocked, bitsClaimed, occClaimed, noticeGiven, waited, checkPassed, wordReturned, turnReturned, wanted, Access, none, read, add, swap, applied, claimAccess, ownWordAccess, returnAccess, accessIn, Completion, goesTo, pieceClaimed, bitsReturned, gripReturned, givenBack, completedIn, outOfPatience, moved}
+use Rattle.lock.specs.rules.Records.{Phase, idle, ticket, turn, climb, blocked, claim, notify, wait, check, held, returning, unknown, phaseOf, currentPiece, givenPiece, isLeaf, gripOf}
+use Rattle.lock.specs.rules.Steps.{ticketTaken, turnAwaited, climbed, unblocked, bitsClaimed, occClaimed, noticeGiven, waited, checkPassed, wordReturned, turnReturned, wanted, Access, none, read, add, swap, applied, claimAccess, ownWordAccess, returnAccess, accessIn, Completion, goesTo, pieceClaimed, bitsReturned, gripReturned, givenBack, completedIn, outOfPatience, moved, givenUp}
 
 abbrev pub leaves : ℕ → Record → Moved
 leaves w r = record { number = 0; word = w; next = r }
@@ -132,21 +132,21 @@ module _ (s : Settings) (r : Record) (w : ℕ) where
   pub moved-row : (t : ℕ) → outOfPatience s r t ≡ false → moved s r w t ≡ ownMoved s r w t
   unfolding choose
   moved-row t e =
-      ap (λ (b : Bool). made (choose b none (accessIn s r (phaseOf (r .phase)))) w (choose b (goesTo (sentBack 4 r)) (completedIn s r w t (phaseOf (r .phase))))) e
+      ap (λ (b : Bool). made (choose b none (accessIn s r (phaseOf (r .phase)))) w (choose b (goesTo (givenUp r)) (completedIn s r w t (phaseOf (r .phase))))) e
       ∙ row-made t (phaseOf (r .phase))
 
-  pub moved-impatient : (t : ℕ) → outOfPatience s r t ≡ true → moved s r w t ≡ leaves w (sentBack 4 r)
+  pub moved-impatient : (t : ℕ) → outOfPatience s r t ≡ true → moved s r w t ≡ leaves w (givenUp r)
   unfolding choose applied
-  moved-impatient t e = ap (λ (b : Bool). made (choose b none (accessIn s r (phaseOf (r .phase)))) w (choose b (goesTo (sentBack 4 r)) (completedIn s r w t (phaseOf (r .phase))))) e
+  moved-impatient t e = ap (λ (b : Bool). made (choose b none (accessIn s r (phaseOf (r .phase)))) w (choose b (goesTo (givenUp r)) (completedIn s r w t (phaseOf (r .phase))))) e
 
-  pub moved-chosen : (t : ℕ) → moved s r w t ≡ choose (outOfPatience s r t) (leaves w (sentBack 4 r)) (ownMoved s r w t)
+  pub moved-chosen : (t : ℕ) → moved s r w t ≡ choose (outOfPatience s r t) (leaves w (givenUp r)) (ownMoved s r w t)
   unfolding choose
   moved-chosen t = by-patience (outOfPatience s r t) refl
     where
-      by-patience : (b : Bool) → outOfPatience s r t ≡ b → moved s r w t ≡ choose b (leaves w (sentBack 4 r)) (ownMoved s r w t)
+      by-patience : (b : Bool) → outOfPatience s r t ≡ b → moved s r w t ≡ choose b (leaves w (givenUp r)) (ownMoved s r w t)
       by-patience true e = moved-impatient t e
       by-patience false e = moved-row t e
 
   -- what holds of the row, and of the record that is sent back, holds of the step
-  pub on-moved : (P : Moved → Type 0) (t : ℕ) → P (leaves w (sentBack 4 r)) → P (ownMoved s r w t) → P (moved s r w t)
+  pub on-moved : (P : Moved → Type 0) (t : ℕ) → P (leaves w (givenUp r)) → P (ownMoved s r w t) → P (moved s r w t)
   on-moved P t back row = subst P (sym (moved-chosen t)) (on-choose P (outOfPatience s r t) _ _ (λ _. back) (λ _. row))

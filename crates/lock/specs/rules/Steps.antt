@@ -226,6 +226,9 @@ unfoldable pub outOfPatience : Settings → Record → ℕ → Bool
 outOfPatience s r t = leb 1 (r .phase) && leb (r .phase) 8 && ltb 0 (r .current) && leb (s .patience) (t - r .taken)
 
 -- "touches no word, sets outcome 4 and goes to returning instead of the phase's own work"
+abbrev pub givenUp : Record → Record
+givenUp r = sentBack 4 r
+
 abbrev pub touched : Settings → Record → ℕ → ℕ
 touched s r t = choose (outOfPatience s r t) 0 (ownTouched s r)
 
@@ -233,7 +236,7 @@ abbrev pub access : Settings → Record → ℕ → Access
 access s r t = choose (outOfPatience s r t) none (accessIn s r (phaseOf (r .phase)))
 
 abbrev pub completed : Settings → Record → ℕ → ℕ → Completion
-completed s r w t = choose (outOfPatience s r t) (goesTo (sentBack 4 r)) (completedIn s r w t (phaseOf (r .phase)))
+completed s r w t = choose (outOfPatience s r t) (goesTo (givenUp r)) (completedIn s r w t (phaseOf (r .phase)))
 
 -- ---- a step: the operation is found, applied to the word, and completed
 

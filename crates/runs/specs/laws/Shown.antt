@@ -11,8 +11,8 @@ use Rattle.lock.specs.declared.Client.{Client}
 use Rattle.lock.specs.declared.Record.{Record}
 use Rattle.lock.specs.declared.Settings.{Settings}
 use Rattle.lock.specs.declared.Stepped.{Stepped}
-use Rattle.lock.specs.rules.Records.{Phase, phaseOf, written, sentBack, idleClient}
-use Rattle.lock.specs.rules.Steps.{goesTo, completedIn, completed}
+use Rattle.lock.specs.rules.Records.{Phase, phaseOf, written, idleClient}
+use Rattle.lock.specs.rules.Steps.{goesTo, completedIn, completed, givenUp}
 use Rattle.lock.specs.rules.Calls.{answered}
 use Rattle.lock.specs.rules.Operations.{completedAnswer}
 use Rattle.lock.specs.rules.Table.{State, clientAt, openingNumber, opened, opening}
@@ -119,7 +119,7 @@ module _ (s : Settings) (c : Client) (e : c .«record» .phase ≡ 9) where
   stays-held : (u w : ℕ) → completed s r w u .next ≡ r
   unfolding choose completedIn
   stays-held u w =
-      ap (λ (b : Bool). choose b (goesTo (sentBack 4 r)) (completedIn s r w u (phaseOf (r .phase))) .next) (patient-taken s r u (omega arith))
+      ap (λ (b : Bool). choose b (goesTo (givenUp r)) (completedIn s r w u (phaseOf (r .phase))) .next) (patient-taken s r u (omega arith))
       ∙ ap (λ (p : Phase). completedIn s r w u p .next) (at-held (r .phase) e)
 
   held-seen : (f : Flight) → seenBy s c f .«record» ≡ r

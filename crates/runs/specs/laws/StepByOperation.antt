@@ -24,7 +24,7 @@ use Rattle.lock.specs.rules.Table.{State, step, clientOf, clientAt, call}
 use Rattle.lock.specs.rules.ByValue.{answerTo, wordsAfter}
 use Rattle.lock.specs.laws.CallLaws.{cause-hit, cause-skip, tree-passed, cause-tested, answer-refused}
 use Rattle.lock.specs.laws.OperationLaws.{access-back, PostTested, post-tested, operation-refused, operation-found}
-use Rattle.lock.specs.laws.Rows.{leaves, claimPiece, returnBits, returnInner, giveBack, movedIn, on-moved}
+use Rattle.lock.specs.laws.Rows.{claimPiece, returnBits, returnInner, giveBack, movedIn, on-moved}
 use Rattle.table.specs.laws.Causes.{tableCause}
 use Rattle.table.specs.laws.CauseLaws.{both-none}
 use Rattle.table.specs.laws.CallLaws.{set-same, table-refuses, table-takes}

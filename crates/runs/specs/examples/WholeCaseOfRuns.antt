@@ -1,0 +1,41 @@
+-- Examples, closed by computing: document 01's whole case as two runs make it, with their posts and answers crossing each other. The history that they make is that of document 01, and at its end the
+-- one run holds and the other is idle. Assumes nothing.
+use mathlib.Core.Path.{_≡_, refl}
+use mathlib.Core.List.{List, [], _∷_}
+use Rattle.base.specs.rules.Choice.{choose}
+use Rattle.word.specs.rules.Word.{field, matches, replaced, maskedSwap, leafBits, wantedBits, addFields}
+use Rattle.tree.specs.rules.Tree.{climb, leftmost, first, level, levelWithin, size, left, units, holder, wordCount}
+use Rattle.tree.specs.rules.Lists.{upward, ancestors, ancestor, notifies, notifiedFrom, notifyLevels, notifyList, row, descendants, nearest, checkList}
+use Rattle.cover.specs.rules.Cover.{part, over, total, rank}
+use Rattle.cover.specs.rules.Search.{before, lesser, behind, leastOf, rest, search, found, leastCover}
+use Rattle.cover.specs.rules.Answer.{levelsOutside, windowOutside}
+use Rattle.lock.specs.rules.Records.{phaseOf, pieces, pieceAt, isLeaf, gripOf, noticesOf, wordAt, written}
+use Rattle.lock.specs.rules.Unreadable.{numberTooLarge, idleFilled, notCovered, noCurrent, ticketTooLarge, fieldsWrong, listLength, placePast, noticesWrong, timeAhead, phaseElsewhere, heldEarly, outcomeWrong, lacksGrip, givingWrong, outOfPatienceFirst, takenFirst, unreadable}
+use Rattle.lock.specs.rules.Steps.{touchedIn, startPhase, begin, firstNoted, taken, ticketTaken, turnAwaited, goUp, climbed, unblocked, bitsClaimed, occClaimed, late, allNotified, noticeGiven, waited, checkPassed, pieceReturned, wordReturned, turnReturned, outOfPatience, applied, claimAccess, ownWordAccess, returnAccess, accessIn, pieceClaimed, bitsReturned, gripReturned, givenBack, completedIn}
+use Rattle.lock.specs.rules.Calls.{firstCause, settingsOutside, treeTests, clientsOutside, clientTests, requestTests, stepTests, releaseTests, cancelTests, requested, released, cancelled, answered}
+use Rattle.lock.specs.rules.Table.{request, release, clientOf, clientAt, ownTests, numberOf, after, call, openingNumber, opened, opening}
+use Rattle.lock.specs.rules.Operations.{operationAt, accessOf, postTests, operationAnswer, completedTests, completedAnswer, ownRequestAnswer, ownReleaseAnswer}
+use Rattle.lock.specs.examples.WholeCase.{settings, lent, calls}
+use Rattle.runs.specs.rules.Network.{Network, runAt, clientOn, started, Act, own, post, carry, complete, ownNext, ownCalls, same, asks, posts, carries, completes, act, acts, askedBy, carriedBy, callsOf, historyOf, HoldsOwn}
+
+abbrev happened : List Act
+happened =
+    own (request 0 10 20) ∷ own (request 1 0 256)
+    -- both post; 1's ticket is taken after 0 has read the root, and its answer comes back first
+    ∷ post 1 0 ∷ post 0 1 ∷ carry 0 1 ∷ carry 1 2 ∷ complete 1 ∷ complete 0
+    ∷ post 1 2 ∷ carry 1 2 ∷ complete 1
+    -- 1 sets Occ, 0 takes its bits: each completes by a clock that it reads when its answer is there
+    ∷ post 1 2 ∷ post 0 1 ∷ carry 1 3 ∷ carry 0 4 ∷ complete 0 ∷ complete 1
+    -- 0's last notice, in time: it holds
+    ∷ post 0 4 ∷ carry 0 5 ∷ complete 0
+    -- 1 has waited, and its check finds 0's notice
+    ∷ post 1 8 ∷ carry 1 8 ∷ complete 1 ∷ post 1 8 ∷ carry 1 8 ∷ complete 1
+    -- 0 gives back while 1 reads again
+    ∷ own (release 0) ∷ post 0 9 ∷ carry 0 9 ∷ complete 0 ∷ post 1 10 ∷ post 0 9 ∷ carry 0 9 ∷ carry 1 10 ∷ complete 1 ∷ complete 0 ∷ []
+
+abbrev net : Network
+net = acts settings (started (opening settings lent .state)) happened
+
+pub whole-case-of-runs : (historyOf settings (started (opening settings lent .state)) happened ≡ calls 5) × HoldsOwn net 1 0 256 × (clientOn net 0 .«record» .phase ≡ 0)
+unfolding call numberOf after ownTests clientAt clientOf opening openingNumber opened firstCause settingsOutside treeTests clientsOutside clientTests requestTests stepTests releaseTests cancelTests requested released cancelled touchedIn startPhase begin firstNoted taken ticketTaken turnAwaited goUp climbed unblocked bitsClaimed occClaimed late allNotified noticeGiven waited checkPassed pieceReturned wordReturned turnReturned applied claimAccess ownWordAccess returnAccess accessIn pieceClaimed bitsReturned gripReturned givenBack completedIn numberTooLarge idleFilled notCovered noCurrent ticketTooLarge fieldsWrong listLength placePast noticesWrong timeAhead phaseElsewhere heldEarly outcomeWrong lacksGrip givingWrong outOfPatienceFirst takenFirst unreadable phaseOf pieces pieceAt isLeaf gripOf noticesOf wordAt written levelsOutside windowOutside lesser behind leastOf rest search found leastCover before part over total rank upward ancestors ancestor notifies notifiedFrom notifyLevels notifyList row descendants nearest checkList climb leftmost first level levelWithin size left units holder wordCount field addFields matches replaced maskedSwap leafBits wantedBits choose outOfPatience operationAt accessOf postTests operationAnswer completedTests completedAnswer ownRequestAnswer ownReleaseAnswer answered runAt ownNext ownCalls same asks posts carries completes act acts askedBy carriedBy callsOf historyOf
+whole-case-of-runs = (refl, record { held = refl; from = refl; to = refl }, refl)

@@ -1,0 +1,53 @@
+-- Laws for a run that reads its clock when an operation is done: by which clocks it may complete. A later piece may run out of patience while its claim or its notice is on the way; by the clock
+-- t1 + T the claim is late in any case, and if more than the wait was left of its patience when it read its parent, patience has not run out by then. Assumes nothing.
+use mathlib.Core.Path.{_≡_, refl, sym, ap, ap₂, _∙_}
+use mathlib.Core.Bool.{Bool, true, false, not, _&&_}
+use mathlib.Core.List.{[], _∷_}
+use Prim.Native.Nat.{ℕ, _+_, _-_, _*_, _≤_, _<_}
+use native.Mathlib.Omega.{arith}
+use borrow.Author.Tests.{eq-eqb, le-ltb, lt-leb}
+use lib.Dec.{eqb, leb, ltb}
+use Rattle.base.specs.rules.Choice.{choose}
+use Rattle.base.specs.laws.TestLaws.{second-false}
+use Rattle.lock.specs.declared.Client.{Client}
+use Rattle.lock.specs.declared.Operation.{Operation}
+use Rattle.lock.specs.declared.Record.{Record}
+use Rattle.lock.specs.declared.Settings.{Settings}
+use Rattle.lock.specs.rules.Records.{phaseOf}
+use Rattle.lock.specs.rules.Unreadable.{unreadable}
+use Rattle.lock.specs.rules.Steps.{none, accessIn, ownTouched, outOfPatience, late}
+use Rattle.lock.specs.rules.Calls.{firstCause, settingsOutside}
+use Rattle.lock.specs.rules.Operations.{operationAt, refusedOperation, postTests, operationAnswer}
+use Rattle.lock.specs.rules.Readings.{NotSlow}
+use Rattle.runs.specs.rules.Network.{same}
+
+-- an operation is the same as itself
+pub same-itself : (o : Operation) → same o o ≡ true
+unfolding same
+same-itself o =
+    let e : (n : ℕ) → eqb n n ≡ true = λ n. eq-eqb n n refl in
+    λ i. e (o .number) i && e (o .kind) i && e (o .node) i && e (o .compared) i && e (o .expected) i && e (o .swapped) i && e (o .value) i
+
+-- a clock that does not go back tells only whether patience has run out
+pub same-operation : (s : Settings) (c : Client) (p u : ℕ) → c .clock ≤ p → c .clock ≤ u → outOfPatience s (c .«record») p ≡ outOfPatience s (c .«record») u
+    → operationAnswer s c p ≡ operationAnswer s c u
+unfolding operationAnswer postTests
+same-operation s c p u a b e =
+    let r = c .«record» in
+    ap₂ (λ (back out : Bool). let number = firstCause ((settingsOutside s, 1) ∷ (back, 5) ∷ (unreadable s r (c .clock), 6) ∷ []) in choose (eqb number 0) (operationAt (choose out 0 (ownTouched s r)) (choose out none (accessIn s r (phaseOf (r .phase))))) (refusedOperation number))
+    (le-ltb p (c .clock) a ∙ sym (le-ltb u (c .clock) b)) e
+
+module _ (s : Settings) (r : Record) where
+  -- who begins to climb with more than the wait of its patience left is patient until t1 + T
+  pub patient-until : 0 < s .patience → r .t1 + s .wait < r .taken + s .patience → (t : ℕ) → t ≤ r .t1 + s .wait → outOfPatience s r t ≡ false
+  unfolding outOfPatience
+  patient-until some h t b = second-false (leb 1 (r .phase) && leb (r .phase) 8 && ltb 0 (r .current)) (leb (s .patience) (t - r .taken)) (lt-leb (s .patience) (t - r .taken) (omega arith))
+
+  -- and late from then on
+  pub late-from : (t : ℕ) → r .t1 + s .wait ≤ t → late s r t ≡ true
+  unfolding late
+  late-from t b = ap not (le-ltb (10001 * (t - r .t1)) (9999 * s .wait) (omega arith))
+
+-- and of that clock nothing else is asked
+pub late-suffices : (wait t u m n : ℕ) → t + wait ≤ u → NotSlow wait t u m n
+late-suffices wait t u m n b = λ _. omega arith
