@@ -77,13 +77,19 @@ def named(names, numbers):
     return ", ".join(f"{name} {shown(number)}" for name, number in zip(names, numbers))
 
 
-def report(name, count, found):
-    """One line for the test, and a line for each of the first few differences."""
+def described(difference):
+    """A case and its answer, in three lines."""
+    case, answer = difference
+    arguments, results = NAMES[case.call]
+    return (f"    {case.call} of {named(arguments, case.arguments)}\n"
+            f"        expected {named(results, case.expected)}\n"
+            f"        got      {named(results, answer)}")
+
+
+def report(name, count, found, text=described):
+    """One line for the test, and the texts of the first few differences."""
     verdict = "ok" if not found else f"FAILED, {len(found)} differ"
     print(f"{name}: {count} cases, {verdict}", flush=True)
-    for case, answer in found[:SHOWN]:
-        arguments, results = NAMES[case.call]
-        print(f"    {case.call} of {named(arguments, case.arguments)}")
-        print(f"        expected {named(results, case.expected)}")
-        print(f"        got      {named(results, answer)}")
+    for difference in found[:SHOWN]:
+        print(text(difference))
     return not found

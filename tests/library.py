@@ -3,6 +3,7 @@
 import re
 import subprocess
 from array import array
+from functools import lru_cache
 from pathlib import Path
 
 from model.record import Record, Settings
@@ -38,8 +39,10 @@ def command(*words):
         raise SystemExit(f"failed: {' '.join(map(str, words))}")
 
 
+@lru_cache(maxsize=None)
 def made(path):
-    """The file of that path under target/. The Makefile has it proved and built, unless it is newer than all that it is built from."""
+    """The file of that path under target/. The Makefile has it proved and built, unless it is newer than all that it is built from. It is asked
+    but once, since it must not be called twice at the same time."""
     command("make", "--silent", f"target/{path}")
     return ROOT / "target" / path
 

@@ -2,7 +2,6 @@
 model does, and everything that must occur does."""
 
 from collections import Counter
-from concurrent.futures import ProcessPoolExecutor
 from functools import lru_cache
 
 from compare import NAMES, Case, case
@@ -67,9 +66,8 @@ def seen_in_pages(pages):
 SEEN = {RANGELOG: seen_in_log, RANGEPAGES: seen_in_pages}
 
 
-def run_drawn(kind_and_seed):
+def run_drawn(kind, seed):
     """For each program the expected numbers and those of its run on one random file, and what it shows."""
-    kind, seed = kind_and_seed
     data, found = drawn(kind, seed), []
     for program in PROGRAMS:
         expected, ran = program.expected(data), program.run(data)
@@ -82,12 +80,8 @@ def run_drawn(kind_and_seed):
 
 @lru_cache(maxsize=None)
 def all_drawn():
-    """What came of each random file, on all processors."""
-    for program in PROGRAMS:
-        program.command()
-    asked = [(kind, seed) for seed in range(SEEDS) for kind in DRAWN]
-    with ProcessPoolExecutor() as pool:
-        return dict(zip(asked, pool.map(run_drawn, asked, chunksize=16)))
+    """What came of each random file."""
+    return {(kind, seed): run_drawn(kind, seed) for seed in range(SEEDS) for kind in DRAWN}
 
 
 def random_schedules(place, kind):

@@ -1,7 +1,6 @@
 """Cases for the compiled step count: held to the model, which counts in a run, for windows of every class, random ones, and those that are
 refused; and that the windows find each broken step count out."""
 
-from concurrent.futures import ProcessPoolExecutor
 from functools import lru_cache
 from itertools import islice
 from random import Random
@@ -26,7 +25,7 @@ NAMES["right step count"] = ("levels",), ("windows unlike",)
 NAMES["broken step count"] = ("place in the list of broken step counts",), ("found out",)
 
 RANDOM_WINDOWS = 24
-TREES = [(h, m) for h in reversed(tree.LEVELS) for m in tree.DISTANCES]
+TREES = [(h, m) for h in tree.LEVELS for m in tree.DISTANCES]
 
 
 class Counted(NamedTuple):
@@ -42,9 +41,8 @@ def counted(h, m, window):
     return Counted((h, m, *window), answer, None if answer.number else class_of(h, *window))
 
 
-def counted_in_tree(h_and_m):
+def counted_in_tree(h, m):
     """Windows of every class, then random ones of every size, some of which are refused."""
-    h, m = h_and_m
     rng = Random(f"step counts at {h} with {m}")
     windows = [window for levels in classes(h) for window in windows_of(rng, h, levels)]
     return [counted(h, m, window) for window in windows + list(islice(cover_cases.windows_of(h, rng), RANDOM_WINDOWS))]
@@ -52,9 +50,8 @@ def counted_in_tree(h_and_m):
 
 @lru_cache(maxsize=None)
 def all_counted():
-    """By H and m what the model counts, on all processors."""
-    with ProcessPoolExecutor() as pool:
-        return dict(zip(TREES, pool.map(counted_in_tree, TREES)))
+    """By H and m what the model counts."""
+    return {(h, m): counted_in_tree(h, m) for h, m in TREES}
 
 
 def counted_at(h):

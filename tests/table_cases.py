@@ -3,7 +3,6 @@ of every length, and demand 3 over random histories that the compiled calls make
 any."""
 
 from collections import Counter
-from concurrent.futures import ProcessPoolExecutor
 from functools import lru_cache
 from itertools import cycle
 from random import Random
@@ -160,9 +159,8 @@ def numbered_shapes():
     return short + [(seed, shape, TrueClocks) for seed, shape in enumerate(long_waits(), len(short))]
 
 
-def counts_of(numbered_shape):
+def counts_of(seed, shape, clocks):
     """What is counted in one random history made by the compiled calls from an accepted opening."""
-    seed, shape, clocks = numbered_shape
     lock = Table(shape.settings, [TOP] * tree.node_count(shape.settings.levels), [FILLED] * shape.clients)
     if lock.open() != 0:
         return Counter({("claim", 2): 1})
@@ -175,11 +173,8 @@ def counts_of(numbered_shape):
 
 @lru_cache(maxsize=None)
 def histories():
-    """Each history's shape and seed, with what was counted in it, on all processors."""
-    library()
-    numbered = numbered_shapes()
-    with ProcessPoolExecutor() as pool:
-        return list(zip(numbered, pool.map(counts_of, numbered, chunksize=4)))
+    """Each history's shape and seed, with what was counted in it."""
+    return [(numbered, counts_of(*numbered)) for numbered in numbered_shapes()]
 
 
 def demand_3():
