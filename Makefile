@@ -34,6 +34,7 @@ PROGRAMS = target/bin/rangelog target/bin/rangepages
 # The proved parts of the library: each archive has the exported functions of its crate.
 PROVED = target/staticlib/libtable.a target/staticlib/libpages.a target/staticlib/libcalendar.a
 MANUALS = $(wildcard man/*.1)
+HEADERS = $(wildcard include/*.h)
 # The declarations and `Table`: for each language the file that a program names, and beside it the one that this file has.
 TABLES = $(wildcard include/*.rs) $(wildcard python/*.py)
 
@@ -59,7 +60,7 @@ target/bin/%: $(CRATES)
 target/staticlib/lib%.a: $(CRATES)
 	rt staticlib $*
 
-$(BUILT)/texts.o: library/texts.c include/nolthewyr.h
+$(BUILT)/texts.o: library/texts.c $(HEADERS)
 	mkdir -p $(BUILT)
 	$(CC) $(CHECKED) $(CFLAGS) -fPIC -I include -c $< -o $@
 
@@ -84,7 +85,7 @@ install: all
 	install -m 755 $(SHARED) $(DESTDIR)$(LIBDIR)/libnolthewyr.so.$(VERSION)
 	ln -sf libnolthewyr.so.$(VERSION) $(DESTDIR)$(LIBDIR)/libnolthewyr.so.$(SERIES)
 	ln -sf libnolthewyr.so.$(SERIES) $(DESTDIR)$(LIBDIR)/libnolthewyr.so
-	install -m 644 include/nolthewyr.h $(DESTDIR)$(INCLUDEDIR)
+	install -m 644 $(HEADERS) $(DESTDIR)$(INCLUDEDIR)
 	sed -e 's|@PREFIX@|$(PREFIX)|; s|@LIBDIR@|$(LIBDIR)|; s|@INCLUDEDIR@|$(INCLUDEDIR)|; s|@DATADIR@|$(DATADIR)|; s|@VERSION@|$(VERSION)|' \
 	    packaging/nolthewyr.pc.in > $(DESTDIR)$(PKGCONFIGDIR)/nolthewyr.pc
 	install -m 644 $(TABLES) $(DESTDIR)$(DATADIR)
@@ -93,7 +94,7 @@ install: all
 uninstall:
 	rm -f $(addprefix $(DESTDIR)$(BINDIR)/,$(notdir $(PROGRAMS) $(SCHEDULE)))
 	rm -f $(addprefix $(DESTDIR)$(LIBDIR)/libnolthewyr.,a so so.$(SERIES) so.$(VERSION))
-	rm -f $(DESTDIR)$(INCLUDEDIR)/nolthewyr.h $(DESTDIR)$(PKGCONFIGDIR)/nolthewyr.pc
+	rm -f $(addprefix $(DESTDIR)$(INCLUDEDIR)/,$(notdir $(HEADERS))) $(DESTDIR)$(PKGCONFIGDIR)/nolthewyr.pc
 	rm -f $(addprefix $(DESTDIR)$(MANDIR)/,$(notdir $(MANUALS)))
 	rm -f $(addprefix $(DESTDIR)$(DATADIR)/,$(notdir $(TABLES)))
 	rm -rf $(DESTDIR)$(DATADIR)/__pycache__

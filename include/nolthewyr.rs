@@ -123,6 +123,44 @@ pub fn calendar_quarter(calendar: Calendar, unit: u64) -> Result<Quarter, Cause>
     accepted(answer.number).map(|()| answer.at)
 }
 
+// A run on another machine than the words: its client goes in and comes back by value, and starts as `Client::default()`. docs/REMOTE.md says
+// how an operation is carried out over a network, and when the clock is read.
+
+/// Which operation the client posts now, by its own clock.
+pub fn operation(client: Client, settings: Settings, clock: u64) -> Result<OperationAnswer, Cause> {
+    let answer = nolthewyr_operation(client, settings, clock);
+    accepted(answer.number).map(|()| answer)
+}
+
+/// The word that an operation leaves where it finds this one.
+pub fn applied(operation: OperationAnswer, found: u64) -> u64 {
+    nolthewyr_applied(operation, found)
+}
+
+/// The client after its operation, which found this word.
+pub fn completed(client: Client, settings: Settings, clock: u64, found: u64) -> Result<Client, Cause> {
+    next(nolthewyr_completed(client, settings, clock, found))
+}
+
+/// The client after it has asked for [left, right).
+pub fn own_request(client: Client, settings: Settings, left: u64, right: u64) -> Result<Client, Cause> {
+    next(nolthewyr_own_request(client, settings, left, right))
+}
+
+/// The client after its holding has ended; it gives its words back by operations until it is idle.
+pub fn own_release(client: Client, settings: Settings) -> Result<Client, Cause> {
+    next(nolthewyr_own_release(client, settings))
+}
+
+/// The client after it has given up a window that is not yet held; what it has of it, it gives back by operations until it is idle.
+pub fn own_cancel(client: Client, settings: Settings) -> Result<Client, Cause> {
+    next(nolthewyr_own_cancel(client, settings))
+}
+
+fn next(answer: ClientAnswer) -> Result<Client, Cause> {
+    accepted(answer.number).map(|()| answer.next)
+}
+
 /// The version of the library.
 pub fn version() -> &'static str {
     library_text(nolthewyr_version())

@@ -29,6 +29,8 @@ named_number!(Phase by nolthewyr_phase_text: IDLE = 0, TICKET = 1, TURN = 2, CLI
 named_number!(Outcome by nolthewyr_outcome_text: NONE = 0, RELEASED = 1, LATE = 2, CANCELLED = 3, OUT_OF_PATIENCE = 4);
 named_number!(Cause by nolthewyr_cause_text: ACCEPTED = 0, SETTINGS = 1, WORD_COUNT = 2, CLIENT_COUNT = 3, CLIENT = 4, CLOCK = 5,
     UNREADABLE = 6, WINDOW = 7, PHASE = 8, CLEAR_BIT = 9, CALENDAR = 12, LAST_QUARTER = 13, CLOSED = 14);
+// What an operation does to its word.
+named_number!(Operation by nolthewyr_operation_text: NONE = 0, READ = 1, ADD = 2, SWAP = 3);
 
 impl std::error::Error for Cause {}
 
@@ -145,6 +147,25 @@ pub struct CalendarQuarterAnswer {
     pub at: Quarter,
 }
 
+#[repr(C)]
+#[derive(Clone, Copy, Debug, Default, PartialEq)]
+pub struct OperationAnswer {
+    pub number: u64,
+    pub kind: Operation,
+    pub node: u64,
+    pub compared: u64,
+    pub expected: u64,
+    pub swapped: u64,
+    pub value: u64,
+}
+
+#[repr(C)]
+#[derive(Clone, Copy, Debug, Default, PartialEq)]
+pub struct ClientAnswer {
+    pub number: u64,
+    pub next: Client,
+}
+
 /// A text that the library owns: plain letters, ended by 0, and there as long as the program runs.
 pub(super) fn library_text(text: *const c_char) -> &'static str {
     unsafe { CStr::from_ptr(text) }.to_str().unwrap_or_default()
@@ -165,8 +186,15 @@ unsafe extern "C" {
     pub safe fn nolthewyr_word_count(levels: u64) -> u64;
     pub fn nolthewyr_calendar_window(hours: *const u64, hour_count: usize, calendar: Calendar, first: Quarter, last: Quarter) -> CalendarWindowAnswer;
     pub safe fn nolthewyr_calendar_quarter(calendar: Calendar, unit: u64) -> CalendarQuarterAnswer;
+    pub safe fn nolthewyr_operation(client: Client, settings: Settings, clock: u64) -> OperationAnswer;
+    pub safe fn nolthewyr_applied(operation: OperationAnswer, found: u64) -> u64;
+    pub safe fn nolthewyr_completed(client: Client, settings: Settings, clock: u64, found: u64) -> ClientAnswer;
+    pub safe fn nolthewyr_own_request(client: Client, settings: Settings, left: u64, right: u64) -> ClientAnswer;
+    pub safe fn nolthewyr_own_release(client: Client, settings: Settings) -> ClientAnswer;
+    pub safe fn nolthewyr_own_cancel(client: Client, settings: Settings) -> ClientAnswer;
     pub safe fn nolthewyr_phase_text(number: u64) -> *const c_char;
     pub safe fn nolthewyr_outcome_text(number: u64) -> *const c_char;
     pub safe fn nolthewyr_cause_text(number: u64) -> *const c_char;
+    pub safe fn nolthewyr_operation_text(number: u64) -> *const c_char;
     pub safe fn nolthewyr_version() -> *const c_char;
 }

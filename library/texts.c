@@ -46,6 +46,13 @@ static const char *const causes[] = {
     [NOLTHEWYR_CAUSE_CLOSED] = "ward closed in some quarter of the window",
 };
 
+static const char *const operations[] = {
+    [NOLTHEWYR_OPERATION_NONE] = "none",
+    [NOLTHEWYR_OPERATION_READ] = "read",
+    [NOLTHEWYR_OPERATION_ADD] = "add",
+    [NOLTHEWYR_OPERATION_SWAP] = "swap",
+};
+
 static const char *text(const char *const *texts, size_t count, uint64_t number, const char *unknown)
 {
     return number < count ? texts[number] : unknown;
@@ -64,6 +71,11 @@ const char *nolthewyr_outcome_text(uint64_t number)
 const char *nolthewyr_cause_text(uint64_t number)
 {
     return text(causes, COUNT(causes), number, "unknown cause");
+}
+
+const char *nolthewyr_operation_text(uint64_t number)
+{
+    return text(operations, COUNT(operations), number, "unknown operation");
 }
 
 const char *nolthewyr_version(void)

@@ -19,8 +19,8 @@ from threading import RLock
 
 # All that a program names is found here, whichever of the two files has it.
 from nolthewyr_linked import (
-    FUNCTIONS, LEAST, SERIES, Calendar, CalendarQuarterAnswer, CalendarWindowAnswer, Call, Cause, Client, CoverAnswer, Outcome, Phase, Quarter,
-    Record, Row, RunPageAnswer, Settings, StepCountAnswer, fitting, library, library_file)
+    FUNCTIONS, LEAST, SERIES, Calendar, CalendarQuarterAnswer, CalendarWindowAnswer, Call, Cause, Client, ClientAnswer, CoverAnswer, Operation,
+    OperationAnswer, Outcome, Phase, Quarter, Record, Row, RunPageAnswer, Settings, StepCountAnswer, fitting, library, library_file)
 
 TOO_MANY_CLIENTS = 32768
 
@@ -138,6 +138,40 @@ def calendar_quarter(calendar, unit):
     return accepted_answer(library().nolthewyr_calendar_quarter(calendar, fitting(unit))).at
 
 
+# A run on another machine than the words: its client goes in and comes back by value, and starts as Client(). docs/REMOTE.md says how an
+# operation is carried out over a network, and when the clock is read.
+
+
+def operation(client, settings, clock):
+    """Which operation the client posts now, by its own clock."""
+    return accepted_answer(library().nolthewyr_operation(client, settings, fitting(clock)))
+
+
+def applied(operation, found):
+    """The word that an operation leaves where it finds this one."""
+    return library().nolthewyr_applied(operation, fitting(found))
+
+
+def completed(client, settings, clock, found):
+    """The client after its operation, which found this word."""
+    return accepted_answer(library().nolthewyr_completed(client, settings, fitting(clock), fitting(found))).next
+
+
+def own_request(client, settings, left, right):
+    """The client after it has asked for [left, right)."""
+    return accepted_answer(library().nolthewyr_own_request(client, settings, fitting(left), fitting(right))).next
+
+
+def own_release(client, settings):
+    """The client after its holding has ended; it gives its words back by operations until it is idle."""
+    return accepted_answer(library().nolthewyr_own_release(client, settings)).next
+
+
+def own_cancel(client, settings):
+    """The client after it has given up a window that is not yet held; what it has of it, it gives back by operations until it is idle."""
+    return accepted_answer(library().nolthewyr_own_cancel(client, settings)).next
+
+
 def phase_text(number):
     return library().nolthewyr_phase_text(fitting(number)).decode()
 
@@ -148,6 +182,10 @@ def outcome_text(number):
 
 def cause_text(number):
     return library().nolthewyr_cause_text(fitting(number)).decode()
+
+
+def operation_text(number):
+    return library().nolthewyr_operation_text(fitting(number)).decode()
 
 
 def version():

@@ -11,7 +11,7 @@ from pathlib import Path
 
 # Structs grow between versions, and functions come with the third number: a library of another series, or of a lower version, is not used.
 SERIES = "0.4"
-LEAST = 1
+LEAST = 2
 FILE = f"libnolthewyr.so.{SERIES}"
 
 Phase = IntEnum("Phase", "IDLE TICKET TURN CLIMB BLOCKED CLAIM NOTIFY WAIT CHECK HELD RETURNING", start=0)
@@ -21,6 +21,9 @@ Outcome = IntEnum("Outcome", "NONE RELEASED LATE CANCELLED OUT_OF_PATIENCE", sta
 Cause = IntEnum("Cause", {
     "ACCEPTED": 0, "SETTINGS": 1, "WORD_COUNT": 2, "CLIENT_COUNT": 3, "CLIENT": 4, "CLOCK": 5, "UNREADABLE": 6, "WINDOW": 7, "PHASE": 8,
     "CLEAR_BIT": 9, "CALENDAR": 12, "LAST_QUARTER": 13, "CLOSED": 14})
+
+# What an operation does to its word.
+Operation = IntEnum("Operation", "NONE READ ADD SWAP", start=0)
 
 
 def fitting(number):
@@ -67,6 +70,9 @@ class Client(Fields):
     """A client: its last clock, which is that of its last accepted step and 0 after an opening, and its record."""
 
     _fields_ = [("clock", c_uint64), ("record", Record)]
+
+    def __init__(self, clock=0, record=Record()):
+        super().__init__(fitting(clock), record)
 
 
 class Call(Numbers):
@@ -124,6 +130,18 @@ class CalendarQuarterAnswer(Fields):
     _fields_ = [("number", c_uint64), ("at", Quarter)]
 
 
+class OperationAnswer(Numbers):
+    """An operation on the word of a node, word `node` - 1: its kind, the masks and numbers of a swap, and in `value` the deltas of an add."""
+
+    _fields_ = numbers("number kind node compared expected swapped value")
+
+
+class ClientAnswer(Fields):
+    """A client after a call."""
+
+    _fields_ = [("number", c_uint64), ("next", Client)]
+
+
 LENT = POINTER(Client), c_size_t, POINTER(c_uint64), c_size_t, Settings
 FUNCTIONS = {
     "open": (LENT, c_uint64),
@@ -135,7 +153,12 @@ FUNCTIONS = {
     "word_count": ((c_uint64,), c_uint64),
     "calendar_window": ((POINTER(c_uint64), c_size_t, Calendar, Quarter, Quarter), CalendarWindowAnswer),
     "calendar_quarter": ((Calendar, c_uint64), CalendarQuarterAnswer),
-    **{f"{name}_text": ((c_uint64,), c_char_p) for name in ("phase", "outcome", "cause")},
+    "operation": ((Client, Settings, c_uint64), OperationAnswer),
+    "applied": ((OperationAnswer, c_uint64), c_uint64),
+    "completed": ((Client, Settings, c_uint64, c_uint64), ClientAnswer),
+    "own_request": ((Client, Settings, c_uint64, c_uint64), ClientAnswer),
+    **{name: ((Client, Settings), ClientAnswer) for name in ("own_release", "own_cancel")},
+    **{f"{name}_text": ((c_uint64,), c_char_p) for name in ("phase", "outcome", "cause", "operation")},
     "version": ((), c_char_p),
 }
 

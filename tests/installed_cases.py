@@ -26,6 +26,7 @@ EXAMPLES = ("take", take_lines, (3, 12), "client 0 needs"), ("ward", ward_lines,
 DOCUMENT = ROOT / "docs" / "LINKING.md"
 CASE = ROOT / "schedules" / "whole-case"
 PROGRAMS = "rangelog", "rangepages", "schedule"
+HEADERS = "nolthewyr.h", "nolthewyr_operations.h"
 RUST_FILES = "nolthewyr.rs", "nolthewyr_linked.rs"
 PYTHON_FILES = "nolthewyr.py", "nolthewyr_linked.py"
 # Versions that the Python files do not use, each with the least third number that they ask for: of other series, the one before among them,
@@ -72,7 +73,7 @@ def expected_files():
     [version] = asked("--modversion")
     shared = [f"lib/libnolthewyr.so{ending}" for ending in ("", f".{nolthewyr.SERIES}", f".{version}")]
     return {
-        *(f"bin/{program}" for program in PROGRAMS), *(f"share/man/man1/{program}.1" for program in PROGRAMS), "include/nolthewyr.h",
+        *(f"bin/{program}" for program in PROGRAMS), *(f"share/man/man1/{program}.1" for program in PROGRAMS), *(f"include/{header}" for header in HEADERS),
         "lib/libnolthewyr.a", *shared, "lib/pkgconfig/nolthewyr.pc", *(f"share/nolthewyr/{name}" for name in (*RUST_FILES, *PYTHON_FILES)),
     }
 

@@ -15,6 +15,8 @@ NAMES["compiled without a warning"] = ("place in the list of compilers",), ("exi
 NAMES["version"] = ("place",), ("that of the header",)
 
 HEADER = ROOT / "include" / "nolthewyr.h"
+# What a program has of C: that file and the one that it includes.
+DECLARED = "".join(path.read_text() for path in (HEADER, ROOT / "include" / "nolthewyr_operations.h"))
 # What a program has of Rust, and the file beside it with the structs, names and functions.
 RUST = ROOT / "include" / "nolthewyr.rs"
 RUST_LINKED = ROOT / "include" / "nolthewyr_linked.rs"
@@ -26,17 +28,18 @@ STRUCTS = {
     "cover_answer": ("cover", "Answer"), "step_count_answer": ("lock", "StepCount"), "row": ("pages", "Row"),
     "run_page_answer": ("pages", "RunPage"), "calendar": ("calendar", "Calendar"), "quarter": ("calendar", "Quarter"),
     "calendar_window_answer": ("calendar", "WindowAnswer"), "calendar_quarter_answer": ("calendar", "QuarterAnswer"),
+    "operation_answer": ("lock", "Operation"), "client_answer": ("lock", "Stepped"),
 }
 # The crates whose exported functions are linked.
 LINKED = "table", "pages", "calendar"
 
-# What the length of each lent slice is called, what C's types are in Rust, and what the structs that a function answers are called where
-# it is linked.
+# What the length of each lent slice is called, what C's types are in Rust, and what the structs that a function answers, or takes as another
+# has answered them, are called where it is linked.
 LENGTHS = {"clients": "client_count", "words": "word_count", "rows": "row_count", "hours": "hour_count"}
 C_TYPES = {"uint64_t": "u64", "size_t": "usize", "char": "c_char"}
 ANSWERS = {
     "cover::Answer": "CoverAnswer", "lock::StepCount": "StepCountAnswer", "RunPage": "RunPageAnswer", "WindowAnswer": "CalendarWindowAnswer",
-    "QuarterAnswer": "CalendarQuarterAnswer",
+    "QuarterAnswer": "CalendarQuarterAnswer", "Operation": "OperationAnswer", "Stepped": "ClientAnswer",
 }
 
 
@@ -51,9 +54,9 @@ def number_fields(fields, types):
 
 
 def rattle_fields(name, text):
-    """The names of a struct's fields in order, in Rattle or in Rust, where a phase and an outcome are numbers with names."""
+    """The names of a struct's fields in order, in Rattle or in Rust, where a phase, an outcome and an operation's kind are numbers with names."""
     [body] = re.findall(rf"pub struct {name} \{{(.*?)\}}", text, re.DOTALL)
-    return number_fields(re.findall(r"pub (\w+): (\w+),", body), ("u64", "Phase", "Outcome"))
+    return number_fields(re.findall(r"pub (\w+): (\w+),", body), ("u64", "Phase", "Outcome", "Operation"))
 
 
 def source_fields(crate, name):
@@ -66,7 +69,7 @@ def struct_of(type_):
 
 
 def c_fields(name):
-    [body] = re.findall(rf"typedef struct nolthewyr_{name} \{{([^}}]*)\}} nolthewyr_{name};", HEADER.read_text())
+    [body] = re.findall(rf"typedef struct nolthewyr_{name} \{{([^}}]*)\}} nolthewyr_{name};", DECLARED)
     return number_fields(((field, struct_of(type_)) for type_, field in re.findall(r"(\w+) (\w+);", body)), ("uint64_t",))
 
 
@@ -98,7 +101,7 @@ def by_rattle(parameters):
         if lent := re.fullmatch(r"&(mut )?\[(\w+)\]", type_):
             yield from (f"{name}: *{'mut' if lent[1] else 'const'} {lent[2]}", f"{LENGTHS[name]}: usize")
         else:
-            yield f"{name}: {type_}"
+            yield f"{name}: {ANSWERS.get(type_, type_)}"
 
 
 def type_in_c(const, type_, pointer):
@@ -137,7 +140,7 @@ def exported_by_source():
 
 def declared_by_c():
     return functions_in(
-        HEADER.read_text(), r"^(?P<result>\w[\w ]*[ *])(?P<name>nolthewyr_\w+)\((?P<parameters>[^)]*)\);", by_c, result_in_c)
+        DECLARED, r"^(?P<result>\w[\w ]*[ *])(?P<name>nolthewyr_\w+)\((?P<parameters>[^)]*)\);", by_c, result_in_c)
 
 
 def declared_by_rust():

@@ -1,23 +1,25 @@
-"""Cases for the numbers that the declarations name: each phase, outcome and cause has the documents' name in C, Rust and Python, and a
-text."""
+"""Cases for the numbers that the declarations name: each phase, outcome, cause and kind of operation has the documents' name in C, Rust and
+Python, and a text."""
 
 import re
 
 from compare import NAMES, case, unlike
 from compiled_table import library, nolthewyr
-from linking_cases import HEADER, RUST_LINKED, title
+from linking_cases import DECLARED, RUST_LINKED, title
 
 NAMES["declared names"] = ("language", "enumeration"), ("names", "names unlike")
 NAMES["text"] = ("enumeration", "number"), ("as the documents say",)
 
 # What the documents call each number, outcome 4 by document 02's patience that has run out. The names of causes are short ones for the rows
-# of document 01's table and of request 2.6; 10 and 11 are those of the programs alone, and have none.
+# of document 01's table and of request 2.6; 10 and 11 are those of the programs alone, and have none. The kinds of operations are document 01's
+# read, masked fetch-add and masked compare-and-swap, and none for a row by which no word is touched.
 ENUMERATIONS = {
     "phase": "idle ticket turn climb blocked claim notify wait check held returning".split(),
     "outcome": "none released late cancelled out_of_patience".split(),
     "cause": [
         *"accepted settings word_count client_count client clock unreadable window phase clear_bit".split(), None, None,
         *"calendar last_quarter closed".split()],
+    "operation": "none read add swap".split(),
 }
 
 # Words of the documents' table that the texts of the causes have.
@@ -30,13 +32,13 @@ CAUSE_WORDS = [
     "hours not one pair for each ward and day, over 96, or opening after closing; or no such ward, week, day, quarter or unit",
     "last quarter before the first, or in another ward", "closed in some quarter of the window",
 ]
-# The greatest number of 64 bits, and numbers of no phase, outcome or cause.
+# The greatest number of 64 bits, and numbers of no phase, outcome, cause or operation.
 TOP = 2 ** 64 - 1
 UNKNOWN = 2 ** 8, 2 ** 32, 2 ** 32 + 1, TOP
 
 
 def c_names(name):
-    return re.findall(rf"NOLTHEWYR_{name.upper()}_(\w+) = (\d+)", HEADER.read_text())
+    return re.findall(rf"NOLTHEWYR_{name.upper()}_(\w+) = (\d+)", DECLARED)
 
 
 def rust_names(name):
@@ -49,7 +51,7 @@ def python_names(name):
 
 
 def declared_names():
-    """Every phase, outcome and cause has the same name and number in all languages."""
+    """Every phase, outcome, cause and operation has the same name and number in all languages."""
     for place, names_of in enumerate((c_names, rust_names, python_names)):
         for number, (name, names) in enumerate(ENUMERATIONS.items()):
             found = [(named.lower(), int(at)) for named, at in names_of(name)]
@@ -58,7 +60,7 @@ def declared_names():
 
 
 def texts():
-    """Phases and outcomes are said by their names, causes by the documents' words, and every other number is said to be unknown."""
+    """Causes are said by the documents' words, all others by their names, and every other number is said to be unknown."""
     library()
     words = ENUMERATIONS | {"cause": CAUSE_WORDS}
     for place, (name, said) in enumerate(words.items()):
@@ -70,6 +72,6 @@ def texts():
 
 
 SUITES = {
-    "names, phases, outcomes and causes have the documents' names in all languages": declared_names,
+    "names, phases, outcomes, causes and operations have the documents' names in all languages": declared_names,
     "names, every number has a text": texts,
 }

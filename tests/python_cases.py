@@ -28,6 +28,18 @@ def window_with_hour(place, hour):
     return nolthewyr.calendar_window(hours, nolthewyr.Calendar(3, 1, 1), at, at)
 
 
+def by_value(outside):
+    """The calls of a client that has no words lent, each with one number outside."""
+    client, settings = nolthewyr.Client(), nolthewyr.Settings(2, 1, 5, 9)
+    return [
+        lambda: nolthewyr.Client(clock=outside), lambda: nolthewyr.OperationAnswer(value=outside),
+        lambda: nolthewyr.operation(client, settings, outside), lambda: nolthewyr.applied(nolthewyr.OperationAnswer(), outside),
+        lambda: nolthewyr.completed(client, settings, outside, 0), lambda: nolthewyr.completed(client, settings, 0, outside),
+        lambda: nolthewyr.own_request(client, settings, outside, 20), lambda: nolthewyr.own_request(client, settings, 10, outside),
+        lambda: nolthewyr.operation_text(outside),
+    ]
+
+
 def numbers_that_do_not_fit():
     """ctypes cuts a number to its width, so that client 2^64 would be client 0. The Python file raises, and nothing is called."""
     library()
@@ -46,7 +58,7 @@ def numbers_that_do_not_fit():
             lambda: nolthewyr.Calendar(outside, 1, 1), lambda: nolthewyr.Calendar(levels=3, wards=1, weeks=outside),
             lambda: nolthewyr.Quarter(outside, 0, 0, 0), lambda: nolthewyr.Quarter(ward=0, week=0, day=0, quarter=outside),
             *(lambda place=place: window_with_hour(place, outside) for place in range(14)),
-            lambda: nolthewyr.calendar_quarter(nolthewyr.Calendar(3, 1, 1), outside),
+            lambda: nolthewyr.calendar_quarter(nolthewyr.Calendar(3, 1, 1), outside), *by_value(outside),
         ]
         for place, call in enumerate(calls):
             yield case("number that does not fit", [place], 1), raises(call)

@@ -13,10 +13,18 @@
 //!     calendar_window CALENDAR FIRST LAST HOURS   the number and the edges; CALENDAR is levels wards weeks, and FIRST and LAST are each
 //!                                                 ward week day quarter
 //!     calendar_quarter CALENDAR UNIT              the number, and the ward, week, day and quarter
-//!     phase NUMBER                                its text; outcome and cause likewise
+//!     operation SETTINGS CLIENT CLOCK             the number, and the operation; SETTINGS is levels distance wait patience, and CLIENT is the
+//!                                                 last clock and the record
+//!     applied OPERATION FOUND                     the word; OPERATION is all of its fields, the number first
+//!     completed SETTINGS CLIENT CLOCK FOUND       the number, and the client, as it was if it is refused; the others likewise
+//!     own_request SETTINGS CLIENT LEFT RIGHT
+//!     own_release SETTINGS CLIENT
+//!     own_cancel SETTINGS CLIENT
+//!     phase NUMBER                                its text; outcome, cause and operation likewise
 
-use nolthewyr::{calendar_quarter, calendar_window, cover, step_count, word_count};
-use nolthewyr::{Calendar, Cause, CoverAnswer, Outcome, Phase, Quarter, Record, Row, RunPageAnswer, Settings, Table};
+use nolthewyr::{applied, calendar_quarter, calendar_window, completed, cover, operation, own_cancel, own_release, own_request};
+use nolthewyr::{step_count, word_count, Calendar, Cause, Client, CoverAnswer, Operation, OperationAnswer, Outcome, Phase, Quarter};
+use nolthewyr::{Record, Row, RunPageAnswer, Settings, Table};
 use std::io::stdin;
 
 /// The numbers of a record, in its order.
@@ -96,6 +104,40 @@ fn quarter_of_unit(numbers: &[u64]) -> String {
     format!("{number} {ward} {week} {day} {quarter}")
 }
 
+/// The settings, the client, and what is behind them.
+fn asked(numbers: &[u64]) -> (Settings, Client, &[u64]) {
+    let [levels, distance, wait, patience, clock, phase, outcome, left, right, first, second, current, giving, grip, ticket, place, notices, t1, t0, taken] =
+        numbers[..20].try_into().expect("settings, a clock and a record");
+    let (phase, outcome) = (Phase(phase), Outcome(outcome));
+    let record = Record { phase, outcome, left, right, first, second, current, giving, grip, ticket, place, notices, t1, t0, taken };
+    (Settings { levels, distance, wait, patience }, Client { clock, record }, &numbers[20..])
+}
+
+fn posted(numbers: &[u64]) -> String {
+    let (settings, client, beside) = asked(numbers);
+    let refused = |cause: Cause| OperationAnswer { number: cause.0, ..OperationAnswer::default() };
+    let OperationAnswer { number, kind, node, compared, expected, swapped, value } =
+        operation(client, settings, beside[0]).unwrap_or_else(refused);
+    format!("{number} {} {node} {compared} {expected} {swapped} {value}", kind.0)
+}
+
+fn left_by(numbers: &[u64]) -> String {
+    let &[number, kind, node, compared, expected, swapped, value, found] = numbers else { panic!("an operation and a word") };
+    applied(OperationAnswer { number, kind: Operation(kind), node, compared, expected, swapped, value }, found).to_string()
+}
+
+fn by_value(name: &str, numbers: &[u64]) -> String {
+    let (settings, client, beside) = asked(numbers);
+    let made = match name {
+        "completed" => completed(client, settings, beside[0], beside[1]),
+        "own_request" => own_request(client, settings, beside[0], beside[1]),
+        "own_release" => own_release(client, settings),
+        _ => own_cancel(client, settings),
+    };
+    let (number, Client { clock, record }) = made.map_or_else(|cause| (cause.0, client), |next| (0, next));
+    format!("{number} {clock} {}", fields(&record))
+}
+
 fn main() {
     let mut table: Option<Table> = None;
     for line in stdin().lines() {
@@ -115,6 +157,10 @@ fn main() {
             ("calendar_window", numbers) => window_of_ward(numbers),
             ("calendar_quarter", numbers) => quarter_of_unit(numbers),
             ("pages", &[client]) => pages(table.as_ref().expect("an open table"), client as usize),
+            ("operation", &[number]) => Operation(number).to_string(),
+            ("operation", numbers) => posted(numbers),
+            ("applied", numbers) => left_by(numbers),
+            ("completed" | "own_request" | "own_release" | "own_cancel", numbers) => by_value(name, numbers),
             ("phase", &[number]) => Phase(number).to_string(),
             ("outcome", &[number]) => Outcome(number).to_string(),
             ("cause", &[number]) => Cause(number).to_string(),
