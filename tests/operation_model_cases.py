@@ -8,20 +8,15 @@ from broken_operations import RULES, broken
 from broken_rules import by_broken
 from compare import NAMES, Case, case
 from model import calls, operations, tree
-from model.operations import ADD, NONE, READ, SWAP
 from model.record import Record, Settings
-from operation_states import Step, asked_at, asked_at_bounds, asked_of_operations, asked_with_settings_outside
+from operation_states import (
+    MUST_OCCUR, MUST_OCCUR_ABOVE_H_2, any_operations, own_calls_at, own_calls_at_bounds, own_calls_outside, steps_at, steps_at_bounds, steps_outside)
 
 STEPPED = (*Settings._fields, "last clock", *Record._fields, "clock", "found")
 NAMES["step of the model"] = STEPPED, ("number", "clock", *Record._fields, "node", "word")
 NAMES["step as an operation in"] = ("phase", "kind", "number"), ("occurs",)
 NAMES["broken operation"] = ("place in the list of broken rules",), ("found out",)
 
-# What must occur of readable records: phase, kind and number. Where patience runs out nothing is touched.
-MUST_OCCUR = [
-    *((phase, NONE, 0) for phase in range(10)), (1, ADD, 0), (2, READ, 0), (3, READ, 0), (4, READ, 0), (5, ADD, 0), (5, SWAP, 0), (6, ADD, 0),
-    (8, READ, 0), (10, READ, 0), (10, ADD, 0), (10, SWAP, 0), (10, SWAP, 9), *((phase, NONE, number) for phase in range(11) for number in (5, 6)),
-]
 # Which part of what is asked of the compiled calls is asked of the model's own step, and which of the broken rules.
 PART_BY_STEP, PART_BROKEN = 4, 8
 
@@ -64,29 +59,27 @@ def by_operation(asked):
 def compared(questions, seen):
     """Each step that is asked, and in `seen` what occurs."""
     for asked in questions:
-        if isinstance(asked, Step):
-            posted, answer = by_operation(asked)
-            seen[asked.client.record.phase, posted.kind, answer[0]] += 1
-            arguments = *asked.settings, asked.client.clock, *asked.client.record, *asked[2:]
-            yield Case("step of the model", arguments, by_table(asked, posted.node)), answer
+        posted, answer = by_operation(asked)
+        seen[asked.client.record.phase, posted.kind, answer[0]] += 1
+        yield Case("step of the model", asked.arguments(), by_table(asked, posted.node)), answer
 
 
 def equal_to_a_step():
     """For every state the two agree, and every row of the phase table occurs."""
     seen = Counter()
     for h in tree.LEVELS:
-        yield from compared(asked_at(h, PART_BY_STEP), seen)
-    yield from compared(islice(asked_at_bounds(), None, None, PART_BY_STEP), seen)
-    yield from compared(asked_with_settings_outside(), seen)
-    for what in MUST_OCCUR:
+        yield from compared(steps_at(h, PART_BY_STEP), seen)
+    yield from compared(islice(steps_at_bounds(), None, None, PART_BY_STEP), seen)
+    yield from compared(steps_outside(), seen)
+    for what in MUST_OCCUR + MUST_OCCUR_ABOVE_H_2:
         yield case("step as an operation in", what, 1), int(seen[what] > 0)
 
 
 def broken_rules():
     """Of each broken rule some question shows it: compiled code with that fault would not answer as the model."""
-    questions = [
-        *(asked for h in (2, 3, 6) for asked in asked_at(h, PART_BROKEN)), *islice(asked_at_bounds(), None, None, PART_BROKEN),
-        *islice(asked_with_settings_outside(), None, None, PART_BROKEN), *islice(asked_of_operations(), None, None, PART_BROKEN)]
+    at_bounds = steps_at_bounds(), steps_outside(), own_calls_at_bounds(), own_calls_outside(), any_operations()
+    questions = [asked for h in (2, 3, 6) for asked in (*steps_at(h, PART_BROKEN), *own_calls_at(h, PART_BROKEN))]
+    questions += [asked for each in at_bounds for asked in islice(each, None, None, PART_BROKEN)]
     answered = [(asked, asked.answer()) for asked in questions]
     for place, rule in enumerate(RULES):
         with broken(rule):

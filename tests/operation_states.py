@@ -1,13 +1,14 @@
 """What is asked of a client that has no words lent, and what the model answers: steps as operations with the word that is found, from histories, in
 every phase, at and beside every bound, and damaged; the other calls of such a client; and what any operation leaves of any word."""
 
+from itertools import chain
 from random import Random
 from typing import NamedTuple
 
 from clock_states import timed_states
 from histories import TOP
 from model import operations, tree, word
-from model.operations import Operation
+from model.operations import ADD, NONE, READ, SWAP, Operation
 from model.record import Client, Settings
 from patience_states import states_and_calls, with_every_p
 from record_cases import any_window, step_clock
@@ -16,9 +17,20 @@ from word_cases import random_inner
 
 CALLS = 500
 HISTORIES, BUILT, CHANGED, ANY = 8, 6000, 4400, 1600
+# Which part of the states is asked the other calls.
+OWN_PART = 4
 OUTSIDE = 8
-OWN_CALLS = "own_request", "own_release", "own_cancel"
+# The other calls, and the numbers that they answer.
+OWN_CALLS = {"own_request": (0, 1, 6, 7, 8), "own_release": (0, 1, 6, 8), "own_cancel": (0, 1, 6, 8)}
 OPERATIONS = 20000
+# What must occur among the steps that are asked, phase, kind and number. Where patience runs out no word is touched: in 1, 2 and 8 of an inner
+# second piece, which H 2 has not.
+MUST_OCCUR = [
+    (0, NONE, 0), *((phase, NONE, 0) for phase in range(3, 8)), (9, NONE, 0), (1, ADD, 0), (2, READ, 0), (3, READ, 0), (4, READ, 0), (5, ADD, 0),
+    (5, SWAP, 0), (6, ADD, 0), (8, READ, 0), (10, READ, 0), (10, ADD, 0), (10, SWAP, 0), (10, SWAP, 9),
+    *((phase, NONE, number) for phase in range(11) for number in (5, 6)),
+]
+MUST_OCCUR_ABOVE_H_2 = [(phase, NONE, 0) for phase in (1, 2, 8)]
 
 
 class Step(NamedTuple):
@@ -35,6 +47,9 @@ class Step(NamedTuple):
         number, after = operations.completed(*self)
         return *posted, operations.applied(posted, self.found), number, after.clock, *after.record
 
+    def arguments(self):
+        return *self.settings, self.client.clock, *self.client.record, self.clock, self.found
+
 
 class OwnCall(NamedTuple):
     """One of the other calls of a client; a request has its edges."""
@@ -49,6 +64,9 @@ class OwnCall(NamedTuple):
         number, after = getattr(operations, self.call)(self.settings, self.client, *self.edges)
         return number, after.clock, *after.record
 
+    def arguments(self):
+        return *self.settings, self.client.clock, *self.client.record, *self.edges
+
 
 class Applied(NamedTuple):
     """Any operation, and the word that it finds."""
@@ -58,6 +76,9 @@ class Applied(NamedTuple):
 
     def answer(self):
         return (operations.applied(*self),)
+
+    def arguments(self):
+        return *self.posted, self.found
 
 
 def any_found(rng):
@@ -76,7 +97,7 @@ def step_by(rng, state, clock):
 
 
 def own_call(rng, state):
-    call = rng.choice(OWN_CALLS)
+    call = rng.choice(list(OWN_CALLS))
     levels = state.settings.levels if state.settings.levels in tree.LEVELS else 2
     return OwnCall(call, state.settings, state.client, any_window(rng, levels) if call == "own_request" else ())
 
@@ -93,33 +114,49 @@ def states_at(h, part):
     yield from (any_state(rng, h) for _ in range(any_fields))
 
 
-def asked_at(h, part=1):
-    """Of each of these states a step, by a clock about those that matter to it, and now and then another call."""
-    rng = Random(f"asked at {h}")
-    for state in states_at(h, part):
-        yield step_by(rng, state, step_clock(rng, state)) if rng.random() < 0.85 else own_call(rng, state)
+def steps_at(h, part=1):
+    """Of each of these states a step, by a clock about those that matter to it."""
+    rng = Random(f"steps at {h}")
+    return (step_by(rng, state, step_clock(rng, state)) for state in states_at(h, part))
 
 
-def asked_at_bounds():
+def own_calls_at(h, part=OWN_PART):
+    rng = Random(f"own calls at {h}")
+    return (own_call(rng, state) for state in states_at(h, part))
+
+
+def states_at_bounds():
     """Claims that are just late or just not, waits and patience that are just over or just not; every outcome and third time in every phase; and
-    every kind of P."""
-    rng = Random("asked at bounds")
-    for states in (timed_states(), states_and_calls(), with_every_p()):
-        for state, call in states:
-            if call.kind == "step":
-                yield step_by(rng, state, call.a)
-            elif f"own_{call.kind}" in OWN_CALLS:
-                yield OwnCall(f"own_{call.kind}", state.settings, state.client, (call.a, call.b) if call.kind == "request" else ())
+    every kind of P. Each with a call."""
+    return chain(timed_states(), states_and_calls(), with_every_p())
 
 
-def asked_with_settings_outside():
-    """Each setting outside its range."""
-    rng = Random("asked with settings outside their ranges")
+def steps_at_bounds():
+    rng = Random("steps at bounds")
+    return (step_by(rng, state, call.a) for state, call in states_at_bounds() if call.kind == "step")
+
+
+def own_calls_at_bounds():
+    for state, call in states_at_bounds():
+        if call.kind not in ("step", "unreadable"):
+            yield OwnCall(f"own_{call.kind}", state.settings, state.client, (call.a, call.b) if call.kind == "request" else ())
+
+
+def states_outside(rng):
+    """Each setting in turn outside its range."""
     for h in tree.LEVELS:
         for state in (built_state(rng, h) for _ in range(OUTSIDE)):
-            for settings in one_outside(state.settings):
-                outside = state._replace(settings=settings)
-                yield from (step_by(rng, outside, step_clock(rng, outside)), own_call(rng, outside))
+            yield from (state._replace(settings=settings) for settings in one_outside(state.settings))
+
+
+def steps_outside():
+    rng = Random("steps with settings outside their ranges")
+    return (step_by(rng, state, step_clock(rng, state)) for state in states_outside(rng))
+
+
+def own_calls_outside():
+    rng = Random("own calls with settings outside their ranges")
+    return (own_call(rng, state) for state in states_outside(rng))
 
 
 def any_mask(rng):
@@ -127,9 +164,9 @@ def any_mask(rng):
     return rng.choice([0, TOP, 1 << rng.randrange(64), word.wanted(0, rng.randrange(64), rng.randint(0, 64)), rng.getrandbits(64)])
 
 
-def asked_of_operations():
+def any_operations():
     """Kinds that there are and others, every mask, every delta, and words that are about what is expected."""
-    rng = Random("asked of operations")
+    rng = Random("any operations")
     for _ in range(OPERATIONS):
         kind = rng.choice([0, 1, 2, 2, 2, 3, 3, 3, 4, 6, 7, 2 ** 32 + 2, 2 ** 32 + 3, TOP])
         compared, expected, swapped = (any_mask(rng) for _ in range(3))
