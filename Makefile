@@ -1,4 +1,4 @@
-# The library nolthewyr and the programs rangelog, rangepages and schedule.
+# The libraries nolthewyr and nolthewyr_run, and the programs rangelog, rangepages, schedule, rangeserver and rangerun.
 #
 #     make                                            proves and builds everything into target/
 #     make install PREFIX=/somewhere [DESTDIR=/root]  installs it; PREFIX is /usr/local if not said
@@ -6,7 +6,7 @@
 #     make check                                      installs into a temporary folder and tests what is there
 #     make clean                                      removes target/, and with it what Rattle has proved
 #
-# docs/LINKING.md says what is installed.
+# docs/LINKING.md says what is installed. Runs over a network need libfabric, which pkg-config is asked for; FABRIC= leaves it out.
 
 PREFIX = /usr/local
 DESTDIR =
@@ -20,7 +20,11 @@ MANDIR = $(PREFIX)/share/man/man1
 PKGCONFIGDIR = $(LIBDIR)/pkgconfig
 
 CFLAGS = -O2
-CHECKED = -std=c99 -Wall -Wextra -Wpedantic
+OBJCOPY = objcopy
+WARNINGS = -Wall -Wextra -Wpedantic
+CHECKED = -std=c99 $(WARNINGS)
+# Runs need the atomics of C11, and of Linux getopt_long and CLOCK_MONOTONIC_RAW.
+CHECKED_RUN = -std=c11 -D_GNU_SOURCE $(WARNINGS)
 
 # The version stands in the header alone. Records grow between versions, so a program needs the library of its first two numbers.
 VERSION := $(shell sed -n 's/^.define NOLTHEWYR_VERSION "\(.*\)"$$/\1/p' include/nolthewyr.h)
@@ -35,6 +39,18 @@ PROGRAMS = target/bin/rangelog target/bin/rangepages
 PROVED = target/staticlib/libtable.a target/staticlib/libpages.a target/staticlib/libcalendar.a
 MANUALS = $(wildcard man/*.1)
 HEADERS = $(wildcard include/*.h)
+
+# The parts of the library for runs, and of its two programs. What is reached over libfabric is built where that is.
+FABRIC := $(shell pkg-config --exists libfabric 2>/dev/null && echo libfabric)
+FABRIC_CFLAGS := $(if $(FABRIC),$(shell pkg-config --cflags $(FABRIC)))
+FABRIC_LIBS := $(if $(FABRIC),$(shell pkg-config --libs $(FABRIC)))
+RUN = $(BUILT)/run
+RUN_PARTS = $(addprefix $(RUN)/,run.o step.o pause.o server_file.o memory.o $(if $(FABRIC),fabric.o endpoint.o,no_fabric.o))
+RANGERUN_PARTS = $(RUN_PARTS) $(addprefix $(RUN)/,rangerun.o rangerun_hold.o rangerun_try.o rangerun_tree.o arguments.o)
+RANGESERVER_PARTS = $(addprefix $(RUN)/,rangeserver.o arguments.o server_file.o serve_memory.o $(if $(FABRIC),serve_fabric.o endpoint.o,no_serve_fabric.o))
+RUN_LIBRARY = $(BUILT)/libnolthewyr_run.a
+RUN_SHARED = $(BUILT)/libnolthewyr_run.so
+RUN_PROGRAMS = $(BUILT)/rangeserver $(BUILT)/rangerun
 # The declarations and `Table`: for each language the file that a program names, and beside it the one that this file has.
 TABLES = $(wildcard include/*.rs) $(wildcard python/*.py)
 
@@ -43,14 +59,14 @@ CRATES := crates.txt $(shell find crates)
 SCHEDULING = tools/scheduling
 PACKED = packaging/__main__.py $(wildcard $(SCHEDULING)/*.py) $(wildcard model/*.py)
 
-all: $(PROGRAMS) $(LIBRARY) $(SHARED) $(SCHEDULE)
+all: $(PROGRAMS) $(LIBRARY) $(SHARED) $(SCHEDULE) $(RUN_LIBRARY) $(RUN_SHARED) $(RUN_PROGRAMS)
 
 # Rattle writes into one target/, so that it is never called twice at once.
 .NOTPARALLEL:
 .DELETE_ON_ERROR:
-.PHONY: all install uninstall check clean
+.PHONY: all install uninstall check clean always
 
-$(BUILT)/texts.o $(SCHEDULE): Makefile
+$(BUILT)/texts.o $(SCHEDULE) $(RANGERUN_PARTS) $(RANGESERVER_PARTS): Makefile
 
 # Rattle proves again only what has changed. Where nothing has, it leaves the program as it is, and its time is set here.
 target/bin/%: $(CRATES)
@@ -70,6 +86,31 @@ $(LIBRARY): $(PROVED) $(BUILT)/texts.o
 $(SHARED): $(LIBRARY)
 	$(CC) $(LDFLAGS) -shared -Wl,-soname,libnolthewyr.so.$(SERIES),--no-undefined -o $@ -Wl,--whole-archive $< -Wl,--no-whole-archive
 
+# Written anew only where libfabric has come or gone since, so that what is linked is then linked again.
+$(RUN)/fabric: always
+	@mkdir -p $(RUN)
+	@echo '$(FABRIC)' | cmp -s - $@ || echo '$(FABRIC)' > $@
+
+$(RUN)/%.o: run/%.c $(wildcard run/*.h) $(wildcard include/*.h) $(RUN)/fabric
+	$(if $(filter no_fabric,$*),@echo 'libfabric is not here: runs over a network are not built')
+	$(CC) $(CHECKED_RUN) $(CFLAGS) $(FABRIC_CFLAGS) -fPIC -I include -I run -c $< -o $@
+
+# One object, in which the names that are hidden, all but those that the header declares, are its own.
+$(RUN_LIBRARY): $(RUN_PARTS)
+	$(LD) -r -o $(RUN)/whole.o $(RUN_PARTS)
+	$(OBJCOPY) --localize-hidden $(RUN)/whole.o
+	rm -f $@
+	$(AR) rcs $@ $(RUN)/whole.o
+
+$(RUN_SHARED): $(RUN_PARTS) $(SHARED)
+	$(CC) $(LDFLAGS) -shared -Wl,-soname,libnolthewyr_run.so.$(SERIES),--no-undefined -o $@ $^ $(FABRIC_LIBS) $(LDLIBS)
+
+$(BUILT)/rangerun: $(RANGERUN_PARTS) $(LIBRARY)
+	$(CC) $(LDFLAGS) -o $@ $^ $(FABRIC_LIBS) $(LDLIBS)
+
+$(BUILT)/rangeserver: $(RANGESERVER_PARTS) $(LIBRARY)
+	$(CC) $(LDFLAGS) -o $@ $^ $(FABRIC_LIBS) $(LDLIBS)
+
 $(SCHEDULE): $(PACKED)
 	rm -rf $@.d
 	mkdir -p $@.d/scheduling $@.d/model
@@ -78,23 +119,32 @@ $(SCHEDULE): $(PACKED)
 	cp model/*.py $@.d/model
 	python3 -m zipapp $@.d --python '/usr/bin/env python3' --output $@
 
+# The lines of a pkg-config file with the places filled in.
+PLACED = sed -e 's|@PREFIX@|$(PREFIX)|; s|@LIBDIR@|$(LIBDIR)|; s|@INCLUDEDIR@|$(INCLUDEDIR)|; s|@DATADIR@|$(DATADIR)|; s|@VERSION@|$(VERSION)|' \
+    -e '/@FABRIC@$$/{s|@FABRIC@|$(FABRIC)|;/: $$/d}'
+# Each library: its files, and its names for the loader and the linker.
+LIBRARIES = libnolthewyr libnolthewyr_run
+
 install: all
 	install -d $(addprefix $(DESTDIR),$(BINDIR) $(LIBDIR) $(INCLUDEDIR) $(PKGCONFIGDIR) $(DATADIR) $(MANDIR))
-	install -m 755 $(PROGRAMS) $(SCHEDULE) $(DESTDIR)$(BINDIR)
-	install -m 644 $(LIBRARY) $(DESTDIR)$(LIBDIR)
-	install -m 755 $(SHARED) $(DESTDIR)$(LIBDIR)/libnolthewyr.so.$(VERSION)
-	ln -sf libnolthewyr.so.$(VERSION) $(DESTDIR)$(LIBDIR)/libnolthewyr.so.$(SERIES)
-	ln -sf libnolthewyr.so.$(SERIES) $(DESTDIR)$(LIBDIR)/libnolthewyr.so
+	install -m 755 $(PROGRAMS) $(SCHEDULE) $(RUN_PROGRAMS) $(DESTDIR)$(BINDIR)
+	install -m 644 $(LIBRARY) $(RUN_LIBRARY) $(DESTDIR)$(LIBDIR)
+	for name in $(LIBRARIES); do \
+	    install -m 755 $(BUILT)/$$name.so $(DESTDIR)$(LIBDIR)/$$name.so.$(VERSION) && \
+	    ln -sf $$name.so.$(VERSION) $(DESTDIR)$(LIBDIR)/$$name.so.$(SERIES) && \
+	    ln -sf $$name.so.$(SERIES) $(DESTDIR)$(LIBDIR)/$$name.so || exit 1; \
+	done
 	install -m 644 $(HEADERS) $(DESTDIR)$(INCLUDEDIR)
-	sed -e 's|@PREFIX@|$(PREFIX)|; s|@LIBDIR@|$(LIBDIR)|; s|@INCLUDEDIR@|$(INCLUDEDIR)|; s|@DATADIR@|$(DATADIR)|; s|@VERSION@|$(VERSION)|' \
-	    packaging/nolthewyr.pc.in > $(DESTDIR)$(PKGCONFIGDIR)/nolthewyr.pc
+	$(PLACED) packaging/nolthewyr.pc.in > $(DESTDIR)$(PKGCONFIGDIR)/nolthewyr.pc
+	$(PLACED) packaging/nolthewyr_run.pc.in > $(DESTDIR)$(PKGCONFIGDIR)/nolthewyr_run.pc
 	install -m 644 $(TABLES) $(DESTDIR)$(DATADIR)
 	install -m 644 $(MANUALS) $(DESTDIR)$(MANDIR)
 
 uninstall:
-	rm -f $(addprefix $(DESTDIR)$(BINDIR)/,$(notdir $(PROGRAMS) $(SCHEDULE)))
-	rm -f $(addprefix $(DESTDIR)$(LIBDIR)/libnolthewyr.,a so so.$(SERIES) so.$(VERSION))
-	rm -f $(addprefix $(DESTDIR)$(INCLUDEDIR)/,$(notdir $(HEADERS))) $(DESTDIR)$(PKGCONFIGDIR)/nolthewyr.pc
+	rm -f $(addprefix $(DESTDIR)$(BINDIR)/,$(notdir $(PROGRAMS) $(SCHEDULE) $(RUN_PROGRAMS)))
+	rm -f $(foreach name,$(LIBRARIES),$(addprefix $(DESTDIR)$(LIBDIR)/$(name).,a so so.$(SERIES) so.$(VERSION)))
+	rm -f $(addprefix $(DESTDIR)$(INCLUDEDIR)/,$(notdir $(HEADERS)))
+	rm -f $(addprefix $(DESTDIR)$(PKGCONFIGDIR)/,nolthewyr.pc nolthewyr_run.pc)
 	rm -f $(addprefix $(DESTDIR)$(MANDIR)/,$(notdir $(MANUALS)))
 	rm -f $(addprefix $(DESTDIR)$(DATADIR)/,$(notdir $(TABLES)))
 	rm -rf $(DESTDIR)$(DATADIR)/__pycache__

@@ -9,6 +9,7 @@ from itertools import zip_longest
 from compare import NAMES, case
 from compiled_table import library, nolthewyr
 from example_lines import take_lines, ward_lines
+from installed_run_cases import SUITES as RUN_SUITES
 from library import ROOT, command
 from name_cases import ENUMERATIONS
 from prefix import BUILDERS, asked, built, c_shared, environment, folder, place, prefix, printed, python, run, rust_shared
@@ -25,8 +26,9 @@ NAMES["page"] = ("page",), ("warnings", "words unlike the program's")
 EXAMPLES = ("take", take_lines, (3, 12), "client 0 needs"), ("ward", ward_lines, (4, 12), "ward 2 week 0")
 DOCUMENT = ROOT / "docs" / "LINKING.md"
 CASE = ROOT / "schedules" / "whole-case"
-PROGRAMS = "rangelog", "rangepages", "schedule"
-HEADERS = "nolthewyr.h", "nolthewyr_operations.h"
+PROGRAMS = "rangelog", "rangepages", "schedule", "rangeserver", "rangerun"
+LIBRARIES = "nolthewyr", "nolthewyr_run"
+HEADERS = "nolthewyr.h", "nolthewyr_operations.h", "nolthewyr_run.h"
 RUST_FILES = "nolthewyr.rs", "nolthewyr_linked.rs"
 PYTHON_FILES = "nolthewyr.py", "nolthewyr_linked.py"
 # Versions that the Python files do not use, each with the least third number that they ask for: of other series, the one before among them,
@@ -69,12 +71,16 @@ def files(root):
     return {str(path.relative_to(root)) for path in root.rglob("*") if not path.is_dir()}
 
 
+def library_files(name, version):
+    endings = ".a", ".so", f".so.{nolthewyr.SERIES}", f".so.{version}"
+    return *(f"lib/lib{name}{ending}" for ending in endings), f"lib/pkgconfig/{name}.pc"
+
+
 def expected_files():
     [version] = asked("--modversion")
-    shared = [f"lib/libnolthewyr.so{ending}" for ending in ("", f".{nolthewyr.SERIES}", f".{version}")]
     return {
         *(f"bin/{program}" for program in PROGRAMS), *(f"share/man/man1/{program}.1" for program in PROGRAMS), *(f"include/{header}" for header in HEADERS),
-        "lib/libnolthewyr.a", *shared, "lib/pkgconfig/nolthewyr.pc", *(f"share/nolthewyr/{name}" for name in (*RUST_FILES, *PYTHON_FILES)),
+        *(file for name in LIBRARIES for file in library_files(name, version)), *(f"share/nolthewyr/{name}" for name in (*RUST_FILES, *PYTHON_FILES)),
     }
 
 
@@ -201,7 +207,7 @@ def synopsis(read):
 
 def manual_pages():
     """The pages are set without a warning. That of rangelog has the words of a log; that of rangepages lists all fields in order; that of
-    schedule its commands and options, and no others."""
+    schedule its commands and options, and no others. Those of rangeserver and rangerun are held to their help elsewhere."""
     for number, program in enumerate(PROGRAMS):
         source = prefix() / "share" / "man" / "man1" / f"{program}.1"
         warned = subprocess.run(["groff", "-mandoc", "-ww", "-z", source], capture_output=True, text=True, check=True).stderr
@@ -210,8 +216,10 @@ def manual_pages():
             unlike = set(words_of_schedule()) ^ set(synopsis(read))
         elif program == "rangelog":
             unlike = missing(words_of_rangelog(), read)
-        else:
+        elif program == "rangepages":
             unlike = missing(words_of_rangepages(), read) + fields_unlike(source)
+        else:
+            unlike = []
         if unlike:
             print(f"    {source.name} and the program differ in {', '.join(map(str, unlike))}")
         yield case("page", [number], (0, 0)), (len(warned.splitlines()), len(unlike))
@@ -226,4 +234,5 @@ SUITES = {
     "installed, Python does not use a library of another series or of a lower version": another_version,
     "installed, the programs run": programs,
     "installed, the pages have no warning and say what the programs do": manual_pages,
+    **RUN_SUITES,
 }

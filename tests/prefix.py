@@ -42,9 +42,9 @@ def run(*words, **named):
     return subprocess.run(words, cwd=folder().name, env=environment(**named), **options).stdout
 
 
-def asked(*words):
-    """What pkg-config says of the installed library."""
-    return run("pkg-config", *words, "nolthewyr", PKG_CONFIG_PATH=str(prefix() / "lib" / "pkgconfig")).split()
+def asked(*words, package="nolthewyr"):
+    """What pkg-config says of an installed library."""
+    return run("pkg-config", *words, package, PKG_CONFIG_PATH=str(prefix() / "lib" / "pkgconfig")).split()
 
 
 def c_program(example, *static):

@@ -1,0 +1,80 @@
+/* A forecast run on the table of units of a memory server, for C and C++: it takes a window, writes and reads the units of it, and gives it
+ * back. docs/REMOTE.md says what is assumed of the network and how to choose the wait.
+ *
+ * rangeserver(1) writes a file that says how its words and units are reached; who has that file opens a run. A run has one window at a
+ * time. It belongs to one thread: no two calls of one run at once, but for nolthewyr_run_cancel. A process may have several runs.
+ *
+ * A window that is held stays held if its process ends without giving it back, and whoever needs a part of it waits: no run can tell
+ * another that has died from one that is slow. */
+
+#ifndef NOLTHEWYR_RUN_H
+#define NOLTHEWYR_RUN_H
+
+#include <stddef.h>
+#include <stdint.h>
+
+#include "nolthewyr.h"
+
+#ifdef __cplusplus
+extern "C" {
+#endif
+
+/* How a call ended. nolthewyr_run_error says in words what was refused or has failed. */
+enum nolthewyr_run_answer {
+    NOLTHEWYR_RUN_DONE = 0,
+    NOLTHEWYR_RUN_LIMIT = 1,     /* the limit was over first: nothing is held */
+    NOLTHEWYR_RUN_CANCELLED = 2, /* nolthewyr_run_cancel was called: nothing is held */
+    NOLTHEWYR_RUN_REFUSED = 3,   /* the arguments are wrong, or it is not the time for this call: nothing has changed */
+    NOLTHEWYR_RUN_FAILED = 4     /* the server does not answer, or its words are damaged: the run can only be closed, and what it had in the
+                                  * tree stays there */
+};
+
+/* What a run has done since it was opened. A masked operation is made by compare-and-swap from the last word seen, and tried again if
+ * another's came before. */
+typedef struct nolthewyr_run_counts {
+    uint64_t windows;         /* taken */
+    uint64_t late;            /* asked for again, because a claim took too long for the wait */
+    uint64_t out_of_patience; /* asked for again, because the second piece was not to be had within the patience */
+    uint64_t operations;      /* on words */
+    uint64_t swaps_again;     /* compare-and-swaps that found another word than the last one seen */
+    uint64_t round_trips;     /* lists of accesses to words that the server was sent */
+} nolthewyr_run_counts;
+
+typedef struct nolthewyr_run nolthewyr_run;
+
+/* Opens a run on the server that wrote `file`. NULL if it cannot: the reason is then in `error`, of which `error_size` bytes are lent.
+ * Refused too if the patience is not over the wait, since a window of two pieces might then never be taken. */
+nolthewyr_run *nolthewyr_run_open(const char *file, char *error, size_t error_size);
+
+/* The settings that the server's file has. */
+nolthewyr_settings nolthewyr_run_settings(const nolthewyr_run *run);
+
+/* Takes the units [left, right). If others are in the way it pauses between looks; if it was late or out of patience it asks again after a
+ * pause. It gives up when `limit` nanoseconds are over, 0 for no limit. Giving up takes longer than the limit where the run stands in a
+ * line: a place in a line can be left only when its turn comes. */
+int nolthewyr_run_take(nolthewyr_run *run, uint64_t left, uint64_t right, uint64_t limit);
+
+/* Gives the window back that is held. */
+int nolthewyr_run_give_back(nolthewyr_run *run);
+
+/* Ends the take that another thread is in, or that this signal handler has interrupted; if there is none, the next one ends at once. */
+void nolthewyr_run_cancel(nolthewyr_run *run);
+
+/* Reads or writes `count` units from unit `first` on, all of which must lie in the window that is held. What was written is in place before
+ * the call ends, so that the next holder finds it. */
+int nolthewyr_run_read(nolthewyr_run *run, uint64_t first, uint64_t count, uint64_t *units);
+int nolthewyr_run_write(nolthewyr_run *run, uint64_t first, uint64_t count, const uint64_t *units);
+
+nolthewyr_run_counts nolthewyr_run_counted(const nolthewyr_run *run);
+
+/* Why the last call was refused or has failed. */
+const char *nolthewyr_run_error(const nolthewyr_run *run);
+
+/* Gives back what is held, and frees the run. Who must know that the window was given back calls nolthewyr_run_give_back before. */
+void nolthewyr_run_close(nolthewyr_run *run);
+
+#ifdef __cplusplus
+}
+#endif
+
+#endif

@@ -1,0 +1,109 @@
+/* Words and units in POSIX shared memory: the runs are processes of one machine, and an access is one of the processor's atomics. */
+
+#include "transport.h"
+
+#include <errno.h>
+#include <fcntl.h>
+#include <stdatomic.h>
+#include <stdio.h>
+#include <stdlib.h>
+#include <string.h>
+#include <sys/mman.h>
+#include <sys/stat.h>
+#include <unistd.h>
+
+typedef struct memory {
+    nolthewyr_transport transport;
+    _Atomic uint64_t *words;
+    _Atomic uint64_t *units;
+    size_t size;
+} memory;
+
+/* Sequentially consistent, since the rules speak of words that are touched one after another. */
+static bool execute(nolthewyr_transport *transport, nolthewyr_access *list, size_t count)
+{
+    memory *over = (memory *)transport;
+    for (nolthewyr_access *access = list; access < list + count; access++) {
+        _Atomic uint64_t *word = &over->words[access->node - 1];
+        access->found = access->expected;
+        if (access->kind == NOLTHEWYR_ACCESS_READ)
+            access->found = atomic_load(word);
+        else
+            atomic_compare_exchange_strong(word, &access->found, access->value);
+    }
+    return true;
+}
+
+/* Units one by one, so that each is whole; their order among each other does not matter, and the lock's accesses keep it to themselves. */
+static bool read_units(nolthewyr_transport *transport, uint64_t first, uint64_t count, uint64_t *units)
+{
+    memory *over = (memory *)transport;
+    for (uint64_t i = 0; i < count; i++)
+        units[i] = atomic_load_explicit(&over->units[first + i], memory_order_relaxed);
+    return true;
+}
+
+static bool write_units(nolthewyr_transport *transport, uint64_t first, uint64_t count, const uint64_t *units)
+{
+    memory *over = (memory *)transport;
+    for (uint64_t i = 0; i < count; i++)
+        atomic_store_explicit(&over->units[first + i], units[i], memory_order_relaxed);
+    return true;
+}
+
+static void close_memory(nolthewyr_transport *transport)
+{
+    memory *over = (memory *)transport;
+    munmap((void *)over->words, over->size);
+    free(over);
+}
+
+/* The shared memory in this address space, MAP_FAILED if it has another size or cannot be had. */
+static void *mapped(int opened, const nolthewyr_server *server, size_t size, char *error)
+{
+    struct stat found;
+    void *at = MAP_FAILED;
+    if (fstat(opened, &found) == 0 && (size_t)found.st_size != size) {
+        snprintf(error, NOLTHEWYR_ERROR_SIZE, "shared memory %s has %lld bytes, and a tree of %d levels and its units have %zu",
+                 server->memory, (long long)found.st_size, (int)server->settings.levels, size);
+        return at;
+    }
+    at = mmap(NULL, size, PROT_READ | PROT_WRITE, MAP_SHARED, opened, 0);
+    if (at == MAP_FAILED)
+        snprintf(error, NOLTHEWYR_ERROR_SIZE, "shared memory %s: %s", server->memory, strerror(errno));
+    return at;
+}
+
+static bool reached(memory *over, const nolthewyr_server *server, char *error)
+{
+    uint64_t words = nolthewyr_word_count(server->settings.levels), units = nolthewyr_unit_count(server->settings.levels);
+    int opened = shm_open(server->memory, O_RDWR, 0);
+    if (opened < 0) {
+        snprintf(error, NOLTHEWYR_ERROR_SIZE, "shared memory %s: %s", server->memory, strerror(errno));
+        return false;
+    }
+    over->size = (words + units) * sizeof(uint64_t);
+    void *at = mapped(opened, server, over->size, error);
+    close(opened);
+    if (at == MAP_FAILED)
+        return false;
+    over->words = at;
+    over->units = over->words + words;
+    return true;
+}
+
+nolthewyr_transport *nolthewyr_memory_open(const nolthewyr_server *server, char *error)
+{
+    memory *over = calloc(1, sizeof *over);
+    if (over == NULL) {
+        snprintf(error, NOLTHEWYR_ERROR_SIZE, "no memory for a run");
+        return NULL;
+    }
+    /* One machine has one CLOCK_MONOTONIC. */
+    over->transport = (nolthewyr_transport){.execute = execute, .read_units = read_units, .write_units = write_units, .close = close_memory,
+                                            .clock = CLOCK_MONOTONIC};
+    if (reached(over, server, error))
+        return &over->transport;
+    free(over);
+    return NULL;
+}

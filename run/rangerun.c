@@ -1,0 +1,81 @@
+/* rangerun: a forecast run on a memory server, from the command line. */
+
+#include "rangerun.h"
+
+#include <signal.h>
+#include <stdio.h>
+#include <stdlib.h>
+#include <string.h>
+
+#define COUNT(list) (sizeof(list) / sizeof *(list))
+
+static const struct { const char *name; int (*run)(const char *file, int argc, char **argv); } commands[] = {
+    {"hold", nolthewyr_hold}, {"try", nolthewyr_try}, {"tree", nolthewyr_tree},
+};
+
+static nolthewyr_run *signalled_run;
+static volatile sig_atomic_t signalled;
+
+static const char usage[] =
+    "usage: rangerun FILE hold [--limit NS] LEFT RIGHT COMMAND...\n"
+    "       rangerun FILE try --windows COUNT [--number N] [--seed S] [--within LEFT RIGHT] [--largest UNITS] [--hold NS]\n"
+    "       rangerun FILE tree\n";
+
+int nolthewyr_wrong_line(const char *reason, const char *text)
+{
+    fprintf(stderr, "rangerun: %s%s\n%s", reason, text, usage);
+    return NOLTHEWYR_EXIT_LINE;
+}
+
+int nolthewyr_failed(const nolthewyr_run *run, int status)
+{
+    fprintf(stderr, "rangerun: %s\n", nolthewyr_run_error(run));
+    return status;
+}
+
+nolthewyr_run *nolthewyr_opened(const char *file)
+{
+    char error[400];
+    nolthewyr_run *run = nolthewyr_run_open(file, error, sizeof error);
+    if (run == NULL)
+        fprintf(stderr, "rangerun: %s\n", error);
+    return run;
+}
+
+static void cancel(int signal)
+{
+    signalled = signal;
+    nolthewyr_run_cancel(signalled_run);
+}
+
+void nolthewyr_on_signal(int signal, void (*action)(int))
+{
+    struct sigaction before, after = {.sa_handler = action};
+    if (sigaction(signal, NULL, &before) == 0 && before.sa_handler != SIG_IGN)
+        sigaction(signal, &after, NULL);
+}
+
+void nolthewyr_cancelled_by_signals(nolthewyr_run *run)
+{
+    signalled_run = run;
+    nolthewyr_on_signal(SIGTERM, cancel);
+    nolthewyr_on_signal(SIGINT, cancel);
+    nolthewyr_on_signal(SIGHUP, cancel);
+}
+
+int nolthewyr_signalled(void)
+{
+    return signalled;
+}
+
+int main(int argc, char **argv)
+{
+    if (argc == 2 && strcmp(argv[1], "--help") == 0)
+        return printf("%s", usage) < 0;
+    if (argc < 3)
+        return nolthewyr_wrong_line("a FILE and a command are to be named", "");
+    for (size_t i = 0; i < COUNT(commands); i++)
+        if (strcmp(argv[2], commands[i].name) == 0)
+            return commands[i].run(argv[1], argc - 2, argv + 2);
+    return nolthewyr_wrong_line("no such command: ", argv[2]);
+}

@@ -1,0 +1,33 @@
+/* The commands of rangerun. Each gets what stands behind its name on the command line, and gives the exit status. */
+
+#ifndef NOLTHEWYR_RANGERUN_H
+#define NOLTHEWYR_RANGERUN_H
+
+#include "nolthewyr_run.h"
+
+/* As schedule(1) has them, but for `hold`, which gives the command's own; its failures are numbered as env(1) and timeout(1) have them. */
+enum { NOLTHEWYR_EXIT_FOUND_WRONG = 1, NOLTHEWYR_EXIT_LINE = 2, NOLTHEWYR_EXIT_FAILED = 3 };
+enum { NOLTHEWYR_EXIT_LIMIT = 124, NOLTHEWYR_EXIT_HOLD = 125, NOLTHEWYR_EXIT_NOT_RUN = 126, NOLTHEWYR_EXIT_NO_COMMAND = 127 };
+
+/* `argv[0]` is the command's name, and `argv[argc]` is NULL. */
+int nolthewyr_hold(const char *file, int argc, char **argv);
+int nolthewyr_try(const char *file, int argc, char **argv);
+int nolthewyr_tree(const char *file, int argc, char **argv);
+
+/* Opens a run; if it cannot, says why on standard error and gives NULL. */
+nolthewyr_run *nolthewyr_opened(const char *file);
+
+/* Says on standard error what is wrong, and how rangerun is used; gives NOLTHEWYR_EXIT_LINE. */
+int nolthewyr_wrong_line(const char *reason, const char *text);
+
+/* Says on standard error why the run's last call was refused or failed; gives the status. */
+int nolthewyr_failed(const nolthewyr_run *run, int status);
+
+/* From now on the signal does this, unless it was ignored when rangerun was started, as nohup(1) has it. */
+void nolthewyr_on_signal(int signal, void (*action)(int));
+
+/* SIGTERM, SIGINT and SIGHUP from now on cancel what the run is taking. The last that came, 0 for none. */
+void nolthewyr_cancelled_by_signals(nolthewyr_run *run);
+int nolthewyr_signalled(void);
+
+#endif

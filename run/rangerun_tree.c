@@ -1,0 +1,75 @@
+/* rangerun FILE tree: whether the tree is clean, as it is when all runs are idle. */
+
+#include <inttypes.h>
+#include <stdio.h>
+
+#include "rangerun.h"
+#include "run.h"
+
+enum { AT_ONCE = 64 };
+
+/* An inner word has its fields from bit 63 down: Exp 1 bit, Occ 1, TCnt 15, TMax 15, DCnt 16, DMax 16 (document 01, "The tree"). */
+static bool inner_clean(uint64_t node, uint64_t word)
+{
+    uint64_t occ = word >> 62 & 1, tcnt = word >> 47 & 0x7fff, tmax = word >> 32 & 0x7fff, dcnt = word >> 16 & 0xffff, dmax = word & 0xffff;
+    if (occ == 0 && tcnt == tmax && dcnt == dmax)
+        return true;
+    printf("node %" PRIu64 ": Occ %" PRIu64 " TCnt %" PRIu64 " TMax %" PRIu64 " DCnt %" PRIu64 " DMax %" PRIu64 "\n", node, occ, tcnt, tmax,
+           dcnt, dmax);
+    return false;
+}
+
+static bool leaf_clean(uint64_t node, uint64_t first_leaf, uint64_t word)
+{
+    uint64_t unit = 64 * (node - first_leaf);
+    if (word != 0)
+        printf("node %" PRIu64 ": bits 0x%016" PRIx64 " of the units %" PRIu64 " to %" PRIu64 "\n", node, word, unit, unit + 63);
+    return word == 0;
+}
+
+/* Reads the words of `count` nodes from `first` on in one list. False if it has failed. */
+static bool words_read(nolthewyr_run *run, nolthewyr_access *list, uint64_t first, uint64_t count)
+{
+    for (uint64_t i = 0; i < count; i++)
+        list[i] = (nolthewyr_access){.kind = NOLTHEWYR_ACCESS_READ, .node = first + i};
+    return run->transport->execute(run->transport, list, count);
+}
+
+/* How many of the words in the list are not clean; each is printed. */
+static uint64_t unclean_in(const nolthewyr_access *list, uint64_t count, uint64_t first_leaf)
+{
+    uint64_t unclean = 0;
+    for (const nolthewyr_access *read = list; read < list + count; read++)
+        unclean += read->node < first_leaf ? !inner_clean(read->node, read->found) : !leaf_clean(read->node, first_leaf, read->found);
+    return unclean;
+}
+
+static int looked_through(nolthewyr_run *run)
+{
+    uint64_t levels = run->settings.levels, nodes = nolthewyr_word_count(levels), leaves = (uint64_t)1 << 2 * (levels - 1);
+    uint64_t first_leaf = nodes - leaves + 1, unclean = 0;
+    nolthewyr_access list[AT_ONCE];
+    for (uint64_t first = 1; first <= nodes; first += AT_ONCE) {
+        uint64_t count = nodes - first + 1 < AT_ONCE ? nodes - first + 1 : AT_ONCE;
+        if (!words_read(run, list, first, count)) {
+            fprintf(stderr, "rangerun: %s\n", run->transport->error);
+            return NOLTHEWYR_EXIT_FAILED;
+        }
+        unclean += unclean_in(list, count, first_leaf);
+    }
+    if (unclean == 0)
+        puts("clean");
+    return unclean == 0 ? 0 : NOLTHEWYR_EXIT_FOUND_WRONG;
+}
+
+int nolthewyr_tree(const char *file, int argc, char **argv)
+{
+    if (argc > 1)
+        return nolthewyr_wrong_line("nothing is to stand behind tree: ", argv[1]);
+    nolthewyr_run *run = nolthewyr_opened(file);
+    if (run == NULL)
+        return NOLTHEWYR_EXIT_FAILED;
+    int status = looked_through(run);
+    nolthewyr_run_close(run);
+    return status;
+}

@@ -1,0 +1,176 @@
+/* A run: opened, a window taken with back-off and given back, its units read and written, closed. */
+
+#include "run.h"
+
+#include <inttypes.h>
+#include <stdarg.h>
+#include <stdio.h>
+#include <stdlib.h>
+#include <string.h>
+#include <unistd.h>
+
+/* The pauses between two requests for a window are below the wait at first, and below MOST_WAITS waits at last. */
+enum { MOST_WAITS = 16 };
+
+static int refused(nolthewyr_run *run, const char *format, ...)
+{
+    va_list values;
+    if (run->failed)
+        return NOLTHEWYR_RUN_FAILED;
+    va_start(values, format);
+    vsnprintf(run->error, sizeof run->error, format, values);
+    va_end(values);
+    return NOLTHEWYR_RUN_REFUSED;
+}
+
+nolthewyr_run *nolthewyr_run_over(nolthewyr_transport *transport, nolthewyr_settings settings, char *error)
+{
+    nolthewyr_run *run = calloc(1, sizeof *run);
+    if (run == NULL) {
+        snprintf(error, NOLTHEWYR_ERROR_SIZE, "no memory for a run");
+        return NULL;
+    }
+    run->transport = transport;
+    run->settings = settings;
+    run->look_limit = NOLTHEWYR_LOOK_FIRST;
+    run->drawn = (nolthewyr_run_clock(run) << 20 | (uint64_t)getpid()) | 1; /* runs that begin together draw other numbers */
+    return run;
+}
+
+static nolthewyr_run *opened(const char *file, char *error)
+{
+    nolthewyr_server server;
+    if (!nolthewyr_server_read(&server, file, error) || !nolthewyr_server_settled(server.settings, error))
+        return NULL;
+    bool over_memory = nolthewyr_server_over_memory(&server);
+    nolthewyr_transport *transport = over_memory ? nolthewyr_memory_open(&server, error) : nolthewyr_fabric_open(&server, error);
+    nolthewyr_run *run = transport == NULL ? NULL : nolthewyr_run_over(transport, server.settings, error);
+    if (transport != NULL && run == NULL)
+        transport->close(transport);
+    return run;
+}
+
+nolthewyr_run *nolthewyr_run_open(const char *file, char *error, size_t error_size)
+{
+    char reason[NOLTHEWYR_ERROR_SIZE] = "";
+    nolthewyr_run *run = opened(file, reason);
+    if (error_size > 0)
+        snprintf(error, error_size, "%s", reason);
+    return run;
+}
+
+nolthewyr_settings nolthewyr_run_settings(const nolthewyr_run *run)
+{
+    return run->settings;
+}
+
+nolthewyr_run_counts nolthewyr_run_counted(const nolthewyr_run *run)
+{
+    return run->counts;
+}
+
+const char *nolthewyr_run_error(const nolthewyr_run *run)
+{
+    return run->error;
+}
+
+void nolthewyr_run_cancel(nolthewyr_run *run)
+{
+    atomic_store(&run->cancelled, 1);
+}
+
+/* Steps from a request until the window is held, or is given back: the run was late, out of patience, or is to give up. */
+static bool attempted(nolthewyr_run *run)
+{
+    const nolthewyr_client *client = &run->client;
+    while (client->record.phase != NOLTHEWYR_PHASE_HELD && client->record.phase != NOLTHEWYR_PHASE_IDLE) {
+        bool gives_up = nolthewyr_run_gives_up(run);
+        if (gives_up && !nolthewyr_run_accepted(run, nolthewyr_own_cancel(*client, run->settings), "the cancel"))
+            return false;
+        if (!gives_up && !nolthewyr_run_step(run))
+            return false;
+    }
+    run->counts.windows += client->record.phase == NOLTHEWYR_PHASE_HELD;
+    run->counts.late += client->record.outcome == NOLTHEWYR_OUTCOME_LATE;
+    run->counts.out_of_patience += client->record.outcome == NOLTHEWYR_OUTCOME_OUT_OF_PATIENCE;
+    return true;
+}
+
+/* Asks for the window until it is held or the run gives up. */
+static int asked(nolthewyr_run *run, uint64_t left, uint64_t right)
+{
+    uint64_t limit = run->settings.wait;
+    while (!nolthewyr_run_gives_up(run)) {
+        nolthewyr_client_answer answer = nolthewyr_own_request(run->client, run->settings, left, right);
+        if (!nolthewyr_run_accepted(run, answer, "the request") || !attempted(run))
+            return NOLTHEWYR_RUN_FAILED;
+        if (run->client.record.phase == NOLTHEWYR_PHASE_HELD)
+            return NOLTHEWYR_RUN_DONE;
+        nolthewyr_run_pause(run, &limit, MOST_WAITS * run->settings.wait);
+    }
+    bool cancelled = atomic_exchange(&run->cancelled, 0);
+    snprintf(run->error, sizeof run->error, "[%" PRIu64 ", %" PRIu64 ") was not to be had %s", left, right,
+             cancelled ? "before the take was cancelled" : "within the limit");
+    return cancelled ? NOLTHEWYR_RUN_CANCELLED : NOLTHEWYR_RUN_LIMIT;
+}
+
+int nolthewyr_run_take(nolthewyr_run *run, uint64_t left, uint64_t right, uint64_t limit)
+{
+    uint64_t units = nolthewyr_unit_count(run->settings.levels), now = nolthewyr_run_clock(run);
+    if (run->failed || run->client.record.phase != NOLTHEWYR_PHASE_IDLE)
+        return refused(run, "[%" PRIu64 ", %" PRIu64 ") is held, and is to be given back first", run->client.record.left,
+                       run->client.record.right);
+    if (left >= right || right > units)
+        return refused(run, "[%" PRIu64 ", %" PRIu64 ") is no window of the units 0 to %" PRIu64, left, right, units - 1);
+    run->deadline = limit == 0 || limit > UINT64_MAX - now ? UINT64_MAX : now + limit;
+    return asked(run, left, right);
+}
+
+int nolthewyr_run_give_back(nolthewyr_run *run)
+{
+    if (run->failed || run->client.record.phase != NOLTHEWYR_PHASE_HELD)
+        return refused(run, "no window is held");
+    bool done = nolthewyr_run_accepted(run, nolthewyr_own_release(run->client, run->settings), "the release");
+    while (done && run->client.record.phase != NOLTHEWYR_PHASE_IDLE)
+        done = nolthewyr_run_step(run);
+    return done ? NOLTHEWYR_RUN_DONE : NOLTHEWYR_RUN_FAILED;
+}
+
+/* Whether all these units are the run's now. */
+static bool held(const nolthewyr_run *run, uint64_t first, uint64_t count)
+{
+    const nolthewyr_record *record = &run->client.record;
+    return !run->failed && record->phase == NOLTHEWYR_PHASE_HELD && first >= record->left && first <= record->right &&
+           count <= record->right - first;
+}
+
+static int transferred(nolthewyr_run *run, bool done)
+{
+    if (done)
+        return NOLTHEWYR_RUN_DONE;
+    run->failed = true;
+    snprintf(run->error, sizeof run->error, "%s", run->transport->error);
+    return NOLTHEWYR_RUN_FAILED;
+}
+
+int nolthewyr_run_read(nolthewyr_run *run, uint64_t first, uint64_t count, uint64_t *units)
+{
+    if (!held(run, first, count))
+        return refused(run, "%" PRIu64 " units from %" PRIu64 " on are not in a window that is held", count, first);
+    return transferred(run, run->transport->read_units(run->transport, first, count, units));
+}
+
+int nolthewyr_run_write(nolthewyr_run *run, uint64_t first, uint64_t count, const uint64_t *units)
+{
+    if (!held(run, first, count))
+        return refused(run, "%" PRIu64 " units from %" PRIu64 " on are not in a window that is held", count, first);
+    return transferred(run, run->transport->write_units(run->transport, first, count, units));
+}
+
+void nolthewyr_run_close(nolthewyr_run *run)
+{
+    if (!run->failed && run->client.record.phase == NOLTHEWYR_PHASE_HELD)
+        nolthewyr_run_give_back(run);
+    run->transport->close(run->transport);
+    free(run);
+}

@@ -1,0 +1,62 @@
+/* The inside of a run: its own record and clock, the transport below it, and how it pauses. */
+
+#ifndef NOLTHEWYR_RUN_INSIDE_H
+#define NOLTHEWYR_RUN_INSIDE_H
+
+#include <stdatomic.h>
+
+#include "nolthewyr_run.h"
+#include "transport.h"
+
+/* Inside the library alone. */
+#pragma GCC visibility push(hidden)
+
+/* The most levels of a tree; and the limits of a pause between two looks at a word that another must change first, in nanoseconds. */
+enum { NOLTHEWYR_MOST_LEVELS = 12, NOLTHEWYR_LOOK_FIRST = 1000, NOLTHEWYR_LOOK_MOST = 1000000 };
+
+/* The last word that a run saw at a node. */
+typedef struct nolthewyr_seen {
+    uint64_t node, word;
+} nolthewyr_seen;
+
+struct nolthewyr_run {
+    nolthewyr_transport *transport;
+    nolthewyr_settings settings;
+    nolthewyr_client client;
+    nolthewyr_run_counts counts;
+    /* The first guesses of masked operations. Any guess is right, since the swap compares; a good one saves a round trip. Two a level, the later
+     * first, since of each level a piece changes one node at most, its own or one that it notifies; and one for the nodes that are only read. */
+    nolthewyr_seen seen[NOLTHEWYR_MOST_LEVELS][2], passing;
+    uint64_t look_limit; /* the next pause between two looks is below this */
+    uint64_t deadline;   /* the clock at which a take gives up, UINT64_MAX for none */
+    uint64_t drawn;      /* the last random number */
+    atomic_int cancelled;
+    bool failed;
+    char error[NOLTHEWYR_ERROR_SIZE];
+};
+
+/* The run's own clock, in nanoseconds. */
+uint64_t nolthewyr_run_clock(const nolthewyr_run *run);
+
+/* Whether a take is to give up: it was cancelled, or its limit is over. What is being given back is given back in any case. */
+bool nolthewyr_run_gives_up(const nolthewyr_run *run);
+
+/* Lets others have the processor until the clock shows `until`, or the take gives up. */
+void nolthewyr_run_rest(const nolthewyr_run *run, uint64_t until);
+
+/* Rests for a random time below the limit, then doubles it, up to `most`. */
+void nolthewyr_run_pause(nolthewyr_run *run, uint64_t *limit, uint64_t most);
+
+/* Makes one step: finds the operation of the record, makes it on the word, completes it. Rests where the phase waits for a time, and pauses
+ * if others are in the way; makes none if the take gives up while it rests. False if it has failed; `error` says why. */
+bool nolthewyr_run_step(nolthewyr_run *run);
+
+/* Makes the answer's client the run's. False if it is refused, which only damaged words can bring about; `error` names what was asked. */
+bool nolthewyr_run_accepted(nolthewyr_run *run, nolthewyr_client_answer answer, const char *asked);
+
+/* Opens a run over a transport, which is the run's from then on. NULL if the settings are refused. */
+nolthewyr_run *nolthewyr_run_over(nolthewyr_transport *transport, nolthewyr_settings settings, char *error);
+
+#pragma GCC visibility pop
+
+#endif
