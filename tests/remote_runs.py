@@ -1,0 +1,143 @@
+"""Memory servers and runs on them, as processes: `rangeserver` and `rangerun` built, started and ended, what they print, and the words and units
+that a server over shared memory has."""
+
+import os
+import subprocess
+from array import array
+from contextlib import contextmanager
+from functools import lru_cache
+from pathlib import Path
+from tempfile import TemporaryDirectory
+from typing import NamedTuple
+
+from library import ROOT, SECONDS, command, made
+from model import tree, word
+
+NETWORK = "tcp;ofi_rxm"
+MISSING = "libfabric is not on this machine, so that no run goes over a network here; on Debian and Ubuntu: apt-get install libfabric-dev"
+CHECKED_C = "gcc", "-std=c11", "-D_GNU_SOURCE", "-O2", "-Wall", "-Wextra", "-Werror", "-I", "include"
+# The names that rangerun prints, in its order.
+PRINTED = "windows", "torn", "late", "out-of-patience", "operations", "swaps", "round-trips", "seconds"
+
+
+class Tried(NamedTuple):
+    """What the runs of a trial came to: how many of them ended otherwise than well, and what all have counted, by name."""
+
+    failed: int
+    counts: dict
+
+
+@lru_cache(maxsize=None)
+def program(name):
+    return made(f"build/{name}")
+
+
+@lru_cache(maxsize=None)
+def has_libfabric():
+    """Whether a program can be built with it here: then a server and a run must be."""
+    return subprocess.run(["gcc", "-E", "-include", "rdma/fabric.h", "-x", "c", os.devnull], capture_output=True).returncode == 0
+
+
+def build_with_run(built, source):
+    """Builds a program of one source in C with the library of runs."""
+    libraries = [made("build/libnolthewyr_run.a"), made("build/libnolthewyr.a"), *["-lfabric"] * has_libfabric()]
+    command(*CHECKED_C, source, *libraries, "-o", built)
+
+
+@lru_cache(maxsize=None)
+def run_in_part():
+    """`rangerun` with tests/broken_run.c between the proved completion and the one place in run/ that calls it, as the Makefile builds it."""
+    folder = Path("target/tests/in_part")
+    (ROOT / folder).mkdir(parents=True, exist_ok=True)
+    between, library, built = (folder / name for name in ("broken_run.o", "libnolthewyr.a", "rangerun"))
+    command(*CHECKED_C, "-c", "tests/broken_run.c", "-o", between)
+    (ROOT / built).unlink(missing_ok=True)  # make knows nothing of what stands between
+    command("make", "--silent", f"BUILT={folder}", "CFLAGS=-O2 -Dnolthewyr_completed=completed_in_part", f"LDLIBS={between} {library}", built)
+    return ROOT / built
+
+
+@contextmanager
+def serving(over, settings):
+    """The file of a server, which serves meanwhile."""
+    with TemporaryDirectory() as folder:
+        file = Path(folder) / "server"
+        named = zip(("--levels", "--distance", "--wait", "--patience"), map(str, settings))
+        words = [program("rangeserver"), *(text for pair in named for text in pair), "--over", over, file]
+        server = subprocess.Popen(words, stdout=subprocess.PIPE, text=True)
+        try:
+            said = server.stdout.readline()
+            if said != f"serving {file}\n":
+                raise subprocess.SubprocessError(f"rangeserver over {over} says {said!r}")
+            yield file
+        finally:
+            server.terminate()
+            server.wait(SECONDS)
+
+
+def started(file, *words, run=None, **environment):
+    """A run, begun."""
+    return subprocess.Popen([run or program("rangerun"), file, *words], stdout=subprocess.PIPE, text=True, env={**os.environ, **environment})
+
+
+def ended(process):
+    """What a run printed, when it has ended. One that does not end is killed."""
+    try:
+        return process.communicate(timeout=SECONDS)[0]
+    except subprocess.TimeoutExpired:
+        process.kill()
+        return process.communicate()[0]
+
+
+@contextmanager
+def running(file, *words):
+    """A run, which is ended at last if it has not ended by itself: it gives back what it has, if it can."""
+    process = started(file, *words)
+    try:
+        yield process
+    finally:
+        process.terminate()
+        ended(process)
+
+
+def counted(text):
+    """The numbers of the line that `try` prints; all 0 if it printed none."""
+    words = text.split()
+    if tuple(words[::2]) != PRINTED:
+        return dict.fromkeys(PRINTED, 0)
+    return dict(zip(PRINTED, map(float, words[1::2])))
+
+
+def tried(file, processes, windows, *options, run=None, **environment):
+    """So many runs at once, which take so many windows in all; each has its own number, from 1 on."""
+    share = str(windows // processes)
+    runs = [started(file, "try", "--windows", share, "--number", str(number), "--seed", str(number), *options, run=run, **environment)
+            for number in range(1, processes + 1)]
+    counts = [counted(ended(process)) for process in runs]
+    failed = sum(process.returncode not in (0, 1) for process in runs)
+    return Tried(failed, {name: sum(one[name] for one in counts) for name in PRINTED})
+
+
+def unclean(file):
+    """The exit status of `rangerun FILE tree`: 0 if every word is clean, 1 if one is not."""
+    process = started(file, "tree")
+    ended(process)
+    return process.returncode
+
+
+def memory(file):
+    """The words and the units of a server over shared memory."""
+    named = dict(line.split(maxsplit=1) for line in file.read_text().splitlines())
+    numbers, words = array("Q"), tree.node_count(int(named["levels"]))
+    numbers.frombytes(Path("/dev/shm", named["memory"].lstrip("/")).read_bytes())
+    return numbers[:words], numbers[words:]
+
+
+def taken(levels, words):
+    """What is taken of each node, by its number, none of which stands for a clean word: the bits of a leaf, or of an inner node Occ, how many
+    tickets are not back, and how many notices."""
+    found = {}
+    for node, value in enumerate(words, 1):
+        inner = word.unpack(value)
+        of_inner = inner.occ, word.wrapped(inner.tmax - inner.tcnt, word.WIDTH.tmax), word.wrapped(inner.dmax - inner.dcnt, word.WIDTH.dmax)
+        found[node] = (value,) if tree.is_leaf(levels, node) else of_inner
+    return {node: numbers for node, numbers in found.items() if any(numbers)}
