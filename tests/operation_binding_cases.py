@@ -59,7 +59,8 @@ def asked_steps():
 def posted_operations():
     asked = asked_steps()
     return in_all_languages(
-        "operation by a binding", "operation", [each.arguments()[:-1] for each in asked], [each.answer()[:POSTED] for each in asked], python_operation)
+        "operation by a binding", "operation", [each.arguments()[:-1] for each in asked], [each.answer()[:POSTED] for each in asked],
+        python_operation)
 
 
 def completions():
