@@ -36,7 +36,7 @@ SHARED = $(BUILT)/libnolthewyr.so
 SCHEDULE = $(BUILT)/schedule
 PROGRAMS = target/bin/rangelog target/bin/rangepages
 # The proved parts of the library: each archive has the exported functions of its crate.
-PROVED = target/staticlib/libtable.a target/staticlib/libpages.a target/staticlib/libcalendar.a
+PROVED = target/staticlib/libtable.a target/staticlib/libruns.a target/staticlib/libpages.a target/staticlib/libcalendar.a
 MANUALS = $(wildcard man/*.1)
 HEADERS = $(wildcard include/*.h)
 

@@ -31,7 +31,7 @@ STRUCTS = {
     "operation_answer": ("lock", "Operation"), "client_answer": ("lock", "Stepped"),
 }
 # The crates whose exported functions are linked.
-LINKED = "table", "pages", "calendar"
+LINKED = "table", "runs", "pages", "calendar"
 
 # What the length of each lent slice is called, what C's types are in Rust, and what the structs that a function answers, or takes as another
 # has answered them, are called where it is linked.

@@ -9,7 +9,6 @@ use lock::Client;
 use lock::Settings;
 
 mod by_levels;
-mod by_value;
 mod causes;
 mod zeroes;
 

@@ -19,7 +19,7 @@ use Rattle.lock.specs.rules.History.{Event, RequestOf, Accepted, At, Ste
 use Rattle.lock.specs.rules.Readings.{RequestAt, NotSlow, NotFast}
 use Rattle.lock.specs.claim.InnerWords.{nobody}
 use Rattle.lock.specs.claim.Parts.{Parts, recordIn}
-use Rattle.lock.specs.claim.Stage.{passing, checked-stage}
+use Rattle.lock.specs.claim.Stage.{passing, passing-climb, checked-stage}
 use Rattle.lock.specs.claim.Timed.{Timed, Timely, ReadSafely, timed-later, parentRead, claimRead, parent-kept, claim-kept, claim-now, timed-above, timed-below}
 use Rattle.lock.specs.claim.Onward.{Unclaimed}
 use Rattle.lock.specs.claim.Invariant.{Invariant}
@@ -152,7 +152,7 @@ module _ (s : Settings) (e : Event) (rest : List Event) (found touch reading : �
 
       module _ (inv : Invariant s st) (now : ℕ) (time : Timely s rs nobody r q now) (at : (e .number ≡ 0) × (e .made ≡ step c now))
           (order : (j d u : ℕ) → StepAt rest j d u → touch 0 ≤ touch (suc j)) (is : found 0 ≡ r .phase)
-          (not-slow : (j u : ℕ) → StepAt rest j c u → Unasked rest j c → r .phase ≡ 3 → found (suc j) ≡ 6 → NotSlow (s .wait) now u (reading 0) (reading (suc j)))
+          (not-slow : (j u : ℕ) → StepAt rest j c u → Unasked rest j c → r .phase ≡ 3 → r .place ≡ 0 → found (suc j) ≡ 6 → NotSlow (s .wait) now u (reading 0) (reading (suc j)))
           (not-fast : (j u : ℕ) → StepAt rest j c u → Unasked rest j c → r .phase ≡ 5 → found (suc j) ≡ 7 → NotFast (s .wait) now u (reading 0) (reading (suc j)))
           (read-first : (r .phase ≡ 3) ⊎ (r .phase ≡ 7) → reading 0 ≤ touch 0) (touched-first : (r .phase ≡ 5) ⊎ (r .phase ≡ 6) → touch 0 ≤ reading 0) where
         abbrev m0 : ℕ
@@ -192,18 +192,18 @@ module _ (s : Settings) (e : Event) (rest : List Event) (found touch reading : �
             let kept : passing r ≢ 0 → parentRead r m1 (reading 0) ≡ m1 = parent-kept r m1 (reading 0) in
             let old = v .noted c in
             let was : passing q ≢ 0 → passing q ≤ passing r → passing r ≢ 0 = λ n b z. n (omega arith) in
-            let on-parent : (P : ℕ → ℕ → Type 0) → passing q ≢ 0 → (passing r ≢ 0 → P (r .t1) m1) → (r .phase ≡ 3 → P now (reading 0)) → P (q .t1) (parentRead r m1 (reading 0)) = λ P n f g.
+            let on-parent : (P : ℕ → ℕ → Type 0) → passing q ≢ 0 → (passing r ≢ 0 → P (r .t1) m1) → (r .phase ≡ 3 → r .place ≡ 0 → P now (reading 0)) → P (q .t1) (parentRead r m1 (reading 0)) = λ P n f g.
             ⊎-elim
             (λ z. absurd (n z))
             (λ k. ⊎-elim
             (λ o. let d = was n (o .0) in rw (o .1, kept d) (f d))
             (λ o. ⊎-elim
             (λ z. rw (z .1, kept (z .0)) (f (z .0)))
-            (λ z. rw (z .2, choose-eq (passing r) 0 (reading 0) m1 (z .0)) (g (z .1))) (o .1)) (k .1))
+            (λ z. rw (z .2, choose-eq (passing r) 0 (reading 0) m1 (z .0)) (g (z .1) (sym (passing-climb r (z .1)) ∙ z .0))) (o .1)) (k .1))
             (time .passes) in
             record {
-              past = λ n. on-parent (λ t m. m ≤ touch 0) n (λ d. omega (arith, old .past d, onward)) (λ z. read-first (inl z));
-              not-slow = λ n j u a w f. on-parent (λ t m. NotSlow (s .wait) t u m (reading (suc j))) n (λ d. old .not-slow d (suc j) u a (unasked-later j c (steps-only c) w) f) (λ z. not-slow j u a w z f);
+              past = λ n. on-parent (λ t m. m ≤ touch 0) n (λ d. omega (arith, old .past d, onward)) (λ z _. read-first (inl z));
+              not-slow = λ n j u a w f. on-parent (λ t m. NotSlow (s .wait) t u m (reading (suc j))) n (λ d. old .not-slow d (suc j) u a (unasked-later j c (steps-only c) w) f) (λ z at-parent. not-slow j u a w z at-parent f);
               not-fast = λ a b inner j u z w f. ⊎-elim
                   (λ o. rw (o .2, claim-kept r m0 (reading 0) (o .0) (o .1)) (old .not-fast (o .0) (o .1) (λ l. inner (ap level (o .3) ∙ l)) (suc j) u z (unasked-later j c (steps-only c) w) f))
                   (λ o. ⊎-elim (λ y. rw (y .1, claim-now r m0 (reading 0) (y .0)) (not-fast j u z w (y .0) f)) (λ l. absurd (inner l)) o) (time .claims a b);

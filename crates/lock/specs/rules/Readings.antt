@@ -19,6 +19,12 @@ foundIn s st [] i = 0
 foundIn s st (k ∷ ks) zero = recordAt st (clientOf k) .phase
 foundIn s st (k ∷ ks) (suc i) = foundIn s (call s st k .state) ks i
 
+-- and the place in its list that it finds there
+unfoldable pub placeIn : Settings → State → List Call → ℕ → ℕ
+placeIn s st [] i = 0
+placeIn s st (k ∷ ks) zero = recordAt st (clientOf k) .place
+placeIn s st (k ∷ ks) (suc i) = placeIn s (call s st k .state) ks i
+
 -- between the places i and j no request of the client c was accepted
 abbrev pub WithinRequest : List Event → (i j c : ℕ) → Type 0
 WithinRequest h i j c = (k : ℕ) → i < k → k < j → RequestAt h k c → ⊥
@@ -32,13 +38,13 @@ abbrev pub NotFast : (wait t u m n : ℕ) → Type 0
 NotFast wait t u m n = wait ≤ u - t → 10000 * (u - t) ≤ 10001 * (n - m)
 
 -- of the accepted step at place i, `touch i` is the moment at which its word was touched (of a step that touches none, the moment of the step), and `reading i` that at which
--- its clock was read. The clocks matter in four phases: 3, where t1 is noted, and 6, where a claim may be late; 5, where t0 is noted, and 7, where the wait ends. (In a later
+-- its clock was read. The clocks matter in four phases: 3, where at the parent, place 0, t1 is noted, and 6, where a claim may be late; 5, where t0 is noted, and 7, where the wait ends. (In a later
 -- piece the clock also says, before a word is touched, whether patience has run out: a run that reads its clock after the touch completes by one at which it has not.)
 pub record ReadApart (s : Settings) (st : State) (ks : List Call) (touch reading : ℕ → ℕ) : Type 0 where
   -- a history has the steps in the order in which they touched the words
   pub never-back : (i j c d t u : ℕ) → i < j → StepAt (events s st ks) i c t → StepAt (events s st ks) j d u → touch i ≤ touch j
   pub not-slow : (i j c t u : ℕ) → i < j → StepAt (events s st ks) i c t → StepAt (events s st ks) j c u → WithinRequest (events s st ks) i j c
-      → foundIn s st ks i ≡ 3 → foundIn s st ks j ≡ 6 → NotSlow (s .wait) t u (reading i) (reading j)
+      → foundIn s st ks i ≡ 3 → placeIn s st ks i ≡ 0 → foundIn s st ks j ≡ 6 → NotSlow (s .wait) t u (reading i) (reading j)
   pub not-fast : (i j c t u : ℕ) → i < j → StepAt (events s st ks) i c t → StepAt (events s st ks) j c u → WithinRequest (events s st ks) i j c
       → foundIn s st ks i ≡ 5 → foundIn s st ks j ≡ 7 → NotFast (s .wait) t u (reading i) (reading j)
   -- in 3 and in 7 the clock was read first, in 5 and in 6 the word was touched first
