@@ -157,6 +157,7 @@ ownWordAccess s r =
 unfoldable pub returnAccess : Settings → Record → Access
 returnAccess s r = choose (eqb (r .place) 0) (ownWordAccess s r) (add (deltas 0 0 0 0 1 0))
 
+-- 1 "TMax + 1 at the piece", 6 "DMax + 1 at the next ancestor"; 2, 3, 4 and 8 read, and 0, 7 and 9 touch no word
 unfoldable pub accessIn : Settings → Record → Phase → Access
 accessIn s r idle = none
 accessIn s r ticket = add (deltas 0 0 0 1 0 0)
