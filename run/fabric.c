@@ -180,6 +180,18 @@ static bool server_known(fabric *over, const nolthewyr_server *server, char *err
     return false;
 }
 
+/* A provider may have atomics and not these, which it would say only when they are posted. */
+static bool has_atomics(const fabric *over, const nolthewyr_server *server, char *error)
+{
+    size_t read = 0, swapped = 0;
+    bool reads = fi_fetch_atomicvalid(over->local.endpoint, FI_UINT64, FI_ATOMIC_READ, &read) == 0 && read > 0;
+    bool swaps = fi_compare_atomicvalid(over->local.endpoint, FI_UINT64, FI_CSWAP, &swapped) == 0 && swapped > 0;
+    if (!reads || !swaps)
+        snprintf(error, NOLTHEWYR_ERROR_SIZE, "over %s: the provider has no atomic %s of 64 bits (%s)", server->over,
+                 reads ? "compare-and-swap" : "read", reads ? "FI_CSWAP" : "FI_ATOMIC_READ");
+    return reads && swaps;
+}
+
 /* Reads the root's word: a provider connects only when something is posted, and a server that is gone is to be found out now. */
 static bool answers(fabric *over, char *error)
 {
@@ -195,7 +207,8 @@ static bool reached(fabric *over, const nolthewyr_server *server, char *error)
     over->buffers = calloc(1, sizeof *over->buffers);
     over->words = server->words;
     over->units = server->units;
-    if (over->buffers == NULL || !nolthewyr_endpoint_open(&over->local, server, false, error) || !server_known(over, server, error))
+    if (over->buffers == NULL || !nolthewyr_endpoint_open(&over->local, server, false, error) || !has_atomics(over, server, error) ||
+        !server_known(over, server, error))
         return false;
     uint64_t most = over->local.info->ep_attr->max_msg_size / sizeof(uint64_t);
     over->chunk = most < CHUNK ? most : CHUNK;

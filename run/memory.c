@@ -62,13 +62,13 @@ static void close_memory(nolthewyr_transport *transport)
 static void *mapped(int opened, const nolthewyr_server *server, size_t size, char *error)
 {
     struct stat found;
-    void *at = MAP_FAILED;
-    if (fstat(opened, &found) == 0 && (size_t)found.st_size != size) {
+    bool seen = fstat(opened, &found) == 0;
+    if (seen && (size_t)found.st_size != size) {
         snprintf(error, NOLTHEWYR_ERROR_SIZE, "shared memory %s has %lld bytes, and a tree of %d levels and its units have %zu",
                  server->memory, (long long)found.st_size, (int)server->settings.levels, size);
-        return at;
+        return MAP_FAILED;
     }
-    at = mmap(NULL, size, PROT_READ | PROT_WRITE, MAP_SHARED, opened, 0);
+    void *at = seen ? mmap(NULL, size, PROT_READ | PROT_WRITE, MAP_SHARED, opened, 0) : MAP_FAILED;
     if (at == MAP_FAILED)
         snprintf(error, NOLTHEWYR_ERROR_SIZE, "shared memory %s: %s", server->memory, strerror(errno));
     return at;

@@ -7,13 +7,16 @@
 #include <stdlib.h>
 #include <string.h>
 
+#include "arguments.h"
+
 #define COUNT(list) (sizeof(list) / sizeof *(list))
 
 static const struct { const char *name; int (*run)(const char *file, int argc, char **argv); } commands[] = {
     {"hold", nolthewyr_hold}, {"try", nolthewyr_try}, {"tree", nolthewyr_tree},
 };
 
-static nolthewyr_run *signalled_run;
+/* The run that a signal cancels, NULL for none: a signal may come at any time. */
+static _Atomic(nolthewyr_run *) signalled_run;
 static volatile sig_atomic_t signalled;
 
 static const char usage[] =
@@ -44,15 +47,10 @@ nolthewyr_run *nolthewyr_opened(const char *file)
 
 static void cancel(int signal)
 {
+    nolthewyr_run *run = signalled_run;
     signalled = signal;
-    nolthewyr_run_cancel(signalled_run);
-}
-
-void nolthewyr_on_signal(int signal, void (*action)(int))
-{
-    struct sigaction before, after = {.sa_handler = action};
-    if (sigaction(signal, NULL, &before) == 0 && before.sa_handler != SIG_IGN)
-        sigaction(signal, &after, NULL);
+    if (run != NULL)
+        nolthewyr_run_cancel(run);
 }
 
 void nolthewyr_cancelled_by_signals(nolthewyr_run *run)
@@ -61,6 +59,12 @@ void nolthewyr_cancelled_by_signals(nolthewyr_run *run)
     nolthewyr_on_signal(SIGTERM, cancel);
     nolthewyr_on_signal(SIGINT, cancel);
     nolthewyr_on_signal(SIGHUP, cancel);
+}
+
+void nolthewyr_closed(nolthewyr_run *run)
+{
+    signalled_run = NULL;
+    nolthewyr_run_close(run);
 }
 
 int nolthewyr_signalled(void)

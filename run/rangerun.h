@@ -17,14 +17,14 @@ int nolthewyr_tree(const char *file, int argc, char **argv);
 /* Opens a run; if it cannot, says why on standard error and gives NULL. */
 nolthewyr_run *nolthewyr_opened(const char *file);
 
+/* Closes a run, which no signal cancels from then on. */
+void nolthewyr_closed(nolthewyr_run *run);
+
 /* Says on standard error what is wrong, and how rangerun is used; gives NOLTHEWYR_EXIT_LINE. */
 int nolthewyr_wrong_line(const char *reason, const char *text);
 
 /* Says on standard error why the run's last call was refused or failed; gives the status. */
 int nolthewyr_failed(const nolthewyr_run *run, int status);
-
-/* From now on the signal does this, unless it was ignored when rangerun was started, as nohup(1) has it. */
-void nolthewyr_on_signal(int signal, void (*action)(int));
 
 /* SIGTERM, SIGINT and SIGHUP from now on cancel what the run is taking. The last that came, 0 for none. */
 void nolthewyr_cancelled_by_signals(nolthewyr_run *run);

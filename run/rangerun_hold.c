@@ -120,6 +120,6 @@ int nolthewyr_hold(const char *file, int argc, char **argv)
         return NOLTHEWYR_EXIT_HOLD;
     nolthewyr_cancelled_by_signals(run);
     int status = held_for(run, left, right, limit, argv + optind + 2);
-    nolthewyr_run_close(run);
+    nolthewyr_closed(run);
     return status;
 }

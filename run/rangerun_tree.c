@@ -11,11 +11,12 @@ enum { AT_ONCE = 64 };
 /* An inner word has its fields from bit 63 down: Exp 1 bit, Occ 1, TCnt 15, TMax 15, DCnt 16, DMax 16 (document 01, "The tree"). */
 static bool inner_clean(uint64_t node, uint64_t word)
 {
-    uint64_t occ = word >> 62 & 1, tcnt = word >> 47 & 0x7fff, tmax = word >> 32 & 0x7fff, dcnt = word >> 16 & 0xffff, dmax = word & 0xffff;
-    if (occ == 0 && tcnt == tmax && dcnt == dmax)
+    uint64_t exp = word >> 63, occ = word >> 62 & 1;
+    uint64_t tcnt = word >> 47 & 0x7fff, tmax = word >> 32 & 0x7fff, dcnt = word >> 16 & 0xffff, dmax = word & 0xffff;
+    if (exp == 0 && occ == 0 && tcnt == tmax && dcnt == dmax)
         return true;
-    printf("node %" PRIu64 ": Occ %" PRIu64 " TCnt %" PRIu64 " TMax %" PRIu64 " DCnt %" PRIu64 " DMax %" PRIu64 "\n", node, occ, tcnt, tmax,
-           dcnt, dmax);
+    printf("node %" PRIu64 ": Exp %" PRIu64 " Occ %" PRIu64 " TCnt %" PRIu64 " TMax %" PRIu64 " DCnt %" PRIu64 " DMax %" PRIu64 "\n", node, exp,
+           occ, tcnt, tmax, dcnt, dmax);
     return false;
 }
 
@@ -70,6 +71,6 @@ int nolthewyr_tree(const char *file, int argc, char **argv)
     if (run == NULL)
         return NOLTHEWYR_EXIT_FAILED;
     int status = looked_through(run);
-    nolthewyr_run_close(run);
+    nolthewyr_closed(run);
     return status;
 }

@@ -17,6 +17,7 @@ typedef struct trial {
     uint64_t windows;
     uint64_t number;
     uint64_t seed;
+    bool within; /* whether the edges are said, and are not those of all units */
     uint64_t left;
     uint64_t right;
     uint64_t largest;
@@ -121,6 +122,7 @@ static bool option_set(trial *tried, int option, int argc, char **argv)
     case 'h':
         return nolthewyr_number(optarg, &tried->hold);
     case 'i':
+        tried->within = true;
         return nolthewyr_number(optarg, &tried->left) && optind < argc && nolthewyr_number(argv[optind++], &tried->right);
     default:
         return false;
@@ -143,7 +145,7 @@ static int options_read(trial *tried, int argc, char **argv)
 /* Sets what was not said, now that it is known how many units there are. False if the windows would lie outside. */
 static bool settled(trial *tried, uint64_t units)
 {
-    tried->right = tried->right == 0 ? units : tried->right;
+    tried->right = tried->within ? tried->right : units;
     if (tried->left >= tried->right || tried->right > units) {
         fprintf(stderr, "rangerun: [%" PRIu64 ", %" PRIu64 ") is no part of the units 0 to %" PRIu64 "\n", tried->left, tried->right,
                 units - 1);
@@ -171,7 +173,7 @@ int nolthewyr_try(const char *file, int argc, char **argv)
     nolthewyr_cancelled_by_signals(run);
     if (settled(&tried, nolthewyr_unit_count(nolthewyr_run_settings(run).levels)))
         status = windows_tried(run, &tried);
-    nolthewyr_run_close(run);
+    nolthewyr_closed(run);
     free(tried.units);
     return status;
 }

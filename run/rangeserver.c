@@ -4,7 +4,6 @@
 #include <stdio.h>
 #include <stdlib.h>
 #include <string.h>
-#include <sys/mman.h>
 #include <unistd.h>
 
 #include "arguments.h"
@@ -79,33 +78,36 @@ static int arguments_read(nolthewyr_server *server, int argc, char **argv)
 /* Blocks the signals that end the server, and gives those that were blocked before: with them it sleeps. */
 static sigset_t signals_blocked(void)
 {
+    static const int signals[] = {SIGTERM, SIGINT, SIGHUP};
     sigset_t ending, before;
-    struct sigaction action = {.sa_handler = end_serving};
     sigemptyset(&ending);
-    sigaddset(&ending, SIGTERM);
-    sigaddset(&ending, SIGINT);
-    sigaddset(&ending, SIGHUP);
+    for (size_t i = 0; i < sizeof signals / sizeof *signals; i++) {
+        sigaddset(&ending, signals[i]);
+        nolthewyr_on_signal(signals[i], end_serving);
+    }
     sigprocmask(SIG_BLOCK, &ending, &before);
-    sigaction(SIGTERM, &action, NULL);
-    sigaction(SIGINT, &action, NULL);
-    sigaction(SIGHUP, &action, NULL);
     return before;
 }
 
-/* Whether the file may be written: it is not there, or a server that died has left it. What that one had of shared memory is removed. */
+/* Whether the file may be written: it is not there, or a server that died has left it. It is then removed, with what that server had of
+ * shared memory. It is read before it is locked: when a process closes a file, its lock goes. */
 static bool room_made(const char *file, char *error)
 {
     nolthewyr_server left;
-    long process = nolthewyr_server_process(file);
-    nolthewyr_server_read(&left, file, error);
-    if (process != 0)
-        snprintf(error, NOLTHEWYR_ERROR_SIZE, "%s: process %ld serves it", file, process);
-    else if (access(file, F_OK) == 0 && left.version[0] == '\0')
-        snprintf(error, NOLTHEWYR_ERROR_SIZE, "%s: it is there, and no server has written it", file);
-    else {
-        shm_unlink(left.memory);
+    if (access(file, F_OK) != 0)
         return true;
-    }
+    nolthewyr_server_read(&left, file, error);
+    int locked = nolthewyr_server_left(file, error);
+    if (locked < 0)
+        return false;
+    if (left.version[0] == '\0')
+        snprintf(error, NOLTHEWYR_ERROR_SIZE, "%s: it is there, and no server has written it", file);
+    else if (!nolthewyr_memory_removed(left.memory))
+        snprintf(error, NOLTHEWYR_ERROR_SIZE, "%s: a copy of the file of a server that still serves shared memory %s", file, left.memory);
+    else if (!nolthewyr_server_remove(locked, file))
+        snprintf(error, NOLTHEWYR_ERROR_SIZE, "%s: a server left it, and it cannot be removed", file);
+    else
+        return true;
     return false;
 }
 
@@ -123,14 +125,15 @@ int main(int argc, char **argv)
     sigset_t waiting = signals_blocked();
     if (!room_made(file, error) || !serving->begin(&server, error))
         return failed(error);
-    if (!nolthewyr_server_write(&server, file, error)) {
+    int written = nolthewyr_server_write(&server, file, error);
+    if (written < 0) {
         serving->end(&server);
         return failed(error);
     }
     printf("serving %s\n", file);
     fflush(stdout);
     serving->serve(&ended, &waiting);
-    unlink(file);
+    nolthewyr_server_remove(written, file);
     serving->end(&server);
     return EXIT_SUCCESS;
 }

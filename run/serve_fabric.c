@@ -78,6 +78,16 @@ static bool begin(nolthewyr_server *server, char *error)
     return false;
 }
 
+/* Drives the provider. What it tells is taken off the queue, an error too, which would else be work that is never done: the server has
+ * posted nothing, so that none of it is its own. */
+static void driven(void)
+{
+    struct fi_cq_entry entry;
+    struct fi_cq_err_entry error = {0};
+    if (fi_cq_read(local.completions, &entry, 1) == -FI_EAVAIL)
+        fi_cq_readerr(local.completions, &error, 0);
+}
+
 /* A card carries out what is posted by itself; software does so only while its completion queue is read. A signal that comes just before a
  * sleep is seen after it. */
 static void serve(const volatile sig_atomic_t *ended, const sigset_t *waiting)
@@ -85,7 +95,7 @@ static void serve(const volatile sig_atomic_t *ended, const sigset_t *waiting)
     int looks = 0;
     sigprocmask(SIG_SETMASK, waiting, NULL);
     while (!*ended) {
-        fi_cq_read(local.completions, NULL, 0);
+        driven();
         looks = nolthewyr_endpoint_has_work(&local, looks < LOOKS ? 0 : MILLISECONDS) ? 0 : looks + 1;
         sched_yield();
     }

@@ -7,6 +7,7 @@
 #include <inttypes.h>
 #include <stdio.h>
 #include <string.h>
+#include <sys/stat.h>
 #include <unistd.h>
 
 enum { LINE_SIZE = 400 };
@@ -117,23 +118,67 @@ static void lines_written(const nolthewyr_server *server, FILE *to)
             server->address, server->words.key, server->words.base, server->units.key, server->units.base);
 }
 
-bool nolthewyr_server_write(const nolthewyr_server *server, const char *file, char *error)
+static bool locked(int opened)
+{
+    struct flock lock = {.l_type = F_WRLCK, .l_whence = SEEK_SET};
+    return fcntl(opened, F_SETLK, &lock) == 0;
+}
+
+/* A new file for this user alone: who can read it can write the table. What a process of the same number has left there is removed. */
+static FILE *created(const char *file)
+{
+    unlink(file);
+    int opened = open(file, O_WRONLY | O_CREAT | O_EXCL | O_CLOEXEC, 0600);
+    return opened < 0 ? NULL : fdopen(opened, "w");
+}
+
+int nolthewyr_server_write(const nolthewyr_server *server, const char *file, char *error)
 {
     char whole[4096];
-    struct flock lock = {.l_type = F_WRLCK, .l_whence = SEEK_SET};
     FILE *to = NULL;
+    bool linked = false;
     if ((size_t)snprintf(whole, sizeof whole, "%s.%ld", file, (long)getpid()) >= sizeof whole)
         errno = ENAMETOOLONG;
-    else if ((to = fopen(whole, "w")) != NULL) {
+    else if ((to = created(whole)) != NULL) {
         lines_written(server, to);
-        /* `to` stays open: with it the lock would go. */
-        if (fflush(to) == 0 && fcntl(fileno(to), F_SETLK, &lock) == 0 && rename(whole, file) == 0)
-            return true;
+        /* A link, unlike a rename, fails where another server has written its file meanwhile. */
+        linked = fflush(to) == 0 && locked(fileno(to)) && link(whole, file) == 0;
     }
-    snprintf(error, NOLTHEWYR_ERROR_SIZE, "%s: %s", file, strerror(errno));
+    if (!linked)
+        snprintf(error, NOLTHEWYR_ERROR_SIZE, "%s: %s", file, strerror(errno));
     if (to != NULL)
         unlink(whole);
-    return false;
+    /* `to` stays open: with it the lock would go. */
+    return linked ? fileno(to) : -1;
+}
+
+/* Whether the open file is the one that has this name now. */
+static bool has_name(int opened, const char *file)
+{
+    struct stat one, other;
+    return fstat(opened, &one) == 0 && stat(file, &other) == 0 && one.st_dev == other.st_dev && one.st_ino == other.st_ino;
+}
+
+int nolthewyr_server_left(const char *file, char *error)
+{
+    long process = nolthewyr_server_process(file);
+    int opened = open(file, O_RDWR | O_CLOEXEC);
+    if (process != 0)
+        snprintf(error, NOLTHEWYR_ERROR_SIZE, "%s: process %ld serves it", file, process);
+    else if (opened < 0)
+        snprintf(error, NOLTHEWYR_ERROR_SIZE, "%s: %s", file, strerror(errno));
+    else if (!locked(opened) || !has_name(opened, file))
+        snprintf(error, NOLTHEWYR_ERROR_SIZE, "%s: another server is being started or ended on it", file);
+    else
+        return opened;
+    if (opened >= 0)
+        close(opened);
+    return -1;
+}
+
+bool nolthewyr_server_remove(int opened, const char *file)
+{
+    return has_name(opened, file) && unlink(file) == 0;
 }
 
 long nolthewyr_server_process(const char *file)

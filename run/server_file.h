@@ -39,12 +39,19 @@ bool nolthewyr_server_settled(nolthewyr_settings settings, char *error);
 
 bool nolthewyr_server_over_memory(const nolthewyr_server *server);
 
-/* What each answers is whether it could; if not, `error` says why and names the file. */
+/* If one of the next three cannot do it, `error` says why and names the file. */
 bool nolthewyr_server_read(nolthewyr_server *server, const char *file, char *error);
 
-/* Writes the file whole and renames it into place, and keeps it locked while this process lives: so a run can tell a server on its own
- * machine that has died without removing the file. */
-bool nolthewyr_server_write(const nolthewyr_server *server, const char *file, char *error);
+/* Writes the file whole, for its user alone, where none is, and keeps it locked while this process lives: so a run can tell a server on its
+ * own machine that has died without removing the file. Gives the file, which stays open, or -1. */
+int nolthewyr_server_write(const nolthewyr_server *server, const char *file, char *error);
+
+/* Locks the file that a server left when it died. Only who has a file locked may remove it: so of servers that are started at once none
+ * removes another's. Gives the file, which stays open, or -1 if another has it. */
+int nolthewyr_server_left(const char *file, char *error);
+
+/* Removes the file that is open, if it still has this name. */
+bool nolthewyr_server_remove(int opened, const char *file);
 
 /* The process on this machine that serves the file, 0 for none. */
 long nolthewyr_server_process(const char *file);

@@ -15,6 +15,9 @@ typedef struct nolthewyr_serving {
     void (*end)(const nolthewyr_server *server);
 } nolthewyr_serving;
 
+/* Removes shared memory that a server left when it died. False if a server still serves it. */
+bool nolthewyr_memory_removed(const char *name);
+
 extern const nolthewyr_serving nolthewyr_memory_serving;
 extern const nolthewyr_serving nolthewyr_fabric_serving;
 
