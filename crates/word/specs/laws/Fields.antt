@@ -5,7 +5,7 @@ use Prim.Native.Nat.{ℕ, _+_, _-_, _*_, _/_, _%_, _^_, _≤_, _<_}
 use native.Mathlib.Nat.{mod-lt, mod-self, mod-eq-of-lt, add-mod-right}
 use native.Mathlib.Omega.{arith}
 use lib.Arith.{digits-lt}
-use lib.Pow.{pow-pos, pow-add, split, high, low, mod-mod-pow, shr-shr, shr-lt}
+use lib.Pow.{pow-pos, pow-add, split, high, low, mod-mod-pow, shr-shr}
 use lib.Pow as P
 use Rattle.word.specs.rules.Word.{field, putField, addField}
 
@@ -56,14 +56,6 @@ module _ (s k v w : ℕ) where
     field-put-other t j =
         ⊎-elim (λ h. ap (λ (n : ℕ). n % 2 ^ j) (above _ _ (k + s) t (omega arith) put-above)) (λ h. below _ _ s t j (omega arith) put-below)
 
-    -- a word of n bits stays one
-    pub put-lt : (n : ℕ) → s + k ≤ n → w < 2 ^ n → putField s k v w < 2 ^ n
-    unfolding putField
-    put-lt n h hw =
-        let d : (n - (k + s)) + (k + s) ≡ n = omega arith in
-        let hq : w / 2 ^ (k + s) < 2 ^ (n - (k + s)) = shr-lt (n - (k + s)) (k + s) (rw d hw) in
-        subst (λ (m : ℕ). putField s k v w < 2 ^ m) d (rw (pow-add 2 (n - (k + s)) (k + s)) (digits-lt hq lower-lt))
-
 -- ---- a field that is added to
 
 module _ (s k delta w : ℕ) where
@@ -82,10 +74,6 @@ module _ (s k delta w : ℕ) where
   pub add-above : (n : ℕ) → s + k ≤ n → addField s k delta w / 2 ^ n ≡ w / 2 ^ n
   unfolding addField
   add-above n h = above _ _ (k + s) n (omega arith) (put-above s k _ w new-lt)
-
-  pub add-lt : (n : ℕ) → s + k ≤ n → w < 2 ^ n → addField s k delta w < 2 ^ n
-  unfolding addField
-  add-lt = put-lt s k _ w new-lt
 
 -- ---- the numbers of a field
 
