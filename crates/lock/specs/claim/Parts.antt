@@ -1,10 +1,11 @@
 -- A state as the invariant looks at it: its words, its records in one list, over which is summed, and each client's last clock. Assumes nothing.
 use mathlib.Core.Path.{_≡_, refl, sym, ap, subst}
 use mathlib.Core.Logic.{_≢_}
-use mathlib.Core.List.{List, [], _∷_, map}
+use mathlib.Core.List.{List, _∷_, map}
 use Prim.Native.Nat.{ℕ, zero, suc, _<_}
 use lib.ListN.{length, getD, set, replicate}
 use lib.Seq.{getD-set-same, getD-set-other}
+use Rattle.base.specs.laws.Mapped.{map-set, map-at, map-count}
 use Rattle.lock.specs.declared.Client.{Client}
 use Rattle.lock.specs.declared.Record.{Record}
 use Rattle.lock.specs.rules.Records.{clientWith, idleClient}
@@ -27,19 +28,8 @@ partsOf st = record { words = st .words; records = map recordOf (st .clients); c
 
 -- ---- the records of the clients
 
-records-at : (cs : List Client) (c : ℕ) → getD (map recordOf cs) c nobody ≡ getD cs c idleClient .«record»
-records-at [] c = refl
-records-at (x ∷ cs) zero = refl
-records-at (x ∷ cs) (suc c) = records-at cs c
-
-records-set : (cs : List Client) (c : ℕ) (x : Client) → map recordOf (set cs c x) ≡ set (map recordOf cs) c (x .«record»)
-records-set [] c x = refl
-records-set (y ∷ cs) zero x = refl
-records-set (y ∷ cs) (suc c) x = ap (λ (rs : List Record). y .«record» ∷ rs) (records-set cs c x)
-
 pub records-count : (cs : List Client) → length (map recordOf cs) ≡ length cs
-records-count [] = refl
-records-count (x ∷ cs) = ap suc (records-count cs)
+records-count = map-count recordOf
 
 pub records-fresh : (n : ℕ) → map recordOf (replicate n idleClient) ≡ replicate n nobody
 records-fresh zero = refl
@@ -47,14 +37,14 @@ records-fresh (suc n) = ap (λ (rs : List Record). nobody ∷ rs) (records-fresh
 
 pub record-at : (st : State) (c : ℕ) → recordIn (partsOf st) c ≡ recordAt st c
 unfolding clientAt
-record-at st c = records-at (st .clients) c
+record-at st c = map-at recordOf (st .clients) c idleClient
 
 -- ---- after a call of the client c
 
 module _ (st : State) (words : List ℕ) (c t : ℕ) (q : Record) where
   -- P of the parts, with the records as a list of which one is set
   pub on-parts : (P : Parts → Type 0) → P (record { words = words; records = set (partsOf st .records) c q; clock = clockAt (withClient st words c t q) }) → P (partsOf (withClient st words c t q))
-  on-parts P v = subst (λ (rs : List Record). P (record { words = words; records = rs; clock = clockAt (withClient st words c t q) })) (sym (records-set (st .clients) c (clientWith t q))) v
+  on-parts P v = subst (λ (rs : List Record). P (record { words = words; records = rs; clock = clockAt (withClient st words c t q) })) (sym (map-set recordOf (st .clients) c (clientWith t q))) v
 
   pub clock-own : c < length (st .clients) → clockAt (withClient st words c t q) c ≡ t
   unfolding clientAt

@@ -9,6 +9,7 @@ use lib.Dec.{T, eqb}
 use lib.ListN.{length, getD, set, length-set}
 use Rattle.base.specs.rules.Choice.{choose}
 use Rattle.base.specs.laws.ChoiceLaws.{on-choose, choose-eq, by-lt}
+use Rattle.base.specs.laws.Mapped.{map-count}
 use Rattle.base.specs.laws.TestLaws.{both-true}
 use Rattle.tree.specs.rules.Tree.{wordCount}
 use Rattle.lock.specs.declared.Client.{Client}
@@ -28,7 +29,7 @@ use Rattle.table.specs.laws.CauseLaws.{both-none, table-client, table-passed}
 use Rattle.table.specs.laws.CallLaws.{set-same, table-refuses, table-takes}
 use Rattle.runs.specs.rules.ByOperation.{byOperation}
 use Rattle.runs.specs.rules.Network.{Flight, free, posted, answering, Run, Network, runAt, clientOn, withRun, Act, own, post, carry, complete, ownNext, ownCalls, same, asks, posts, carries, completes, act, askedBy, carriedBy, callsOf}
-use Rattle.runs.specs.laws.Shown.{seenBy, seen, shown, map-count, set-past, shown-free, shown-posted, shown-answering, shown-with, written-count}
+use Rattle.runs.specs.laws.Shown.{seenBy, seen, shown, set-past, shown-free, shown-posted, shown-answering, shown-with, written-count}
 use Rattle.runs.specs.laws.StepByOperation.{step-by-operation}
 
 -- ---- what is in flight

@@ -7,6 +7,7 @@ use native.Mathlib.Omega.{arith}
 use lib.ListN.{length, getD, set, length-set, length-replicate}
 use Rattle.base.specs.rules.Choice.{choose}
 use Rattle.base.specs.laws.ChoiceLaws.{choose-eq, on-choose}
+use Rattle.base.specs.laws.Mapped.{map-set, map-at, map-count}
 use Rattle.lock.specs.declared.Client.{Client}
 use Rattle.lock.specs.declared.Record.{Record}
 use Rattle.lock.specs.declared.Settings.{Settings}
@@ -32,21 +33,6 @@ abbrev pub shown : Settings → Network → State
 shown s net = record { words = net .words; clients = map (seen s) (net .runs) }
 
 -- ---- lists
-
-module _ {A B : Type 0} (f : A → B) where
-  pub map-set : (l : List A) (i : ℕ) (x : A) → map f (set l i x) ≡ set (map f l) i (f x)
-  map-set [] i x = refl
-  map-set (y ∷ l) zero x = refl
-  map-set (y ∷ l) (suc i) x = ap (λ (k : List B). f y ∷ k) (map-set l i x)
-
-  pub map-at : (l : List A) (i : ℕ) (d : A) → getD (map f l) i (f d) ≡ f (getD l i d)
-  map-at [] i d = refl
-  map-at (y ∷ l) zero d = refl
-  map-at (y ∷ l) (suc i) d = map-at l i d
-
-  pub map-count : (l : List A) → length (map f l) ≡ length l
-  map-count [] = refl
-  map-count (y ∷ l) = ap suc (map-count l)
 
 pub set-past : {A : Type 0} (l : List A) (i : ℕ) (x : A) → length l ≤ i → set l i x ≡ l
 set-past [] i x h = refl
