@@ -4,6 +4,7 @@ pub mod Backward
 pub mod Changes
 pub mod Checking
 pub mod Claiming
+pub mod ClearBit
 pub mod Climbing
 pub mod Demand3
 pub mod Effect

@@ -78,7 +78,7 @@ module _ (s : Settings) (rs : List Record) (r : Record) (last now : ℕ) (later 
       (λ t. let some = neqb→ne (gripOf r next) 0 t in
       onwards next 0 (by-lt (r .current) next (λ b. absurd (some (grip-after r next b))) (λ b. b)) some (omega arith)))
 
-  grips : r .place ≡ 0 → (from : ℕ) → gripOf r (r .giving) ≡ from → Grips s r (wordReturned s r) n from 0
+  pub grips : r .place ≡ 0 → (from : ℕ) → gripOf r (r .giving) ≡ from → Grips s r (wordReturned s r) n from 0
   grips z from f =
       grips-then s r (withPlace (suc (r .place)) r) (wordReturned s r) (word-returned-same s r last rd (ready-apart s r last rd) e) n from 0 (node .some)
       (own-returned s r last rd (ready-apart s r last rd) e z from f)
@@ -88,7 +88,7 @@ module _ (s : Settings) (rs : List Record) (r : Record) (last now : ℕ) (later 
 
   -- ---- the own word of a leaf
 
-  leaf-grip : level n ≡ s .levels → gripOf r (r .giving) ≡ 3
+  pub leaf-grip : level n ≡ s .levels → gripOf r (r .giving) ≡ 3
   leaf-grip leaf =
       by-lt (r .giving) (r .current) (λ b. grip-before r (r .giving) b)
       (λ b. let i : r .giving ≡ r .current = omega (arith, rd .active .giving-begun) in
