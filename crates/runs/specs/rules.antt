@@ -1,3 +1,4 @@
 pub mod Ahead
 pub mod ByOperation
+pub mod Clocks
 pub mod Network
