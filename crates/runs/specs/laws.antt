@@ -1,5 +1,11 @@
 pub mod ActLaws
+pub mod CarriedOut
+pub mod CarryLaws
 pub mod Completing
+pub mod Counted
 pub mod Leading
+pub mod OnState
+pub mod SameOperation
 pub mod Shown
 pub mod StepByOperation
+pub mod Underway

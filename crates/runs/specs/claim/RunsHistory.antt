@@ -4,32 +4,35 @@ use mathlib.Core.Path.{_≡_, refl, sym, ap, subst, _∙_}
 use mathlib.Core.List.{List, [], _∷_, _++_}
 use Prim.Native.Nat.{ℕ}
 use native.Mathlib.Omega.{arith}
-use lib.ListN.{length}
 use Rattle.base.specs.rules.Overlap.{Overlap}
 use Rattle.lock.specs.declared.Client.{Client}
 use Rattle.lock.specs.declared.Record.{Record}
 use Rattle.lock.specs.declared.Settings.{Settings}
-use Rattle.lock.specs.rules.Table.{State, Call, clientAt, recordAt, openingNumber, opening, call}
+use Rattle.lock.specs.rules.Table.{State, Call, clientAt, recordAt, opening, call}
 use Rattle.lock.specs.rules.History.{run, events, SingleHolding, Clean}
 use Rattle.lock.specs.rules.Readings.{ReadApart}
+use Rattle.lock.specs.claim.Invariant.{Invariant}
+use Rattle.lock.specs.claim.Keeping.{run-keeps}
+use Rattle.lock.specs.claim.Parts.{partsOf}
+use Rattle.lock.specs.claim.Start.{opening-invariant}
 use Rattle.lock.specs.claim.Demand3.{records-apart, read-apart-holding, records-clean}
 use Rattle.runs.specs.rules.Network.{Network, clientOn, started, Act, act, acts, callsOf, historyOf, HoldsOwn, IdleOwn}
 use Rattle.runs.specs.laws.Shown.{shown, shown-free, shown-started, shown-held, started-counts}
-use Rattle.runs.specs.laws.ActLaws.{act-shown, act-passed}
+use Rattle.runs.specs.laws.ActLaws.{Kept, act-kept, act-shown, started-fair}
 
 run-on : (s : Settings) (st : State) (ks js : List Call) → run s st (ks ++ js) ≡ run s (run s st ks) js
 unfolding run
 run-on s st [] js = refl
 run-on s st (k ∷ ks) js = run-on s (call s st k .state) ks js
 
--- from any network whose counts and settings are accepted by an opening
-pub acts-shown : (s : Settings) (net : Network) (happened : List Act) → openingNumber s (length (net .words)) (length (net .runs)) ≡ 0
-    → shown s (acts s net happened) ≡ run s (shown s net) (historyOf s net happened)
+-- from any network whose counts and settings are accepted by an opening, and that shows a state of a history
+pub acts-shown : (s : Settings) (net : Network) (happened : List Act) → Kept s net → Invariant s (partsOf (shown s net)) → shown s (acts s net happened) ≡ run s (shown s net) (historyOf s net happened)
 unfolding acts historyOf run
-acts-shown s net [] passed = refl
-acts-shown s net (a ∷ later) passed =
-    acts-shown s (act s net a) later (act-passed s net passed a)
-    ∙ ap (λ (st : State). run s st (historyOf s (act s net a) later)) (act-shown s net passed a)
+acts-shown s net [] kept inv = refl
+acts-shown s net (a ∷ later) kept inv =
+    let one = act-shown s net (kept .passed) (kept .fair) inv a in
+    acts-shown s (act s net a) later (act-kept s net (kept .passed) (kept .fair) inv a) (subst (λ (st : State). Invariant s (partsOf st)) (sym one) (run-keeps s (shown s net) inv (callsOf s net a)))
+    ∙ ap (λ (st : State). run s st (historyOf s (act s net a) later)) one
     ∙ sym (run-on s (shown s net) (callsOf s net a) (historyOf s (act s net a) later))
 
 module _ (s : Settings) (lent : State) (e : opening s lent .number ≡ 0) (happened : List Act) where
@@ -43,9 +46,11 @@ module _ (s : Settings) (lent : State) (e : opening s lent .number ≡ 0) (happe
   abbrev pub history : List Call
   history = historyOf s (started st) happened
 
-  -- the words are the history's, and so is every run's client, as soon as its operation is completed
+  -- the words are the history's, and so is every run's client, as soon as its operations are completed
   pub is-history : shown s net ≡ run s st history
-  is-history = acts-shown s (started st) happened (started-counts s lent e) ∙ ap (λ (x : State). run s x history) (shown-started s st)
+  is-history =
+      acts-shown s (started st) happened (record { passed = started-counts s lent e; fair = started-fair s (st .words) (st .clients) })
+      (subst (λ (x : State). Invariant s (partsOf x)) (sym (shown-started s st)) (opening-invariant s lent e)) ∙ ap (λ (x : State). run s x history) (shown-started s st)
 
   client-in : (c : ℕ) → clientAt (shown s net) c ≡ clientAt (run s st history) c
   client-in c = ap (λ (x : State). clientAt x c) is-history

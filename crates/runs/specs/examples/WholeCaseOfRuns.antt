@@ -1,4 +1,4 @@
--- Examples, closed by computing: document 01's whole case as two runs make it, with their posts and answers crossing each other. The history that they make is that of document 01, and at its end the
+-- Example, closed by computing: document 01's whole case as two runs make it, with lists of operations in flight that cross each other. The history that they make is that of document 01, and at its end the
 -- one run holds and the other is idle. Assumes nothing.
 use mathlib.Core.Path.{_≡_, refl}
 use mathlib.Core.List.{List, [], _∷_}
@@ -13,29 +13,30 @@ use Rattle.lock.specs.rules.Records.{phaseOf, pieces, pieceAt, isLeaf, gripOf, 
 use Rattle.lock.specs.rules.Unreadable.{numberTooLarge, idleFilled, notCovered, noCurrent, ticketTooLarge, fieldsWrong, listLength, placePast, noticesWrong, timeAhead, phaseElsewhere, heldEarly, outcomeWrong, lacksGrip, givingWrong, outOfPatienceFirst, takenFirst, unreadable}
 use Rattle.lock.specs.rules.Steps.{touchedIn, startPhase, begin, firstNoted, taken, ticketTaken, turnAwaited, goUp, climbed, unblocked, bitsClaimed, occClaimed, late, allNotified, noticeGiven, waited, checkPassed, pieceReturned, wordReturned, turnReturned, outOfPatience, applied, claimAccess, ownWordAccess, returnAccess, accessIn, pieceClaimed, bitsReturned, gripReturned, givenBack, completedIn}
 use Rattle.lock.specs.rules.Calls.{firstCause, settingsOutside, treeTests, clientsOutside, clientTests, requestTests, stepTests, releaseTests, cancelTests, requested, released, cancelled, answered}
-use Rattle.lock.specs.rules.Table.{request, release, clientOf, clientAt, ownTests, numberOf, after, call, openingNumber, opened, opening}
+use Rattle.lock.specs.rules.Table.{request, step, release, clientOf, clientAt, ownTests, numberOf, after, call, openingNumber, opened, opening}
 use Rattle.lock.specs.rules.Operations.{operationAt, accessOf, postTests, operationAnswer, completedTests, completedAnswer, ownRequestAnswer, ownReleaseAnswer}
 use Rattle.lock.specs.examples.WholeCase.{settings, lent, calls}
-use Rattle.runs.specs.rules.Network.{Network, runAt, clientOn, started, Act, own, post, carry, complete, ownNext, ownCalls, same, asks, posts, carries, completes, act, acts, askedBy, carriedBy, callsOf, historyOf, HoldsOwn}
+use Rattle.runs.specs.rules.Ahead.{standing, walk, givesBack, aheadIn, aheadOf, same, along, firstNumber, completedAllAnswer}
+use Rattle.runs.specs.rules.Network.{Network, runAt, clientOn, started, Act, own, post, carry, complete, touchesNone, ownNext, ownCalls, sameList, asks, posts, between, carries, completes, act, acts, askedBy, counts, carriedBy, callsOf, historyOf, HoldsOwn}
 
+-- at room 1 the runs post one operation at a time; with more room they post what they can: 1 its ticket with the turn's reading, 0 what it gives back
 abbrev happened : List Act
 happened =
-    own (request 0 10 20) ∷ own (request 1 0 256)
-    -- both post; 1's ticket is taken after 0 has read the root, and its answer comes back first
-    ∷ post 1 0 ∷ post 0 1 ∷ carry 0 1 ∷ carry 1 2 ∷ complete 1 ∷ complete 0
-    ∷ post 1 2 ∷ carry 1 2 ∷ complete 1
+    own (request 0 10 20) 1 ∷ own (request 1 0 256) 1
+    -- 1's ticket and the reading of its turn are carried out with 0's reading of the root in between
+    ∷ post 1 9 2 2 1 3 ∷ post 0 9 1 1 1 2 ∷ carry 0 1 ∷ carry 1 2 ∷ complete 0 ∷ carry 1 2 ∷ complete 1
     -- 1 sets Occ, 0 takes its bits: each completes by a clock that it reads when its answer is there
-    ∷ post 1 2 ∷ post 0 1 ∷ carry 1 3 ∷ carry 0 4 ∷ complete 0 ∷ complete 1
+    ∷ post 1 9 2 3 3 3 ∷ post 0 9 1 4 3 4 ∷ carry 1 3 ∷ carry 0 4 ∷ complete 0 ∷ complete 1
     -- 0's last notice, in time: it holds
-    ∷ post 0 4 ∷ carry 0 5 ∷ complete 0
+    ∷ post 0 9 4 5 4 5 ∷ carry 0 5 ∷ complete 0
     -- 1 has waited, and its check finds 0's notice
-    ∷ post 1 8 ∷ carry 1 8 ∷ complete 1 ∷ post 1 8 ∷ carry 1 8 ∷ complete 1
-    -- 0 gives back while 1 reads again
-    ∷ own (release 0) ∷ post 0 9 ∷ carry 0 9 ∷ complete 0 ∷ post 1 10 ∷ post 0 9 ∷ carry 0 9 ∷ carry 1 10 ∷ complete 1 ∷ complete 0 ∷ []
+    ∷ own (step 1 8) 8 ∷ post 1 9 8 8 8 9 ∷ carry 1 8 ∷ complete 1
+    -- 0 gives back its bits and its notice in one list, while 1 reads again
+    ∷ own (release 0) 9 ∷ post 0 9 9 9 9 10 ∷ carry 0 9 ∷ post 1 9 10 10 9 10 ∷ carry 0 9 ∷ complete 0 ∷ carry 1 10 ∷ complete 1 ∷ []
 
 abbrev net : Network
 net = acts settings (started (opening settings lent .state)) happened
 
 pub whole-case-of-runs : (historyOf settings (started (opening settings lent .state)) happened ≡ calls 5) × HoldsOwn net 1 0 256 × (clientOn net 0 .«record» .phase ≡ 0)
-unfolding call numberOf after ownTests clientAt clientOf opening openingNumber opened firstCause settingsOutside treeTests clientsOutside clientTests requestTests stepTests releaseTests cancelTests requested released cancelled touchedIn startPhase begin firstNoted taken ticketTaken turnAwaited goUp climbed unblocked bitsClaimed occClaimed late allNotified noticeGiven waited checkPassed pieceReturned wordReturned turnReturned applied claimAccess ownWordAccess returnAccess accessIn pieceClaimed bitsReturned gripReturned givenBack completedIn numberTooLarge idleFilled notCovered noCurrent ticketTooLarge fieldsWrong listLength placePast noticesWrong timeAhead phaseElsewhere heldEarly outcomeWrong lacksGrip givingWrong outOfPatienceFirst takenFirst unreadable phaseOf pieces pieceAt isLeaf gripOf noticesOf wordAt written levelsOutside windowOutside lesser behind leastOf rest search found leastCover before part over total rank upward ancestors ancestor notifies notifiedFrom notifyLevels notifyList row descendants nearest checkList climb leftmost first level levelWithin size left units holder wordCount field addFields matches replaced maskedSwap leafBits wantedBits choose outOfPatience operationAt accessOf postTests operationAnswer completedTests completedAnswer ownRequestAnswer ownReleaseAnswer answered runAt ownNext ownCalls same asks posts carries completes act acts askedBy carriedBy callsOf historyOf
+unfolding call numberOf after ownTests clientAt clientOf opening openingNumber opened firstCause settingsOutside treeTests clientsOutside clientTests requestTests stepTests releaseTests cancelTests requested released cancelled touchedIn startPhase begin firstNoted taken ticketTaken turnAwaited goUp climbed unblocked bitsClaimed occClaimed late allNotified noticeGiven waited checkPassed pieceReturned wordReturned turnReturned applied claimAccess ownWordAccess returnAccess accessIn pieceClaimed bitsReturned gripReturned givenBack completedIn numberTooLarge idleFilled notCovered noCurrent ticketTooLarge fieldsWrong listLength placePast noticesWrong timeAhead phaseElsewhere heldEarly outcomeWrong lacksGrip givingWrong outOfPatienceFirst takenFirst unreadable phaseOf pieces pieceAt isLeaf gripOf noticesOf wordAt written levelsOutside windowOutside lesser behind leastOf rest search found leastCover before part over total rank upward ancestors ancestor notifies notifiedFrom notifyLevels notifyList row descendants nearest checkList climb leftmost first level levelWithin size left units holder wordCount field addFields matches replaced maskedSwap leafBits wantedBits choose outOfPatience operationAt accessOf postTests operationAnswer completedTests completedAnswer ownRequestAnswer ownReleaseAnswer answered runAt ownNext ownCalls touchesNone same sameList asks posts between carries completes act acts askedBy counts carriedBy callsOf historyOf standing walk givesBack aheadIn aheadOf along firstNumber completedAllAnswer
 whole-case-of-runs = (refl, record { held = refl; from = refl; to = refl }, refl)

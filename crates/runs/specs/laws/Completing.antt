@@ -1,11 +1,11 @@
--- Laws for a run that reads its clock when an operation is done: by which clocks it may complete. A later piece may run out of patience while its claim or its notice is on the way; by the clock
+-- Laws for a run that reads its clock when its operations are done: by which clocks it may complete them. A later piece may run out of patience while its claim or its notice is on the way; by the clock
 -- t1 + T the claim is late in any case, and if more than the wait was left of its patience when it read its parent, patience has not run out by then. Assumes nothing.
-use mathlib.Core.Path.{_≡_, refl, sym, ap, ap₂, _∙_}
+use mathlib.Core.Path.{_≡_, sym, ap, ap₂, subst, _∙_}
 use mathlib.Core.Bool.{Bool, true, false, not, _&&_}
-use mathlib.Core.List.{[], _∷_}
+use mathlib.Core.List.{List, [], _∷_}
 use Prim.Native.Nat.{ℕ, _+_, _-_, _*_, _≤_, _<_}
 use native.Mathlib.Omega.{arith}
-use borrow.Author.Tests.{eq-eqb, le-ltb, lt-leb}
+use borrow.Author.Tests.{le-ltb, lt-leb}
 use lib.Dec.{eqb, leb, ltb}
 use Rattle.base.specs.rules.Choice.{choose}
 use Rattle.base.specs.laws.TestLaws.{second-false}
@@ -15,27 +15,23 @@ use Rattle.lock.specs.declared.Record.{Record}
 use Rattle.lock.specs.declared.Settings.{Settings}
 use Rattle.lock.specs.rules.Records.{phaseOf}
 use Rattle.lock.specs.rules.Unreadable.{unreadable}
-use Rattle.lock.specs.rules.Steps.{none, accessIn, ownTouched, outOfPatience, late}
+use Rattle.lock.specs.rules.Steps.{outOfPatience, late}
 use Rattle.lock.specs.rules.Calls.{firstCause, settingsOutside}
-use Rattle.lock.specs.rules.Operations.{operationAt, refusedOperation, postTests, operationAnswer}
+use Rattle.lock.specs.rules.Operations.{postTests}
 use Rattle.lock.specs.rules.Readings.{NotSlow}
-use Rattle.runs.specs.rules.Network.{same}
-
--- an operation is the same as itself
-pub same-itself : (o : Operation) → same o o ≡ true
-unfolding same
-same-itself o =
-    let e : (n : ℕ) → eqb n n ≡ true = λ n. eq-eqb n n refl in
-    λ i. e (o .number) i && e (o .kind) i && e (o .node) i && e (o .compared) i && e (o .expected) i && e (o .swapped) i && e (o .value) i
+use Rattle.runs.specs.rules.Ahead.{aheadIn, aheadOf}
+use Rattle.runs.specs.rules.Network.{sameList}
+use Rattle.runs.specs.laws.SameOperation.{list-itself}
 
 -- a clock that does not go back tells only whether patience has run out
-pub same-operation : (s : Settings) (c : Client) (p u : ℕ) → c .clock ≤ p → c .clock ≤ u → outOfPatience s (c .«record») p ≡ outOfPatience s (c .«record») u
-    → operationAnswer s c p ≡ operationAnswer s c u
-unfolding operationAnswer postTests
-same-operation s c p u a b e =
+pub same-list : (s : Settings) (c : Client) (p u : ℕ) → c .clock ≤ p → c .clock ≤ u → outOfPatience s (c .«record») p ≡ outOfPatience s (c .«record») u → sameList (aheadOf s c p) (aheadOf s c u) ≡ true
+unfolding aheadOf postTests
+same-list s c p u a b e =
     let r = c .«record» in
-    ap₂ (λ (back out : Bool). let number = firstCause ((settingsOutside s, 1) ∷ (back, 5) ∷ (unreadable s r (c .clock), 6) ∷ []) in choose (eqb number 0) (operationAt (choose out 0 (ownTouched s r)) (choose out none (accessIn s r (phaseOf (r .phase))))) (refusedOperation number))
-    (le-ltb p (c .clock) a ∙ sym (le-ltb u (c .clock) b)) e
+    subst (λ (l : List Operation). sameList (aheadOf s c p) l ≡ true)
+    (ap₂ (λ (back out : Bool). choose (eqb (firstCause ((settingsOutside s, 1) ∷ (back, 5) ∷ (unreadable s r (c .clock), 6) ∷ [])) 0) (choose out [] (aheadIn s r (phaseOf (r .phase)))) [])
+    (le-ltb p (c .clock) a ∙ sym (le-ltb u (c .clock) b)) e)
+    (list-itself (aheadOf s c p))
 
 module _ (s : Settings) (r : Record) where
   -- who begins to climb with more than the wait of its patience left is patient until t1 + T

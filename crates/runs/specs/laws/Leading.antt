@@ -120,7 +120,7 @@ module _ (s : Settings) (r : Record) where
       let behind = choose (eqb (gripOf r (suc (r .giving))) 0) [] (givesBack count s (withPlace 0 (withGiving (suc (r .giving)) r))) in
       sym (first-same _ _ _ _ (ap (λ (x : ℕ). map (standing s r returning) (row x (r .place)) ++ behind) (sym k) ∙ e))
 
-  own-first : (last : ℕ) → Ready s r last → First (phaseOf (r .phase))
+  pub own-first : (last : ℕ) → Ready s r last → First (phaseOf (r .phase))
   unfolding aheadIn standing touchedIn accessIn claimAccess listLength pieceAt pieces
   own-first last rd =
       on-phase (r .phase) First

@@ -1,6 +1,6 @@
--- A network as the history sees it: each run's client as it is when the operation that was carried out is completed. Assumes nothing.
+-- A network as the history sees it: each run's client as it is when the operations that were carried out are completed. Assumes nothing.
 use mathlib.Core.Path.{_≡_, refl, ap, ap₂, _∙_}
-use mathlib.Core.Bool.{Bool}
+use lib.Dec.{eqb}
 use mathlib.Core.List.{List, [], _∷_, map}
 use Prim.Native.Nat.{ℕ, zero, suc, _≤_}
 use native.Mathlib.Omega.{arith}
@@ -9,22 +9,21 @@ use Rattle.base.specs.rules.Choice.{choose}
 use Rattle.base.specs.laws.ChoiceLaws.{choose-eq, on-choose}
 use Rattle.base.specs.laws.Mapped.{map-set, map-at, map-count}
 use Rattle.lock.specs.declared.Client.{Client}
+use Rattle.lock.specs.declared.Operation.{Operation}
 use Rattle.lock.specs.declared.Record.{Record}
 use Rattle.lock.specs.declared.Settings.{Settings}
-use Rattle.lock.specs.declared.Stepped.{Stepped}
 use Rattle.lock.specs.rules.Records.{Phase, phaseOf, written, idleClient}
-use Rattle.lock.specs.rules.Steps.{goesTo, completedIn, completed, givenUp}
-use Rattle.lock.specs.rules.Calls.{answered}
-use Rattle.lock.specs.rules.Operations.{completedAnswer}
+use Rattle.lock.specs.rules.Steps.{outOfPatience}
+use Rattle.lock.specs.rules.Calls.{firstCause}
+use Rattle.lock.specs.rules.Operations.{postTests}
 use Rattle.lock.specs.rules.Table.{State, clientAt, openingNumber, opened, opening}
-use Rattle.lock.specs.laws.PatienceLaws.{patient-taken}
 use Rattle.lock.specs.laws.Phases.{at-held}
-use Rattle.runs.specs.rules.Network.{Flight, free, posted, answering, Run, Network, runAt, clientOn, withRun, started}
+use Rattle.runs.specs.rules.Ahead.{aheadIn, aheadOf, along, completedAllAnswer}
+use Rattle.runs.specs.rules.Network.{Flight, free, flying, Run, Network, runAt, clientOn, withRun, started}
 
 unfoldable pub seenBy : Settings → Client → Flight → Client
 seenBy s c free = c
-seenBy s c (posted o) = c
-seenBy s c (answering u w) = completedAnswer s c u w .next
+seenBy s c (flying u m n os found) = completedAllAnswer s c u found .next
 
 unfoldable pub seen : Settings → Run → Client
 seen s x = seenBy s (x .client) (x .flight)
@@ -57,13 +56,9 @@ module _ (s : Settings) (net : Network) (c : ℕ) where
   unfolding seenBy
   shown-free e = client-shown ∙ by-flight free e
 
-  pub shown-posted : {o : _} → flight ≡ posted o → clientAt (shown s net) c ≡ clientOn net c
+  pub shown-flying : (u m n : ℕ) (os : List Operation) (found : List ℕ) → flight ≡ flying u m n os found → clientAt (shown s net) c ≡ completedAllAnswer s (clientOn net c) u found .next
   unfolding seenBy
-  shown-posted {o} e = client-shown ∙ by-flight (posted o) e
-
-  pub shown-answering : (u w : ℕ) → flight ≡ answering u w → clientAt (shown s net) c ≡ completedAnswer s (clientOn net c) u w .next
-  unfolding seenBy
-  shown-answering u w e = client-shown ∙ by-flight (answering u w) e
+  shown-flying u m n os found e = client-shown ∙ by-flight (flying u m n os found) e
 
   -- a run changed: one client of those shown is
   pub shown-with : (words : List ℕ) (x : Client) (f : Flight) → shown s (withRun net words c x f) ≡ record { words = words; clients = set (shown s net .clients) c (seenBy s x f) }
@@ -102,17 +97,16 @@ module _ (s : Settings) (c : Client) (e : c .«record» .phase ≡ 9) where
   abbrev r : Record
   r = c .«record»
 
-  stays-held : (u w : ℕ) → completed s r w u .next ≡ r
-  unfolding choose completedIn
-  stays-held u w =
-      ap (λ (b : Bool). choose b (goesTo (givenUp r)) (completedIn s r w u (phaseOf (r .phase))) .next) (patient-taken s r u (omega arith))
-      ∙ ap (λ (p : Phase). completedIn s r w u p .next) (at-held (r .phase) e)
+  nothing-ahead : (u : ℕ) → aheadOf s c u ≡ []
+  unfolding aheadOf aheadIn
+  nothing-ahead u =
+      ap (λ (p : Phase). choose (eqb (firstCause (postTests s c u)) 0) (choose (outOfPatience s r u) [] (aheadIn s r p)) []) (at-held (r .phase) e)
+      ∙ on-choose (λ (l : List Operation). l ≡ []) _ _ _ (λ _. on-choose (λ (l : List Operation). l ≡ []) (outOfPatience s r u) _ _ (λ _. refl) (λ _. refl)) (λ _. refl)
 
   held-seen : (f : Flight) → seenBy s c f .«record» ≡ r
-  unfolding seenBy completedAnswer answered
+  unfolding seenBy completedAllAnswer along
   held-seen free = refl
-  held-seen (posted o) = refl
-  held-seen (answering u w) = on-choose (λ (x : Stepped). x .next .«record» ≡ r) _ _ _ (λ _. stays-held u w) (λ _. refl)
+  held-seen (flying u m n os found) = ap (λ (l : List Operation). along s u c l found .next .«record») (nothing-ahead u)
 
 pub shown-held : (s : Settings) (net : Network) (c : ℕ) → clientOn net c .«record» .phase ≡ 9 → clientAt (shown s net) c .«record» ≡ clientOn net c .«record»
 unfolding seen

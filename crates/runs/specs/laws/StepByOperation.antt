@@ -58,12 +58,12 @@ module _ (s : Settings) (r : Record) (w t : ℕ) where
   refused-leaves = on-moved s r w Left t (λ _. refl) (row-left (phaseOf (r .phase)))
 
 -- what stands there, written again, changes nothing
-written-same : (words : List ℕ) (n : ℕ) → written words n (wordAt words n) ≡ words
+pub written-same : (words : List ℕ) (n : ℕ) → written words n (wordAt words n) ≡ words
 unfolding written wordAt
 written-same words zero = refl
 written-same words (suc i) = set-same words i 0
 
-node-at : (n : ℕ) (a : Access) → operationAt n a .node ≡ n
+pub node-at : (n : ℕ) (a : Access) → operationAt n a .node ≡ n
 unfolding operationAt
 node-at n none = refl
 node-at n read = refl
