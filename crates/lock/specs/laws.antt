@@ -4,6 +4,7 @@ pub mod ActiveLaws
 pub mod Advancing
 pub mod ByKind
 pub mod CallLaws
+pub mod ClaimLaws
 pub mod CoverLaws
 pub mod LateLaws
 pub mod MoveLaws

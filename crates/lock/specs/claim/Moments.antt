@@ -1,14 +1,14 @@
 -- What is known beside a state of moments: those at which the clients' noted times were read, and what is supposed of the rest of the history; and that every call keeps it so.
 -- Only this part of the invariant rests on a supposition. Assumes nothing.
 use mathlib.Core.Path.{_≡_, refl, sym, ap, subst, _∙_}
-use mathlib.Core.Logic.{_≢_, _⊎_, inl, ⊎-elim}
+use mathlib.Core.Logic.{_≢_, _⊎_, inl, inr, ⊎-elim}
 use mathlib.Core.List.{List, _∷_}
-use Prim.Native.Nat.{ℕ, zero, suc, _≤_, _<_}
+use Prim.Native.Nat.{ℕ, zero, suc, _+_, _≤_, _<_}
 use native.Mathlib.Omega.{arith}
 use lib.Dec.{eqb}
 use lib.ListN.{length, getD, set}
 use Rattle.base.specs.rules.Choice.{choose}
-use Rattle.base.specs.laws.ChoiceLaws.{choose-eq, choose-ne}
+use Rattle.base.specs.laws.ChoiceLaws.{choose-eq, choose-ne, by-lt, by-eq}
 use Rattle.base.specs.laws.Sum.{on-set}
 use Rattle.tree.specs.rules.Tree.{level}
 use Rattle.lock.specs.declared.Record.{Record}
@@ -16,7 +16,8 @@ use Rattle.lock.specs.declared.Settings.{Settings}
 use Rattle.lock.specs.rules.Records.{currentPiece}
 use Rattle.lock.specs.rules.Table.{step}
 use Rattle.lock.specs.rules.History.{Event, RequestOf, Accepted, At, StepAt}
-use Rattle.lock.specs.rules.Readings.{RequestAt, NotSlow, NotFast}
+use Rattle.lock.specs.rules.Readings.{RequestAt, NotSlow, NotFast, LateAt}
+use Rattle.lock.specs.laws.ClaimLaws.{ClaimOn}
 use Rattle.lock.specs.claim.InnerWords.{nobody}
 use Rattle.lock.specs.claim.Parts.{Parts, recordIn}
 use Rattle.lock.specs.claim.Stage.{passing, passing-climb, checked-stage}
@@ -29,13 +30,15 @@ abbrev pub Unasked : List Event → (j c : ℕ) → Type 0
 Unasked h j c = (k : ℕ) → k < j → RequestAt h k c → ⊥
 
 -- of the client c with the record r, whose t0 was read at the moment m0 and whose t1 at m1, where it has noted them, and of its steps in the rest of the history
-pub record Noted (s : Settings) (r : Record) (m0 m1 present : ℕ) (rest : List Event) (found reading : ℕ → ℕ) (c : ℕ) : Type 0 where
+pub record Noted (s : Settings) (r : Record) (m0 m1 present : ℕ) (rest : List Event) (found : ℕ → Record) (reading : ℕ → ℕ) (c : ℕ) : Type 0 where
   pub past : passing r ≢ 0 → m1 ≤ present
-  pub not-slow : passing r ≢ 0 → (j u : ℕ) → StepAt rest j c u → Unasked rest j c → found j ≡ 6 → NotSlow (s .wait) (r .t1) u m1 (reading j)
-  pub not-fast : 6 ≤ r .phase → r .phase ≤ 7 → level (currentPiece r) ≢ s .levels → (j u : ℕ) → StepAt rest j c u → Unasked rest j c → found j ≡ 7 → NotFast (s .wait) (r .t0) u m0 (reading j)
+  pub not-slow : passing r ≢ 0 → (j u : ℕ) → StepAt rest j c u → Unasked rest j c → found j .phase ≡ 6 → (LateAt s (found j) u → ⊥) → NotSlow (s .wait) (r .t1) u m1 (reading j)
+  -- a claim that was late in any case when it was made has not been notified to the last
+  pub not-fast : 6 ≤ r .phase → r .phase ≤ 7 → level (currentPiece r) ≢ s .levels
+      → ((r .phase ≡ 6) × (r .t1 + s .wait ≤ r .t0)) ⊎ ((j u : ℕ) → StepAt rest j c u → Unasked rest j c → found j .phase ≡ 7 → NotFast (s .wait) (r .t0) u m0 (reading j))
 
--- `found j` is the phase in which the call at place j of the rest finds its client's record
-pub record Timing (s : Settings) (st : Parts) (rest : List Event) (found touch reading : ℕ → ℕ) : Type 0 where
+-- `found j` is the record that the call at place j of the rest finds of its client
+pub record Timing (s : Settings) (st : Parts) (rest : List Event) (found : ℕ → Record) (touch reading : ℕ → ℕ) : Type 0 where
   -- the moments at which each client's t0 and t1 were read, and that of the last touch
   pub claim : ℕ → ℕ
   pub parent : ℕ → ℕ
@@ -67,8 +70,8 @@ changed-other c x f d n = choose-ne d c x (f d) n
 
 -- ---- the rest of a history after its first event
 
-module _ (s : Settings) (e : Event) (rest : List Event) (found touch reading : ℕ → ℕ) where
-  abbrev found′ : ℕ → ℕ
+module _ (s : Settings) (e : Event) (rest : List Event) (found : ℕ → Record) (touch reading : ℕ → ℕ) where
+  abbrev found′ : ℕ → Record
   found′ i = found (suc i)
 
   abbrev touch′ : ℕ → ℕ
@@ -91,7 +94,7 @@ module _ (s : Settings) (e : Event) (rest : List Event) (found touch reading : �
   noted-later r m0 m1 present now c none l v = record {
     past = λ d. omega (arith, v .past d);
     not-slow = λ d j u a w. v .not-slow d (suc j) u a (unasked-later j c none w);
-    not-fast = λ a b d j u z w. v .not-fast a b d (suc j) u z (unasked-later j c none w);
+    not-fast = λ a b d. ⊎-elim inl (λ f. inr (λ j u z w. f (suc j) u z (unasked-later j c none w))) (v .not-fast a b d);
   }
 
   module _ (st : Parts) (v : Timing s st (e ∷ rest) found touch reading) where
@@ -151,9 +154,9 @@ module _ (s : Settings) (e : Event) (rest : List Event) (found touch reading : �
       -- ---- a step
 
       module _ (inv : Invariant s st) (now : ℕ) (time : Timely s rs nobody r q now) (at : (e .number ≡ 0) × (e .made ≡ step c now))
-          (order : (j d u : ℕ) → StepAt rest j d u → touch 0 ≤ touch (suc j)) (is : found 0 ≡ r .phase)
-          (not-slow : (j u : ℕ) → StepAt rest j c u → Unasked rest j c → r .phase ≡ 3 → r .place ≡ 0 → found (suc j) ≡ 6 → NotSlow (s .wait) now u (reading 0) (reading (suc j)))
-          (not-fast : (j u : ℕ) → StepAt rest j c u → Unasked rest j c → r .phase ≡ 5 → found (suc j) ≡ 7 → NotFast (s .wait) now u (reading 0) (reading (suc j)))
+          (order : (j d u : ℕ) → StepAt rest j d u → touch 0 ≤ touch (suc j)) (is : found 0 ≡ r) (past : r .t0 ≤ now) (on : (r .phase ≡ 5) ⊎ (r .phase ≡ 6) → ClaimOn s r now q)
+          (not-slow : (j u : ℕ) → StepAt rest j c u → Unasked rest j c → r .phase ≡ 3 → r .place ≡ 0 → found (suc j) .phase ≡ 6 → (LateAt s (found (suc j)) u → ⊥) → NotSlow (s .wait) now u (reading 0) (reading (suc j)))
+          (not-fast : (j u : ℕ) → StepAt rest j c u → Unasked rest j c → r .phase ≡ 5 → found (suc j) .phase ≡ 7 → (LateAt s r now → ⊥) → NotFast (s .wait) now u (reading 0) (reading (suc j)))
           (read-first : (r .phase ≡ 3) ⊎ (r .phase ≡ 7) → reading 0 ≤ touch 0) (touched-first : (r .phase ≡ 5) ⊎ (r .phase ≡ 6) → touch 0 ≤ reading 0) where
         abbrev m0 : ℕ
         m0 = v .claim c
@@ -175,8 +178,10 @@ module _ (s : Settings) (e : Event) (rest : List Event) (found touch reading : �
         read = record {
           read-first = read-first;
           touched-first = touched-first;
-          not-slow = λ d p. v .noted c .not-slow d 0 now at (λ _ b. absurd (omega arith)) (is ∙ p);
-          not-fast = λ inner p. v .noted c .not-fast (omega arith) (omega arith) inner 0 now at (λ _ b. absurd (omega arith)) (is ∙ p);
+          not-slow = λ d p. by-lt now (r .t1 + s .wait)
+              (λ b. v .noted c .not-slow d 0 now at (λ _ b. absurd (omega arith)) (ap (λ (x : Record). x .phase) is ∙ p) (λ z. omega (arith, z .0, ap (λ (x : Record). x .t1) is)))
+              (λ b _. omega (arith, b));
+          not-fast = λ inner p. ⊎-elim (λ z. absurd (omega (arith, z .0, p))) (λ f. f 0 now at (λ _ b. absurd (omega arith)) (ap (λ (x : Record). x .phase) is ∙ p)) (v .noted c .not-fast (omega arith) (omega arith) inner);
         }
 
         abbrev claim′ : ℕ → ℕ
@@ -184,6 +189,11 @@ module _ (s : Settings) (e : Event) (rest : List Event) (found touch reading : �
 
         abbrev parent′ : ℕ → ℕ
         parent′ = changed c (parentRead r m1 (reading 0)) (v .parent)
+
+        -- a claim that was late in any case stays with its notices
+        still-notifying : r .phase ≡ 6 → r .t1 + s .wait ≤ r .t0 → 6 ≤ q .phase → q .phase ≤ 7 → q .phase ≡ 6
+        still-notifying six over a b =
+            by-eq (q .phase) 6 (λ e. e) (λ d. ⊎-elim (λ z. absurd (omega (arith, z .0, six))) (λ z. absurd (omega (arith, z .1, over, past))) (on (inr six) a b .1 (omega arith)))
 
         -- what the client has noted, before the step or at it
         own-noted : Noted s q (claimRead r m0 (reading 0)) (parentRead r m1 (reading 0)) (touch 0) rest found′ reading′ c
@@ -203,10 +213,25 @@ module _ (s : Settings) (e : Event) (rest : List Event) (found touch reading : �
             (time .passes) in
             record {
               past = λ n. on-parent (λ t m. m ≤ touch 0) n (λ d. omega (arith, old .past d, onward)) (λ z _. read-first (inl z));
-              not-slow = λ n j u a w f. on-parent (λ t m. NotSlow (s .wait) t u m (reading (suc j))) n (λ d. old .not-slow d (suc j) u a (unasked-later j c (steps-only c) w) f) (λ z at-parent. not-slow j u a w z at-parent f);
-              not-fast = λ a b inner j u z w f. ⊎-elim
-                  (λ o. rw (o .2, claim-kept r m0 (reading 0) (o .0) (o .1)) (old .not-fast (o .0) (o .1) (λ l. inner (ap level (o .3) ∙ l)) (suc j) u z (unasked-later j c (steps-only c) w) f))
-                  (λ o. ⊎-elim (λ y. rw (y .1, claim-now r m0 (reading 0) (y .0)) (not-fast j u z w (y .0) f)) (λ l. absurd (inner l)) o) (time .claims a b);
+              not-slow = λ n j u a w f g. on-parent (λ t m. NotSlow (s .wait) t u m (reading (suc j))) n (λ d. old .not-slow d (suc j) u a (unasked-later j c (steps-only c) w) f g) (λ z at-parent. not-slow j u a w z at-parent f g);
+              not-fast = λ a b inner. ⊎-elim
+                  -- claimed before: one that was late in any case does not get past its last notice
+                  (λ o. ⊎-elim
+                  (λ y. inl (still-notifying (y .0) (y .1) a b, omega (arith, y .1, on (inr (y .0)) a b .0, o .2)))
+                  (λ f. inr (λ j u z w g. rw (o .2, claim-kept r m0 (reading 0) (o .0) (o .1)) (f (suc j) u z (unasked-later j c (steps-only c) w) g)))
+                  (old .not-fast (o .0) (o .1) (λ l. inner (ap level (o .3) ∙ l))))
+                  -- claims now
+                  (λ o. ⊎-elim
+                  (λ y. let k = on (inl (y .0)) a b in
+                  let fast : (LateAt s r now → ⊥) → ((j u : ℕ) → StepAt rest j c u → Unasked rest j c → found (suc j) .phase ≡ 7 → NotFast (s .wait) (q .t0) u (claimRead r m0 (reading 0)) (reading (suc j)))
+                  = λ d j u z w g. rw (y .1, claim-now r m0 (reading 0) (y .0)) (not-fast j u z w (y .0) g d) in
+                  by-lt now (r .t1 + s .wait)
+                  (λ l. inr (fast (λ z. omega (arith, z .0, l))))
+                  (λ l. by-eq (q .phase) 6
+                  (λ six. inl (six, omega (arith, k .0, y .1)))
+                  (λ d. inr (fast (λ z. ⊎-elim (λ root. z .1 (root .1)) (λ x. omega (arith, x .0, y .0)) (k .1 (omega arith)))))))
+                  (λ l. absurd (inner l)) o)
+                  (time .claims a b);
             }
 
         two-timed : (a b : ℕ) → a ≢ b → Timed s (getD (set rs c q) a nobody) (getD (set rs c q) b nobody) (claim′ a) (parent′ b) (touch 0)

@@ -3,18 +3,21 @@
 use mathlib.Core.Path.{_≡_, refl, sym, ap, subst, _∙_}
 use mathlib.Core.Logic.{_≢_}
 use mathlib.Core.List.{List, [], _∷_}
-use Prim.Native.Nat.{ℕ, zero, suc}
+use Prim.Native.Nat.{ℕ, zero, suc, _≤_}
 use native.Mathlib.Omega.{arith}
 use lib.Dec.{eqb, eqb→eq}
 use Rattle.base.specs.laws.ChoiceLaws.{on-choose, neqb→ne}
 use Rattle.lock.specs.declared.Record.{Record}
 use Rattle.lock.specs.declared.Settings.{Settings}
-use Rattle.lock.specs.rules.Records.{idleWith, sentBack}
+use Rattle.lock.specs.rules.Records.{wordAt, idleWith, sentBack}
+use Rattle.lock.specs.rules.Steps.{touched}
 use Rattle.lock.specs.rules.Calls.{requested, released, cancelled}
 use Rattle.lock.specs.rules.Table.{State, Call, request, step, release, cancel, clientOf, recordAt, clockAt, withClient, numberOf, after, call}
 use Rattle.lock.specs.rules.History.{run, event, events, RequestOf, At, TrueMoments}
-use Rattle.lock.specs.rules.Readings.{foundIn, placeIn, WithinRequest, ReadApart}
-use Rattle.lock.specs.laws.Accepted.{accepted, request-tested}
+use Rattle.lock.specs.rules.Readings.{foundIn, WithinRequest, ReadApart}
+use Rattle.lock.specs.laws.Accepted.{accepted, request-tested, step-tested}
+use Rattle.lock.specs.laws.ClaimLaws.{claim-on}
+use Rattle.lock.specs.claim.Fit.{on-fit}
 use Rattle.lock.specs.claim.Parts.{Parts, recordIn, partsOf, record-at, records-count, on-parts}
 use Rattle.lock.specs.claim.Timed.{Checked}
 use Rattle.lock.specs.claim.Onward.{Unclaimed, unclaimed-returning, unclaimed-first}
@@ -42,7 +45,7 @@ within-first s st k ks j c v (suc n) a b = v n (omega arith)
 -- what is supposed of a history is supposed of its rest
 read-later : (s : Settings) (st : State) (k : Call) (ks : List Call) (touch reading : ℕ → ℕ) → ReadApart s st (k ∷ ks) touch reading
     → ReadApart s (call s st k .state) ks (λ i. touch (suc i)) (λ i. reading (suc i))
-unfolding events At foundIn placeIn
+unfolding events At foundIn
 read-later s st k ks touch reading v = record {
   never-back = λ i j c d t u b. v .never-back (suc i) (suc j) c d t u (omega arith);
   not-slow = λ i j c t u b x y w. v .not-slow (suc i) (suc j) c t u (omega arith) x y (within-later s st k ks i j c w);
@@ -80,20 +83,26 @@ module _ (s : Settings) (st : State) (inv : Invariant s (partsOf st)) (ks : List
       (timing-unclaimed s (event s st k) (events s (call s st k .state) ks) (foundIn s st (k ∷ ks)) touch reading (partsOf st) v c (rw (records-count (st .clients)) (accepted s st k n .client)) q (st .words) _ none
       (λ d other x. other (sym (request-client d k (x .1)))))
 
+  past-t0 : (c t : ℕ) → clockAt st c ≤ t → recordIn (partsOf st) c .t0 ≤ t
+  past-t0 c t later =
+      on-fit s (recordIn (partsOf st) c) (clockAt st c) (inv .fit c) (inv .settled) (λ e. omega (arith, ap (λ (x : Record). x .t0) e)) (λ rd. omega (arith, rd .active .t0-past))
+
   step-timing : (c t : ℕ) → ReadApart s st (step c t ∷ ks) touch reading → Before (step c t) → numberOf s st (step c t) ≡ 0 → Then (step c t) (stepped s st inv c (recordAt st c) t)
-  unfolding events At foundIn placeIn clientOf call
+  unfolding events At foundIn clientOf call
   step-timing c t read v n =
       let a = accepted s st (step c t) n in
-      let phase : recordIn (partsOf st) c .phase ≡ recordAt st c .phase = ap (λ (x : Record). x .phase) (record-at st c) in
-      let place : recordIn (partsOf st) c .place ≡ recordAt st c .place = ap (λ (x : Record). x .place) (record-at st c) in
-      subst (λ (x : Record). Then (step c t) (stepped s st inv c x t)) (record-at st c)
+      let same : recordIn (partsOf st) c ≡ recordAt st c = record-at st c in
+      let b = step-tested s st c t (a .own) in
+      let r = recordIn (partsOf st) c in
+      let word = wordAt (st .words) (touched s r t) in
+      subst (λ (x : Record). Then (step c t) (stepped s st inv c x t)) same
       (on-parts st _ c t _ (Rest (step c t))
       (timing-stepped s (event s st (step c t)) (events s (call s st (step c t) .state) ks) (foundIn s st (step c t ∷ ks)) touch reading (partsOf st) v c (rw (records-count (st .clients)) (a .client)) _ _ _ inv t
       (stepped-by s st inv c t a .time) (n, refl)
-      (λ j d u. read .never-back 0 (suc j) c d t u (omega arith) (n, refl)) (sym phase)
-      (λ j u a w p at-parent. read .not-slow 0 (suc j) c t u (omega arith) (n, refl) a (within-first s st (step c t) ks j c w) (sym phase ∙ p) (sym place ∙ at-parent))
-      (λ j u a w p. read .not-fast 0 (suc j) c t u (omega arith) (n, refl) a (within-first s st (step c t) ks j c w) (sym phase ∙ p))
-      (rw phase (read .read-first 0 c t (n, refl))) (rw phase (read .touched-first 0 c t (n, refl)))))
+      (λ j d u. read .never-back 0 (suc j) c d t u (omega arith) (n, refl)) (sym same) (past-t0 c t (b .0)) (claim-on s r t word)
+      (λ j u a w p at-parent. read .not-slow 0 (suc j) c t u (omega arith) (n, refl) a (within-first s st (step c t) ks j c w) (ap (λ (x : Record). x .phase) (sym same) ∙ p) (ap (λ (x : Record). x .place) (sym same) ∙ at-parent))
+      (λ j u a w p f d. read .not-fast 0 (suc j) c t u (omega arith) (n, refl) a (within-first s st (step c t) ks j c w) (ap (λ (x : Record). x .phase) (sym same) ∙ p) f (λ z. d (rw same z)))
+      (rw same (read .read-first 0 c t (n, refl))) (rw same (read .touched-first 0 c t (n, refl)))))
 
   accepted-timing : (k : Call) → ReadApart s st (k ∷ ks) touch reading → Before k → numberOf s st k ≡ 0 → Then k (after s st k)
   unfolding after clientOf released
@@ -122,7 +131,7 @@ run-checked s (k ∷ ks) st inv touch reading read v =
 pub read-at-once : (s : Settings) (st : State) (ks : List Call) (moment : ℕ → ℕ) → TrueMoments (events s st ks) moment → ReadApart s st ks moment moment
 read-at-once s st ks moment v = record {
   never-back = v .never-back;
-  not-slow = λ i j c t u b x y _ _ _ _ far. omega (arith, far, v .steady i j c t u b x y .0);
+  not-slow = λ i j c t u b x y _ _ _ _ _ far. omega (arith, far, v .steady i j c t u b x y .0);
   not-fast = λ i j c t u b x y _ _ _ _. omega (arith, v .steady i j c t u b x y .1);
   read-first = λ _ _ _ _ _. omega arith;
   touched-first = λ _ _ _ _ _. omega arith;

@@ -68,7 +68,7 @@ module _ (s : Settings) where
   nobody-unclaimed : Unclaimed nobody
   nobody-unclaimed = unclaimed-first nobody refl (omega arith) (λ _. refl)
 
-  fresh-timing : (words : List ℕ) (clients : ℕ) (clock : ℕ → ℕ) (rest : List Event) (found touch reading : ℕ → ℕ)
+  fresh-timing : (words : List ℕ) (clients : ℕ) (clock : ℕ → ℕ) (rest : List Event) (found : ℕ → Record) (touch reading : ℕ → ℕ)
       → Timing s (record { words = words; records = replicate clients nobody; clock = clock }) rest found touch reading
   fresh-timing words clients clock rest found touch reading =
       let free : (c : ℕ) → nobody ≡ getD (replicate clients nobody) c nobody = λ c. sym (getD-fresh clients c nobody) in
@@ -91,7 +91,7 @@ module _ (s : Settings) where
         subst (λ (rs : List Record). Invariant s (record { words = replicate (length (st .words)) 0; records = rs; clock = clockAt (opened st) })) (sym (records-fresh k))
         (fresh-invariant (length (st .words)) k (clockAt (opened st)) (a .0) (a .1) (a .2))
 
-    pub opened-timing : (rest : List Event) (found touch reading : ℕ → ℕ) → Timing s (partsOf (opened st)) rest found touch reading
+    pub opened-timing : (rest : List Event) (found : ℕ → Record) (touch reading : ℕ → ℕ) → Timing s (partsOf (opened st)) rest found touch reading
     unfolding opened
     opened-timing rest found touch reading =
         let k = length (st .clients) in
