@@ -13,6 +13,7 @@ use Rattle.base.specs.laws.Sum.{sumTo, to-only, to-le, to-once}
 use Rattle.tree.specs.rules.Tree.{level, left, Node}
 use Rattle.tree.specs.rules.Lists.{notifyList}
 use Rattle.tree.specs.laws.Level.{level-pos}
+use Rattle.tree.specs.laws.Range.{root-left}
 use Rattle.tree.specs.laws.Notify.{notifyCount, Bounded, notify-count, notify-place, notify-once}
 use Rattle.cover.specs.rules.Cover.{Covers, Rising}
 use Rattle.cover.specs.laws.Lowest.{Window}
@@ -70,6 +71,11 @@ module _ (s : Settings) (r : Record) (w : Window (s .levels) (r .left) (r .right
         node = λ i b. covers .meets _ (in-at (pieces r) i b) .node;
         apart = λ i j b d n e. by-lt i j (λ q. lower j i d q (sym e)) (λ q. lower i j b (omega arith) e);
       }
+
+  -- the root stands for all units, and so is no later piece
+  pub later-below : (i : ℕ) → 0 < i → i < length (pieces r) → pieceAt r i ≢ 1
+  unfolding pieceAt
+  later-below i a b e = omega (arith, rising-at (s .levels) (pieces r) (covers .rising) i 0 b a, ap (left (s .levels)) e, root-left (s .levels) (w .levels))
 
 -- ---- what a record owns, piece by piece
 

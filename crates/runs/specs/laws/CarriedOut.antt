@@ -6,13 +6,14 @@ use mathlib.Core.List.{List, [], _∷_, _++_}
 use Prim.Native.Nat.{ℕ, suc, _+_, _≤_}
 use native.Mathlib.Omega.{arith}
 use borrow.Author.Tests.{eqb-true, eq-eqb}
-use lib.Dec.{eqb}
+use lib.Dec.{T, eqb}
 use lib.ListN.{length, take, drop, take-append-drop, length-append}
 use Rattle.base.specs.rules.Choice.{choose}
 use Rattle.base.specs.laws.ChoiceLaws.{by-eq}
 use Rattle.base.specs.laws.TestLaws.{by-test, both-true}
 use Rattle.lock.specs.declared.Client.{Client}
 use Rattle.lock.specs.declared.Operation.{Operation}
+use Rattle.lock.specs.declared.Record.{Record}
 use Rattle.lock.specs.declared.Settings.{Settings}
 use Rattle.lock.specs.declared.Stepped.{Stepped}
 use Rattle.lock.specs.rules.Calls.{firstCause}
@@ -22,7 +23,7 @@ use Rattle.lock.specs.laws.OperationLaws.{completed-taken}
 use Rattle.runs.specs.rules.Ahead.{aheadOf, same, Counted, nothingMore, oneMore, along}
 use Rattle.runs.specs.rules.Clocks.{claims}
 use Rattle.runs.specs.laws.Counted.{due, after, along-none, along-one, along-on, along-stopped}
-use Rattle.runs.specs.laws.Leading.{Leads, Reads, joined}
+use Rattle.runs.specs.laws.Leading.{Leads, Reads, Alike, joined}
 use Rattle.runs.specs.laws.SameOperation.{same-itself, same-equal}
 use Rattle.runs.specs.laws.Underway.{posting, Posting, first-due, then, read-unclaimed}
 
@@ -36,6 +37,12 @@ none-front : (os rest : List Operation) → os ++ rest ≡ [] → os ≡ []
 none-front [] rest e = refl
 none-front (o ∷ os) rest e = absurd (omega (arith, ap (λ (l : List Operation). length l) e))
 
+alike-on : (s : Settings) (r q p : Record) → Alike s r q → Alike s q p → Alike s r p
+alike-on s r q p a b = record {
+  claiming = b .claiming ∙ a .claiming;
+  kept = λ z. let x = a .kept z in let y = b .kept (a .claiming ∙ z) in (y .0 ∙ x .0, y .1 ∙ x .1);
+}
+
 module _ (s : Settings) (c : Client) (u : ℕ) where
   -- how many have counted, and the client after those
   abbrev pub sofar : List ℕ → Counted
@@ -48,7 +55,7 @@ module _ (s : Settings) (c : Client) (u : ℕ) where
   pub record Led (os : List Operation) (found : List ℕ) : Type 0 where
     pub all : sofar found .count ≡ length found
     pub leads : Leads os (aheadOf s (seen found) u)
-    pub alike : (os ≡ []) ⊎ (claims (seen found .«record») ≡ claims (c .«record»))
+    pub alike : (os ≡ []) ⊎ Alike s (c .«record») (seen found .«record»)
 
   pub record Underway (os : List Operation) (found : List ℕ) : Type 0 where
     pub done : List Operation
@@ -70,7 +77,7 @@ module _ (s : Settings) (c : Client) (u : ℕ) where
         goes = inl (record {
           all = ap (λ (x : Counted). x .count) none;
           leads = subst (λ (x : Client). Leads (take room l) (aheadOf s x u)) (sym (ap (λ (x : Counted). x .next) none)) (record { rest = drop room l; whole = whole });
-          alike = inr (ap (λ (x : Counted). claims (x .next .«record»)) none);
+          alike = inr (subst (λ (x : Client). Alike s (c .«record») (x .«record»)) (sym (ap (λ (x : Counted). x .next) none)) (record { claiming = refl; kept = λ _. (refl, refl) }));
         });
       }
 
@@ -83,7 +90,7 @@ module _ (s : Settings) (c : Client) (u : ℕ) where
       pub is : o ≡ operationAnswer s (seen found) u
       pub accepted : completedAnswer s (seen found) u w .number ≡ 0
       pub next : seen longer ≡ completedAnswer s (seen found) u w .next
-      pub alike : claims (seen found .«record») ≡ claims (c .«record»)
+      pub alike : Alike s (c .«record») (seen found .«record»)
 
     pub record Dropped : Type 0 where
       pub more : sofar longer .count ≡ sofar found .count
@@ -111,7 +118,7 @@ module _ (s : Settings) (c : Client) (u : ℕ) where
       stopped = subst (λ (k : List Operation). Sofar k found .count ≢ length found → Sofar k longer ≡ Sofar k found) (v .whole) (along-stopped s u c (v .done) found (o ∷ rest) (w ∷ []) (v .even))
 
       -- one that is due counts
-      counting : sofar found .count ≡ length found → due s u (seen found) o w ≡ true → claims (seen found .«record») ≡ claims (c .«record») → Counting
+      counting : sofar found .count ≡ length found → due s u (seen found) o w ≡ true → Alike s (c .«record») (seen found .«record») → Counting
       unfolding choose
       counting all is alike =
           let e = on all in
@@ -147,7 +154,7 @@ module _ (s : Settings) (c : Client) (u : ℕ) where
             let fine = accepted (p .passed) is in
             let number : completedAnswer s x u w .number ≡ 0 = sym (ap (λ (a : Stepped). a .number) (completed-taken s x u _ refl w (p .passed) (moved s (x .«record») w u) refl fine)) in
             let same-now : due s u x o w ≡ true = λ i. (subst (λ (y : Operation). same y o ≡ true) is (same-itself o)) i && eq-eqb _ 0 number i in
-            let alike : claims (x .«record») ≡ claims (c .«record») = ⊎-elim (λ e. absurd (omega (arith, ap (λ (l : List Operation). length l) e))) (λ e. e) (g .alike) in
+            let alike : Alike s (c .«record») (x .«record») = ⊎-elim (λ e. absurd (omega (arith, ap (λ (l : List Operation). length l) e))) (λ e. e) (g .alike) in
             let k = counting (g .all) same-now alike in
             let all : sofar longer .count ≡ length longer = omega (arith, k .more, g .all, length-append found (w ∷ [])) in
             (
@@ -156,11 +163,11 @@ module _ (s : Settings) (c : Client) (u : ℕ) where
               (λ e. let none = none-front os behind e in
               inl (record { all = all; leads = subst (λ (l : List Operation). Leads l (aheadOf s (seen longer) u)) (sym none) (record { rest = aheadOf s (seen longer) u; whole = refl }); alike = inl none }))
               (λ y. ⊎-elim
-              (λ e. inr (reads-front os behind (e .0), sym alike ∙ e .1))
+              (λ e. inr (reads-front os behind (e .0), sym (alike .claiming) ∙ e .1))
               (λ e. inl (record {
                 all = all;
                 leads = subst (λ (z : Client). Leads os (aheadOf s z u)) (sym (k .next)) (record { rest = behind ++ e .0 .rest; whole = sym (joined os behind (e .0 .rest)) ∙ e .0 .whole });
-                alike = inr (ap (λ (z : Client). claims (z .«record»)) (k .next) ∙ e .1 ∙ alike);
+                alike = inr (subst (λ (z : Client). Alike s (c .«record») (z .«record»)) (sym (k .next)) (alike-on s (c .«record») (x .«record») _ alike (e .1)));
               })) y)
               (then s x u o (os ++ behind) p w fine (readable k))),
             )
@@ -173,7 +180,7 @@ module _ (s : Settings) (c : Client) (u : ℕ) where
             by-eq (sofar found .count) (length found)
             (λ all. by-test (due s u (seen found) o w)
             (λ is. let k = same-equal (operationAnswer s (seen found) u) o (both-true _ _ is .0) in
-            (inl (counting all is (read-unclaimed s (seen found) u (ap (λ (y : Operation). y .kind) k ∙ g .0) ∙ sym early)), later))
+            (inl (counting all is (record { claiming = read-unclaimed s (seen found) u (ap (λ (y : Operation). y .kind) k ∙ g .0) ∙ sym early; kept = λ z. absurd (subst T (sym z ∙ early) tt) })), later))
             (λ is. let e = on all in
             let f : choose (due s u (seen found) o w) (oneMore (nothingMore (after s u (seen found) w))) (nothingMore (seen found)) ≡ nothingMore (seen found) = ap (λ (b : Bool). choose b (oneMore (nothingMore (after s u (seen found) w))) (nothingMore (seen found))) is in
             (inr (record { more = omega (arith, all, e .0, ap (λ (x : Counted). x .count) f); next = e .1 ∙ ap (λ (x : Counted). x .next) f; reads = g .0 }), later)))

@@ -139,10 +139,15 @@ module _ (s : Settings) (r : Record) where
 
   -- ---- what stands behind it
 
+  -- claims or not, as the record; and a claim keeps its piece and its t1
+  pub record Alike (q : Record) : Type 0 where
+    pub claiming : claims q ≡ claims r
+    pub kept : claims r ≡ true → (q .t1 ≡ r .t1) × (q .current ≡ r .current)
+
   -- it is again what the client would post
   pub record Onward (rest : List Operation) (q : Record) : Type 0 where
     pub leads : Leads rest (aheadIn s q (phaseOf (q .phase)))
-    pub alike : claims q ≡ claims r
+    pub alike : Alike q
     pub patient : (t : ℕ) → outOfPatience s r t ≡ false → outOfPatience s q t ≡ false
 
   abbrev pub Behind : List Operation → Record → Type 0
@@ -173,7 +178,7 @@ module _ (s : Settings) (r : Record) where
   unfolding aheadIn walk standing listLength touchedIn accessIn pieceAt pieces phaseOf choose claims
   notices-on e t = record {
     leads = record { rest = []; whole = nothing-behind _ };
-    alike = sym (ap (λ (p : ℕ). eqb p 5 || eqb p 6) e);
+    alike = record { claiming = sym (ap (λ (p : ℕ). eqb p 5 || eqb p 6) e); kept = λ _. (refl, refl) };
     patient = still-patient (toPhase 6 (withT0 t (withGrip 3 r))) (omega arith) (omega arith) refl refl;
   }
 
@@ -195,7 +200,7 @@ module _ (s : Settings) (r : Record) where
       let a = withPlace (suc (r .place)) (withNotices (suc (r .place)) r) in
       record {
         leads = record { rest = []; whole = nothing-behind l ∙ q ∙ ap (aheadIn s a) (sym (at-notify (r .phase) e)) };
-        alike = refl;
+        alike = record { claiming = refl; kept = λ _. (refl, refl) };
         patient = still-patient a (omega arith) (omega arith) refl refl;
       }
 
@@ -247,7 +252,7 @@ module _ (s : Settings) (r : Record) (last : ℕ) (rd : Ready s r last) (e : r .
   unfolding claims aheadIn
   goes-on q f os v = record {
     leads = subst (λ (p : Phase). Leads os (aheadIn s q p)) (sym (at-returning (q .phase) f)) v;
-    alike = ap (λ (p : ℕ). eqb p 5 || eqb p 6) f ∙ sym unclaimed;
+    alike = record { claiming = ap (λ (p : ℕ). eqb p 5 || eqb p 6) f ∙ sym unclaimed; kept = λ z. absurd (subst T (sym z ∙ unclaimed) tt) };
     patient = λ t _. patient-taken s q t (omega arith);
   }
 

@@ -29,7 +29,7 @@ use Rattle.lock.specs.laws.SettledLaws.{settled}
 use Rattle.runs.specs.rules.Ahead.{aheadIn, aheadOf, same, Counted, nothingMore, oneMore, along}
 use Rattle.runs.specs.rules.Clocks.{claims}
 use Rattle.runs.specs.laws.Counted.{due, after, along-none, along-one, along-on, along-stopped}
-use Rattle.runs.specs.laws.Leading.{Leads, Reads, Onward, Behind, none-some, first-same, rest-same, joined, own-first, behind}
+use Rattle.runs.specs.laws.Leading.{Leads, Reads, Alike, Onward, Behind, none-some, first-same, rest-same, joined, own-first, behind}
 
 -- ---- a list that is not empty
 
@@ -82,14 +82,14 @@ module _ (s : Settings) (c : Client) (u : ℕ) (o : Operation) (l : List Operati
 
   -- what stands behind it, when a word was found that is not refused
   pub then : (w : ℕ) → completed s of w u .number ≡ 0 → firstCause (postTests s (completedAnswer s c u w .next) u) ≡ 0
-      → (l ≡ []) ⊎ ((Reads l × (claims of ≡ false)) ⊎ (Leads l (aheadOf s (completedAnswer s c u w .next) u) × (claims (completedAnswer s c u w .next .«record») ≡ claims of)))
+      → (l ≡ []) ⊎ ((Reads l × (claims of ≡ false)) ⊎ (Leads l (aheadOf s (completedAnswer s c u w .next) u) × Alike s of (completedAnswer s c u w .next .«record»)))
   unfolding choose
   then w z =
       let row : completed s of w u ≡ completedIn s of w u (phaseOf (of .phase)) = ap (λ (b : Bool). choose b (goesTo (givenUp of)) (completedIn s of w u (phaseOf (of .phase)))) (v .patient) in
       let next : clientWith u (completed s of w u .next) ≡ completedAnswer s c u w .next = ap (λ (a : Stepped). a .next) (completed-taken s c u _ refl w (v .passed) (moved s of w u) refl z) in
       let q = completedIn s of w u (phaseOf (of .phase)) .next in
       let back = behind s of (c .clock) (is-ready s c u o l v) w u o l (v .listed) (sym (ap (λ (x : Completion). x .number) row) ∙ z) in
-      subst (λ (x : Client). firstCause (postTests s x u) ≡ 0 → (l ≡ []) ⊎ ((Reads l × (claims of ≡ false)) ⊎ (Leads l (aheadOf s x u) × (claims (x .«record») ≡ claims of)))) (ap (λ (x : Completion). clientWith u (x .next)) (sym row) ∙ next)
+      subst (λ (x : Client). firstCause (postTests s x u) ≡ 0 → (l ≡ []) ⊎ ((Reads l × (claims of ≡ false)) ⊎ (Leads l (aheadOf s x u) × Alike s of (x .«record»)))) (ap (λ (x : Completion). clientWith u (x .next)) (sym row) ∙ next)
       (λ passed. ⊎-elim inl (λ y. inr (⊎-elim inl (λ on. inr (subst (Leads l) (sym (ahead-is s (clientWith u q) u passed (on .patient u (v .patient)))) (on .leads), on .alike)) y)) back)
 
 -- ---- whoever reads next claims nothing
