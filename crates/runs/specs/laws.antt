@@ -1,10 +1,13 @@
 pub mod ActLaws
+pub mod CallsInTime
 pub mod CarriedOut
 pub mod CarryLaws
 pub mod Completing
 pub mod Counted
+pub mod InTimeLaws
 pub mod Leading
 pub mod OnState
+pub mod ReadOnce
 pub mod SameOperation
 pub mod Shown
 pub mod StepByOperation

@@ -31,8 +31,11 @@ module _ (s : Settings) (r : Record) (now : ℕ) where
   claimed-on w e =
       on-choose (λ (m : Moved). ClaimOn (m .next)) (isLeaf s (currentPiece r)) _ _
       (λ _. on-choose ClaimOn (takeBits (wanted s r (currentPiece r)) w .done) _ _ (λ _ _ _. (refl, λ f. absurd (omega (arith, f)))) (λ _ a _. absurd (omega (arith, a))))
-      (λ _ _ _. (refl, on-choose (λ (p : ℕ). p ≡ 7 → ((r .phase ≡ 5) × (currentPiece r ≡ 1)) ⊎ ((r .phase ≡ 6) × (now < r .t1 + s .wait))) (isRoot (currentPiece r)) 7 6
-      (λ t _. inl (e, eqb→eq (currentPiece r) 1 t)) (λ _ f. absurd (omega (arith, f)))))
+      (λ _ _ _. (
+        refl,
+        on-choose (λ (p : ℕ). p ≡ 7 → ((r .phase ≡ 5) × (currentPiece r ≡ 1)) ⊎ ((r .phase ≡ 6) × (now < r .t1 + s .wait))) (isRoot (currentPiece r)) 7 6
+            (λ t _. inl (e, eqb→eq (currentPiece r) 1 t)) (λ _ f. absurd (omega (arith, f))),
+      ))
 
   begun-off : (q : Record) (i : ℕ) → ClaimOn (begin s q i)
   unfolding begin startPhase

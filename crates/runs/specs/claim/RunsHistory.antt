@@ -16,7 +16,11 @@ use Rattle.lock.specs.claim.Keeping.{run-keeps}
 use Rattle.lock.specs.claim.Parts.{partsOf}
 use Rattle.lock.specs.claim.Start.{opening-invariant}
 use Rattle.lock.specs.claim.Demand3.{records-apart, read-apart-holding, records-clean}
+use Rattle.runs.specs.rules.Clocks.{TrueClock, InTime}
 use Rattle.runs.specs.rules.Network.{Network, clientOn, started, Act, act, acts, callsOf, historyOf, HoldsOwn, IdleOwn}
+use Rattle.runs.specs.laws.CallsInTime.{acts-read}
+use Rattle.runs.specs.laws.InTimeLaws.{momentsIn, started-read}
+use Rattle.runs.specs.laws.ReadOnce.{Moments, momentsAt, EachRead, read-apart}
 use Rattle.runs.specs.laws.Shown.{shown, shown-free, shown-started, shown-held, started-counts}
 use Rattle.runs.specs.laws.ActLaws.{Kept, act-kept, act-shown, started-fair}
 
@@ -46,11 +50,15 @@ module _ (s : Settings) (lent : State) (e : opening s lent .number ≡ 0) (happe
   abbrev pub history : List Call
   history = historyOf s (started st) happened
 
+  start-kept : Kept s (started st)
+  start-kept = record { passed = started-counts s lent e; fair = started-fair s (st .words) (st .clients) }
+
+  start-invariant : Invariant s (partsOf (shown s (started st)))
+  start-invariant = subst (λ (x : State). Invariant s (partsOf x)) (sym (shown-started s st)) (opening-invariant s lent e)
+
   -- the words are the history's, and so is every run's client, as soon as its operations are completed
   pub is-history : shown s net ≡ run s st history
-  is-history =
-      acts-shown s (started st) happened (record { passed = started-counts s lent e; fair = started-fair s (st .words) (st .clients) })
-      (subst (λ (x : State). Invariant s (partsOf x)) (sym (shown-started s st)) (opening-invariant s lent e)) ∙ ap (λ (x : State). run s x history) (shown-started s st)
+  is-history = acts-shown s (started st) happened start-kept start-invariant ∙ ap (λ (x : State). run s x history) (shown-started s st)
 
   client-in : (c : ℕ) → clientAt (shown s net) c ≡ clientAt (run s st history) c
   client-in c = ap (λ (x : State). clientAt x c) is-history
@@ -58,24 +66,41 @@ module _ (s : Settings) (lent : State) (e : opening s lent .number ≡ 0) (happe
   record-in : (c : ℕ) → clientOn net c .«record» .phase ≡ 9 → recordAt (run s st history) c ≡ clientOn net c .«record»
   record-in c h = sym (ap (λ (v : Client). v .«record») (client-in c)) ∙ shown-held s net c h
 
-  -- so all that is shown of histories is shown of runs: single holding by events
-  pub runs-single-holding : (touch reading : ℕ → ℕ) → ReadApart s st history touch reading → SingleHolding (events s st history)
-  runs-single-holding = read-apart-holding s lent e history
+  -- ---- by clocks that are true, read in time
 
-  -- and by what the runs themselves know: no two different runs hold windows that overlap
-  pub runs-apart : (touch reading : ℕ → ℕ) → ReadApart s st history touch reading
-      → (c d l r k q : ℕ) → (c ≡ d → ⊥) → HoldsOwn net c l r → HoldsOwn net d k q → Overlap l r k q → ⊥
-  runs-apart touch reading read c d l r k q n x y o =
-      let a = record-in c (x .held) in
-      let b = record-in d (y .held) in
-      records-apart s lent e history touch reading read c d n (ap (λ (v : Record). v .phase) a ∙ x .held) (ap (λ (v : Record). v .phase) b ∙ y .held)
-      (record {
-        unit = o .unit;
-        low = omega (arith, ap (λ (v : Record). v .left) a, x .from, o .low);
-        high = omega (arith, ap (λ (v : Record). v .right) a, x .to, o .high);
-        other-low = omega (arith, ap (λ (v : Record). v .left) b, y .from, o .other-low);
-        other-high = omega (arith, ap (λ (v : Record). v .right) b, y .to, o .other-high);
-      })
+  module _ (clocks : ℕ → ℕ → ℕ) (true-clocks : (c : ℕ) → TrueClock (s .wait) (clocks c)) (in-time : InTime s clocks (started st) 0 happened) where
+    abbrev moments : List Moments
+    moments = momentsIn s (started st) happened
+
+    abbrev touch : ℕ → ℕ
+    touch i = momentsAt moments i .touch
+
+    abbrev reading : ℕ → ℕ
+    reading i = momentsAt moments i .reading
+
+    read-in-time : ReadApart s st history touch reading
+    read-in-time =
+        read-apart s clocks true-clocks 0 st history moments
+        (subst (λ (x : State). EachRead s clocks 0 x history moments) (shown-started s st)
+        (acts-read s clocks happened (started st) start-kept start-invariant (started-read s clocks (st .words) (st .clients)) 0 in-time))
+
+    -- so all that is shown of histories is shown of runs: single holding by events
+    pub runs-single-holding : SingleHolding (events s st history)
+    runs-single-holding = read-apart-holding s lent e history touch reading read-in-time
+
+    -- and by what the runs themselves know: no two different runs hold windows that overlap
+    pub runs-apart : (c d l r k q : ℕ) → (c ≡ d → ⊥) → HoldsOwn net c l r → HoldsOwn net d k q → Overlap l r k q → ⊥
+    runs-apart c d l r k q n x y o =
+        let a = record-in c (x .held) in
+        let b = record-in d (y .held) in
+        records-apart s lent e history touch reading read-in-time c d n (ap (λ (v : Record). v .phase) a ∙ x .held) (ap (λ (v : Record). v .phase) b ∙ y .held)
+        (record {
+          unit = o .unit;
+          low = omega (arith, ap (λ (v : Record). v .left) a, x .from, o .low);
+          high = omega (arith, ap (λ (v : Record). v .right) a, x .to, o .high);
+          other-low = omega (arith, ap (λ (v : Record). v .left) b, y .from, o .other-low);
+          other-high = omega (arith, ap (λ (v : Record). v .right) b, y .to, o .other-high);
+        })
 
   -- with any clocks, when all are idle the tree is clean
   pub runs-clean : ((c : ℕ) → IdleOwn net c) → Clean s (net .words)

@@ -129,7 +129,6 @@ module _ (s : Settings) (net : Network) (open-passed : openingNumber s (length (
       shown-with s net c (net .words) x free ∙ unchanged s now (passed s net open-passed) c x (sym (shown-flying s net c u m n [] found e))
   complete-shown c (flying u m n (o ∷ os) found) e = refl
 
-
   carry-shown : (inv : Invariant s (partsOf now)) (c at : ℕ) (f : Flight) → runAt net c .flight ≡ f → Fair s (clientOn net c) f → shown s (carries s net c at f) ≡ run s now (carriedBy s net c at f)
   unfolding carries carriedBy run Fair
   carry-shown inv c at free e v = refl

@@ -156,20 +156,19 @@ module _ (s : Settings) (c : Client) (u : ℕ) where
             let same-now : due s u x o w ≡ true = λ i. (subst (λ (y : Operation). same y o ≡ true) is (same-itself o)) i && eq-eqb _ 0 number i in
             let alike : Alike s (c .«record») (x .«record») = ⊎-elim (λ e. absurd (omega (arith, ap (λ (l : List Operation). length l) e))) (λ e. e) (g .alike) in
             let k = counting (g .all) same-now alike in
-            let all : sofar longer .count ≡ length longer = omega (arith, k .more, g .all, length-append found (w ∷ [])) in
-            (
+            let all : sofar longer .count ≡ length longer = omega (arith, k .more, g .all, length-append found (w ∷ [])) in (
               k,
               under (⊎-elim
-              (λ e. let none = none-front os behind e in
-              inl (record { all = all; leads = subst (λ (l : List Operation). Leads l (aheadOf s (seen longer) u)) (sym none) (record { rest = aheadOf s (seen longer) u; whole = refl }); alike = inl none }))
-              (λ y. ⊎-elim
-              (λ e. inr (reads-front os behind (e .0), sym (alike .claiming) ∙ e .1))
-              (λ e. inl (record {
-                all = all;
-                leads = subst (λ (z : Client). Leads os (aheadOf s z u)) (sym (k .next)) (record { rest = behind ++ e .0 .rest; whole = sym (joined os behind (e .0 .rest)) ∙ e .0 .whole });
-                alike = inr (subst (λ (z : Client). Alike s (c .«record») (z .«record»)) (sym (k .next)) (alike-on s (c .«record») (x .«record») _ alike (e .1)));
-              })) y)
-              (then s x u o (os ++ behind) p w fine (readable k))),
+                  (λ e. let none = none-front os behind e in
+                  inl (record { all = all; leads = subst (λ (l : List Operation). Leads l (aheadOf s (seen longer) u)) (sym none) (record { rest = aheadOf s (seen longer) u; whole = refl }); alike = inl none }))
+                  (λ y. ⊎-elim
+                  (λ e. inr (reads-front os behind (e .0), sym (alike .claiming) ∙ e .1))
+                  (λ e. inl (record {
+                    all = all;
+                    leads = subst (λ (z : Client). Leads os (aheadOf s z u)) (sym (k .next)) (record { rest = behind ++ e .0 .rest; whole = sym (joined os behind (e .0 .rest)) ∙ e .0 .whole });
+                    alike = inr (subst (λ (z : Client). Alike s (c .«record») (z .«record»)) (sym (k .next)) (alike-on s (c .«record») (x .«record») _ alike (e .1)));
+                  })) y)
+                  (then s x u o (os ++ behind) p w fine (readable k))),
             )
 
         -- only reads are left: it is due or not
