@@ -1,4 +1,5 @@
 pub mod ActLaws
+pub mod AheadLaws
 pub mod Completing
 pub mod Shown
 pub mod StepByOperation
