@@ -1,5 +1,7 @@
 pub mod ActLaws
 pub mod AheadLaws
+pub mod AlongLaws
+pub mod AnswerLaws
 pub mod Completing
 pub mod Shown
 pub mod StepByOperation

@@ -3,6 +3,7 @@
 use lock::Client;
 
 mod by_value;
+mod counts;
 mod posted;
 
 // How many operations a run posts together: number 0 and the count of those that were put into the lent list; else the cause of a refusal, and 0.

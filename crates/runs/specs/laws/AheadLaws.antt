@@ -10,6 +10,7 @@ use lib.ListN.{length, getD, length-append, List·getD-append}
 use lib.Seq.{getD-append-add}
 use Rattle.base.specs.rules.Choice.{choose}
 use Rattle.base.specs.laws.ChoiceLaws.{choose-eq, choose-ne, by-lt, by-eq}
+use Rattle.tree.specs.rules.Tree.{level}
 use Rattle.tree.specs.rules.Lists.{ancestors, notifyList, checkList, row}
 use Rattle.tree.specs.laws.Ancestors.{ancestors-count}
 use Rattle.tree.specs.laws.Code.{bounded}
@@ -23,13 +24,17 @@ use Rattle.lock.specs.rules.Operations.{operationAt}
 use Rattle.lock.specs.laws.Active.{Settled}
 use Rattle.lock.specs.laws.Placed.{Placed, pieced, given-notices}
 use Rattle.lock.specs.laws.Pieces.{few-pieces, grip-after, notices-before, notices-current}
-use Rattle.lock.specs.laws.Phases.{on-phase}
+use Rattle.lock.specs.laws.Phases.{on-phase, at-ticket, at-turn, at-climb, at-blocked, at-notify, at-check}
 use Rattle.lock.specs.laws.PieceSteps.{claim-few}
 use Rattle.lock.specs.laws.StepLaws.{check-small}
 use Rattle.runs.specs.rules.Ahead.{standing, walk, givesBack, aheadIn}
 
 abbrev pub noOperation : Operation
 noOperation = operationAt 0 none
+
+-- a piece with a grip was begun
+pub gripped-begun : (r : Record) (i : ℕ) → (gripOf r i ≡ 0 → ⊥) → i ≤ r .current
+gripped-begun r i d = by-lt (r .current) i (λ b. absurd (d (grip-after r i b))) (λ b. b)
 
 -- ---- numbers in a row, mapped
 
@@ -230,6 +235,40 @@ module _ (s : Settings) (r : Record) where
       on-phase (r .phase) (WalksOn i) (λ _ b. absurd (omega arith)) (λ e. absurd (d1 e)) (λ e. absurd (d2 e)) (λ _ b. (omega (arith, walk-count s r climb (r .place)), refl)) (λ e. absurd (d4 e)) (λ e. absurd (d5 e))
       (λ _ b. (omega (arith, walk-count s r notify (r .place)), refl)) (λ _ b. absurd (omega arith)) (λ _ b. (omega (arith, walk-count s r check (r .place)), refl)) (λ _ b. absurd (omega arith)) (λ e. absurd (d10 e)) (λ _ b. absurd (omega arith))
 
+  -- 1 to 4, by the level of the piece
+  module _ (d : ℕ) (e : d ≡ level (currentPiece r)) (b : 1 ≤ d) where
+    ancestors-below : listLength s r climb ≡ d - 1
+    unfolding listLength
+    ancestors-below = ancestors-count (currentPiece r) ∙ ap (λ (k : ℕ). k - 1) (sym e)
+
+    pub ticket-length : r .phase ≡ 1 → 1 + d ≡ length (aheadIn s r (phaseOf (r .phase)))
+    ticket-length p = omega (arith, ancestors-below, ticket-count, ap (λ (q : Phase). length (aheadIn s r q)) (at-ticket (r .phase) p))
+
+    pub climb-length : r .phase ≡ 3 → d - 1 - r .place ≡ length (aheadIn s r (phaseOf (r .phase)))
+    unfolding aheadIn
+    climb-length p = omega (arith, ancestors-below, walk-count s r climb (r .place), ap (λ (q : Phase). length (aheadIn s r q)) (at-climb (r .phase) p))
+
+    pub other-length : (r .phase ≡ 2) ⊎ (r .phase ≡ 4) → d ≡ length (aheadIn s r (phaseOf (r .phase)))
+    other-length p =
+        ⊎-elim (λ f. omega (arith, ancestors-below, turn-count, ap (λ (q : Phase). length (aheadIn s r q)) (at-turn (r .phase) f)))
+        (λ f. omega (arith, ancestors-below, blocked-count, ap (λ (q : Phase). length (aheadIn s r q)) (at-blocked (r .phase) f))) p
+
+  pub notify-length : r .phase ≡ 6 → length (notifyList (s .distance) (currentPiece r)) - r .place ≡ length (aheadIn s r (phaseOf (r .phase)))
+  unfolding aheadIn listLength
+  notify-length p = omega (arith, walk-count s r notify (r .place), ap (λ (q : Phase). length (aheadIn s r q)) (at-notify (r .phase) p))
+
+  pub check-length : r .phase ≡ 8 → length (checkList (s .levels) (s .distance) (currentPiece r)) - r .place ≡ length (aheadIn s r (phaseOf (r .phase)))
+  unfolding aheadIn listLength
+  check-length p = omega (arith, walk-count s r check (r .place), ap (λ (q : Phase). length (aheadIn s r q)) (at-check (r .phase) p))
+
+  -- a phase that posts nothing
+  pub none-length : (r .phase ≡ 1 → ⊥) → (r .phase ≡ 2 → ⊥) → (r .phase ≡ 3 → ⊥) → (r .phase ≡ 4 → ⊥) → (r .phase ≡ 5 → ⊥) → (r .phase ≡ 6 → ⊥) → (r .phase ≡ 8 → ⊥) → (r .phase ≡ 10 → ⊥)
+      → 0 ≡ length (aheadIn s r (phaseOf (r .phase)))
+  unfolding aheadIn
+  none-length d1 d2 d3 d4 d5 d6 d8 d10 =
+      on-phase (r .phase) (λ q. 0 ≡ length (aheadIn s r q)) (λ _. refl) (λ e. absurd (d1 e)) (λ e. absurd (d2 e)) (λ e. absurd (d3 e)) (λ e. absurd (d4 e)) (λ e. absurd (d5 e)) (λ e. absurd (d6 e)) (λ _. refl)
+      (λ e. absurd (d8 e)) (λ _. refl) (λ e. absurd (d10 e)) (λ _. refl)
+
   -- an idle record has none
   pub phase-some : (i : ℕ) → i < length (aheadIn s r (phaseOf (r .phase))) → 0 < r .phase
   unfolding aheadIn phaseOf choose
@@ -293,7 +332,7 @@ module _ (s : Settings) (r : Record) where
       pub second-begun : left ≤ i → i < length (aheadIn s r returning) → (gripOf r (suc (r .giving)) ≡ 0 → ⊥) × (suc (r .giving) ≤ r .current)
       second-begun b c =
           let d : gripOf r (suc (r .giving)) ≡ 0 → ⊥ = λ e. omega (arith, last-count e) in
-          (d, by-lt (r .current) (suc (r .giving)) (λ q. absurd (d (grip-after r (suc (r .giving)) q))) (λ q. q))
+          (d, gripped-begun r (suc (r .giving)) d)
 
       module _ (b : left ≤ i) (c : i < length (aheadIn s r returning)) where
         back-within : i - left < listLength s nextPiece returning - 0
