@@ -2,7 +2,9 @@ pub mod ActLaws
 pub mod AheadLaws
 pub mod AlongLaws
 pub mod AnswerLaws
-pub mod LaidLaws
 pub mod Completing
+pub mod GivesBack
+pub mod LaidLaws
 pub mod Shown
+pub mod Standing
 pub mod StepByOperation

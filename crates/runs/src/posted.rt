@@ -8,7 +8,7 @@ ghost use Rattle.lock.specs.rules.Unreadable.{listLength};
 ghost use Rattle.lock.specs.laws.Active.{Settled};
 ghost use Rattle.lock.specs.laws.Placed.{Placed, Sound};
 ghost use Rattle.runs.specs.rules.Ahead.{standing, walk, aheadIn};
-ghost use Rattle.runs.specs.laws.AheadLaws.{noOperation, standingAt};
+ghost use Rattle.runs.specs.laws.Standing.{noOperation, standingAt};
 use lock::Operation;
 use lock::Record;
 use lock::Settings;

@@ -2,15 +2,15 @@
 use mathlib.Core.Path.{_≡_, refl, sym, ap, ap₂, _∙_}
 use mathlib.Core.Bool.{Bool, true, false, _&&_}
 use mathlib.Core.List.{List, [], _∷_}
-use Prim.Native.Nat.{ℕ, zero, suc, _+_, _≤_, _<_, min}
+use Prim.Native.Nat.{ℕ, suc, _+_, _≤_, _<_, min}
 use native.Mathlib.Omega.{arith}
 use native.Mathlib.Numerals.{add-one}
-use lib.Dec.{eqb, T, T-not, not-T, eqb→eq}
+use lib.Dec.{eqb}
 use lib.ListN.{length, getD, drop, drop-of-length-le}
 use lib.Seq.{drop-cons}
 use borrow.Author.Tests.{eq-eqb, ne-eqb}
 use Rattle.base.specs.rules.Choice.{choose}
-use Rattle.base.specs.laws.ChoiceLaws.{choose-yes, choose-no, by-lt}
+use Rattle.base.specs.laws.ChoiceLaws.{by-lt}
 use Rattle.lock.specs.declared.Client.{Client}
 use Rattle.lock.specs.declared.Operation.{Operation}
 use Rattle.lock.specs.declared.Settings.{Settings}
@@ -19,7 +19,7 @@ use Rattle.lock.specs.rules.Calls.{firstCause}
 use Rattle.lock.specs.rules.Operations.{postTests, operationAnswer, completedAnswer}
 use Rattle.runs.specs.declared.CompletedAll.{CompletedAll}
 use Rattle.runs.specs.rules.Ahead.{same, Counted, nothingMore, along, aheadOf, firstNumber, completedAllAnswer}
-use Rattle.runs.specs.laws.AheadLaws.{noOperation}
+use Rattle.runs.specs.laws.Standing.{noOperation}
 
 -- whether an operation that was posted counts, and the client after it: number 0, or 1 and the client as it was
 unfoldable pub oneCounted : Settings → ℕ → Client → Operation → ℕ → Stepped

@@ -1,10 +1,9 @@
 -- Laws of the answers to operations posted together, one for each way through them. Assumes nothing.
 use mathlib.Core.Path.{_≡_, refl, sym, ap, ap₂, _∙_}
 use mathlib.Core.Bool.{Bool, true, false}
-use mathlib.Core.List.{List, [], _∷_}
-use Prim.Native.Nat.{ℕ, _≤_, _<_, min}
+use mathlib.Core.List.{List, []}
+use Prim.Native.Nat.{ℕ, _<_, min}
 use native.Mathlib.Omega.{arith}
-use lib.Dec.{eqb}
 use lib.ListN.{length}
 use Rattle.base.specs.rules.Choice.{choose}
 use Rattle.base.specs.laws.ChoiceLaws.{choose-eq, choose-ne, by-eq}
@@ -20,7 +19,6 @@ use Rattle.lock.specs.laws.Placed.{Sound}
 use Rattle.lock.specs.laws.SettledLaws.{settled}
 use Rattle.lock.specs.laws.Touched.{readable}
 use Rattle.lock.specs.laws.OperationLaws.{post-tested}
-use Rattle.runs.specs.declared.Ahead.{Ahead}
 use Rattle.runs.specs.rules.Ahead.{aheadIn, aheadOf, aheadAnswer}
 
 module _ (s : Settings) (c : Client) (clock n : ℕ) (e : n ≡ firstCause (postTests s c clock)) where

@@ -9,7 +9,7 @@ use Rattle.lock.specs.declared.Operation.{Operation}
 use Rattle.lock.specs.declared.Stepped.{Stepped}
 use Rattle.runs.specs.rules.Ahead.{along, aheadOf}
 use Rattle.runs.specs.laws.AnswerLaws.{posting}
-use Rattle.runs.specs.laws.AheadLaws.{noOperation}
+use Rattle.runs.specs.laws.Standing.{noOperation}
 use Rattle.runs.specs.laws.AlongLaws.{oneCounted, SoFar, starts, goes-on, stops, ends, all-counted}
 use Rattle.runs.proofs.counted.counted_along.Statement.{statement}
 use Rattle.runs.proofs.counted.counted_along.Tie as tie

@@ -7,7 +7,7 @@ use Rattle.lock.specs.rules.Records as P
 use Rattle.lock.specs.laws.SettledLaws.{settled}
 use Rattle.lock.specs.laws.Touched.{readable}
 use Rattle.lock.specs.laws.OperationLaws.{post-tested}
-use Rattle.runs.specs.laws.AheadLaws.{left}
+use Rattle.runs.specs.laws.GivesBack.{left}
 use Rattle.runs.specs.laws.AnswerLaws.{none-refused, none-impatient, found-patient, answer-by}
 use borrow.Author.Needs.{needs}
 use Rattle.runs.proofs.counts.answer_ahead.Statement.{statement}

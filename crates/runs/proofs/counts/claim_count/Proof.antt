@@ -8,7 +8,9 @@ use Rattle.tree.specs.rules.Lists.{notifyList}
 use Rattle.lock.specs.rules.Records as P
 use Rattle.lock.specs.rules.Unreadable.{listLength}
 use Rattle.lock.specs.laws.Placed.{pieced}
-use Rattle.runs.specs.laws.AheadLaws.{leaf-count, inner-count, list-short, left}
+use Rattle.runs.specs.laws.AheadLaws.{leaf-count, inner-count}
+use Rattle.runs.specs.laws.GivesBack.{left}
+use Rattle.runs.specs.laws.Standing.{list-short}
 use borrow.Author.Needs.{needs}
 use Rattle.runs.proofs.counts.claim_count.Statement.{statement}
 use Rattle.runs.proofs.counts.claim_count.Tie as tie

@@ -7,7 +7,8 @@ use lib.ListN.{length}
 use Rattle.lock.specs.rules.Records as P
 use Rattle.lock.specs.laws.Placed.{pieced}
 use Rattle.lock.specs.laws.Pieces.{few-pieces}
-use Rattle.runs.specs.laws.AheadLaws.{gripped-begun, notices-few, last-count, both-count, left}
+use Rattle.runs.specs.laws.GivesBack.{gripped-begun, last-count, both-count, left}
+use Rattle.runs.specs.laws.Standing.{notices-few}
 use borrow.Author.Needs.{needs}
 use Rattle.runs.proofs.counts.return_count.Statement.{statement}
 use Rattle.runs.proofs.counts.return_count.Tie as tie

@@ -5,7 +5,8 @@ use native.Mathlib.Omega.{arith}
 use Rattle.lock.specs.rules.Records.{phaseOf}
 use Rattle.lock.specs.rules.Records as P
 use Rattle.runs.specs.rules.Ahead.{standing}
-use Rattle.runs.specs.laws.AheadLaws.{stands-in, behind-first, behind-later}
+use Rattle.runs.specs.laws.AheadLaws.{behind-first, behind-later}
+use Rattle.runs.specs.laws.Standing.{stands-in}
 use borrow.Author.Needs.{needs}
 use Rattle.runs.proofs.posted.before_list.Statement.{statement}
 use Rattle.runs.proofs.posted.before_list.Tie as tie

@@ -5,7 +5,8 @@ use Rattle.base.specs.rules.Choice.{choose}
 use Rattle.lock.specs.rules.Records.{phaseOf}
 use Rattle.lock.specs.rules.Records as P
 use Rattle.runs.specs.rules.Ahead.{standing}
-use Rattle.runs.specs.laws.AheadLaws.{stands-first, ticket-first, ticket-later, ticket-count}
+use Rattle.runs.specs.laws.AheadLaws.{ticket-first, ticket-later, ticket-count}
+use Rattle.runs.specs.laws.Standing.{stands-first}
 use borrow.Author.Needs.{needs}
 use Rattle.runs.proofs.posted.behind_ticket.Statement.{statement}
 use Rattle.runs.proofs.posted.behind_ticket.Tie as tie

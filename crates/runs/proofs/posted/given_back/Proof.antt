@@ -10,7 +10,8 @@ use Rattle.lock.specs.rules.Records as P
 use Rattle.lock.specs.laws.Placed.{pieced}
 use Rattle.lock.specs.laws.Pieces.{few-pieces}
 use Rattle.runs.specs.rules.Ahead.{standing}
-use Rattle.runs.specs.laws.AheadLaws.{notices-few, left, front-at, front-stands, back-at-by, back-stands-by}
+use Rattle.runs.specs.laws.GivesBack.{left, front-at, front-stands, back-at-by, back-stands-by}
+use Rattle.runs.specs.laws.Standing.{notices-few}
 use borrow.Author.Needs.{needs}
 use Rattle.runs.proofs.posted.given_back.Statement.{statement}
 use Rattle.runs.proofs.posted.given_back.Tie as tie

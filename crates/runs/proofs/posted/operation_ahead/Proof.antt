@@ -13,7 +13,8 @@ use Rattle.lock.specs.rules.Unreadable.{listLength}
 use Rattle.lock.specs.laws.Placed.{sound-placed}
 use Rattle.lock.specs.laws.Phases.{at-ticket, at-turn, at-blocked, at-claim, at-returning}
 use Rattle.runs.specs.rules.Ahead.{aheadIn, standing}
-use Rattle.runs.specs.laws.AheadLaws.{noOperation, stands-in, stands-first, turn-count, blocked-count, claim-within, walks-on, phase-some, walk-at, list-short}
+use Rattle.runs.specs.laws.AheadLaws.{turn-count, blocked-count, claim-within, walks-on, phase-some}
+use Rattle.runs.specs.laws.Standing.{noOperation, stands-in, stands-first, walk-at, list-short}
 use Rattle.runs.proofs.posted.operation_ahead.Statement.{statement}
 use Rattle.runs.proofs.posted.operation_ahead.Tie as tie
 

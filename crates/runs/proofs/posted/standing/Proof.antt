@@ -2,7 +2,7 @@
 use mathlib.Core.Path.{_∙_}
 use mathlib.Core.Logic.{inr}
 use Rattle.lock.specs.rules.Records as P
-use Rattle.runs.specs.laws.AheadLaws.{stands-as}
+use Rattle.runs.specs.laws.Standing.{stands-as}
 use Rattle.runs.proofs.posted.standing.Statement.{statement}
 use Rattle.runs.proofs.posted.standing.Tie as tie
 
