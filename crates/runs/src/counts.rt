@@ -17,10 +17,11 @@ fn claim_count(own: Record, settings: Settings) -> u64
     ensures { λ n. ⌜ n ≡ length (aheadIn settings own claim) ⌝ }
 {
     let n = own.current_piece();
+    let all = 1 + tree::notify_count(settings.distance, n);
     if settings.is_leaf(n) {
         return 1;
     }
-    1 + tree::notify_count(settings.distance, n)
+    all
 }
 
 // 10: what is left of the piece that is given back, and the piece behind it. "a piece with grip 0 is passed over"
