@@ -48,7 +48,7 @@ impl Record {
 
 impl Client {
     // Causes 1, 5 and 6; 5 never by the client's own last clock.
-    fn cause(self, settings: Settings, clock: u64) -> u64
+    pub fn cause(self, settings: Settings, clock: u64) -> u64
         ensures { λ n. ⌜ n ≡ firstCause (postTests settings self clock) ⌝ }
     {
         if settings.outside() {

@@ -152,7 +152,7 @@ impl Record {
     }
 
     // The operation of the record's phase.
-    fn own_operation(self, settings: Settings) -> Operation
+    pub fn own_operation(self, settings: Settings) -> Operation
         requires { ⌜ Settled settings × Sound settings self ⌝ }
         ensures { λ o. ⌜ o ≡ operationAt (ownTouched settings self) (accessIn settings self (phaseOf (self .phase))) ⌝ }
     {

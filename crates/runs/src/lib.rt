@@ -3,6 +3,10 @@
 use lock::Client;
 
 mod by_value;
+mod counted;
+mod counts;
+mod posted;
+mod together;
 
 // How many operations a run posts together: number 0 and the count of those that were put into the lent list; else the cause of a refusal, and 0.
 #[repr(C)]
