@@ -4,11 +4,12 @@ to the compiled calls for one operation."""
 from collections import Counter
 from itertools import chain
 
-from ahead_states import EVERY_PLACE_PART, Ahead, CompletedAll, asked_at, asked_at_bounds, asked_outside, at_every_place
+from ahead_states import Ahead, CompletedAll, asked_at, asked_at_bounds, asked_outside, at_every_place
 from compare import NAMES, case
-from compiled_ahead import BEFORE, completed_all, one_by_one, operations_ahead, packed_list
+from compiled_ahead import BEFORE, Guarding, completed_all, one_by_one, operations_ahead, packed_list
 from compiled_operations import OPERATION
 from compiled_table import library
+from guarded_memory import asked_apart
 from model import tree
 from model.ahead import operations_ahead as by_model
 from model.record import Record, Settings
@@ -18,11 +19,14 @@ AFTER = "number", "counted", "clock", *Record._fields
 NAMES["operations ahead"] = (*CLIENT, "room"), ("number", "count", "operations unlike", "operations behind them changed")
 NAMES["completed all"] = (*CLIENT, *("found",) * 100), AFTER
 NAMES["completed one by one"] = (*CLIENT, *("found",) * 100), AFTER
+NAMES["answers beside guarded memory"] = (), ("answers",)
+NAMES["answer beside guarded memory"] = (*CLIENT, "room, or words found"), ("number", "count")
 NAMES["lists occur"] = ("levels", "phase", "number", "more than one"), ("occurs",)
 NAMES["counts occur"] = ("levels", "phase", "number", "counted none, some or all"), ("occurs",)
 
-# Of the states in histories, readable, damaged and with any fields, one in so many is asked one operation after another too.
-PART_SINGLY = 24
+# Of the states in histories, readable, damaged and with any fields, one in so many is asked one operation after another too, or
+# of memory beside guarded pages.
+PART_SINGLY, PART_AT_GUARDS = 24, 40
 NONE_COUNTED, SOME_COUNTED, ALL_COUNTED = range(3)
 # What must occur at every H: phase, number and whether the list has more than one operation.
 LISTS = [
@@ -95,15 +99,25 @@ def at_levels(h):
 def singly():
     """Completing a list is completing as many operations as count, one after another."""
     library()
-    every = chain(*(asked_at(h, PART_SINGLY) for h in tree.LEVELS), *(at_every_place(h, EVERY_PLACE_PART * 4) for h in tree.LEVELS))
-    for asked in every:
+    for asked in chain(*(asked_at(h, PART_SINGLY) for h in tree.LEVELS)):
         if isinstance(asked, CompletedAll):
             yield case("completed one by one", asked.arguments(), one_by_one(asked)), completed_all(asked)
+
+
+def at_guards():
+    """With lent memory that ends where pages do that nobody may touch: as many answers as questions, each the model's."""
+    library()
+    questions = [asked for h in (2, 3, 12) for asked in asked_at(h, PART_AT_GUARDS)]
+    found = asked_apart(Guarding().answer, questions)
+    yield case("answers beside guarded memory", [], len(questions)), len(found)
+    for asked, answer in zip(questions, found):
+        yield case("answer beside guarded memory", asked.arguments(), asked.answer()[:2]), answer[:2]
 
 
 SUITES = {
     **{f"compiled lists of operations at H {h}": lambda h=h: at_levels(h) for h in tree.LEVELS},
     "compiled lists of operations, at bounds": lambda: compared(asked_at_bounds()),
     "compiled lists of operations, settings outside their ranges": lambda: compared(asked_outside()),
+    "compiled lists of operations, nothing behind what is lent is touched": at_guards,
     "compiled lists of operations, completing one is completing its operations one by one": singly,
 }

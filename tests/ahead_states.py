@@ -7,6 +7,7 @@ from random import Random
 from typing import NamedTuple
 
 from model import ahead, operations, word
+from model import record as records
 from model.operations import SWAP
 from model.record import Client, Settings
 from operation_states import any_found, states_at, states_at_bounds, states_outside
@@ -18,7 +19,8 @@ from word_cases import random_inner
 LONGEST, BEYOND = 85, 3
 # Of the states in histories, readable, damaged and with any fields, one in so many; of those at bounds likewise.
 PART, PART_AT_BOUNDS, EVERY_PLACE_PART = 8, 6, 64
-TWO_LEAVES = 4
+# Of each kind of state that is seldom drawn, so many.
+SELDOM = 4
 TELLING = "occ", "tcnt", "dcnt", "dmax"
 
 
@@ -158,16 +160,26 @@ def asked_outside():
     return (asked for state in states_outside(rng) for asked in asked_of(rng, state, step_clock(rng, state)))
 
 
-def returns_of_two_leaves(rng, h):
-    """States in which both pieces are leaves that are still to be given back: the second's word may be refused, when the first's has counted."""
-    states = (state for state in iter(lambda: built_state(rng, h), None) if state.record.phase == 10)
-    return islice((state for state in states if sum(posted.kind == SWAP for posted in posted_by(state, state.last)) == 2), TWO_LEAVES)
+def returns_two_leaves(state):
+    """Both pieces are leaves that are still to be given back: the second's word may be refused, when the first's has counted."""
+    return state.record.phase == 10 and sum(posted.kind == SWAP for posted in posted_by(state, state.last)) == 2
+
+
+def checks_before_another_piece(state):
+    """The check of an inner node, behind which another piece begins."""
+    return state.record.phase == 8 and not records.is_last(state.record)
+
+
+def seldom_drawn(rng, h):
+    """A few states of each kind that is seldom drawn. In a tree of H 2 the one inner node is the root, and no piece comes after it."""
+    for wanted in (returns_two_leaves, *([checks_before_another_piece] if h > 2 else [])):
+        yield from islice(filter(wanted, iter(lambda: built_state(rng, h), None)), SELDOM)
 
 
 def at_every_place(h, part=EVERY_PLACE_PART):
     """Of fewer states: every room up to past the list's end, and words turned at every place."""
     rng = Random(f"ahead at every place at {h}")
-    for state in chain(states_at(h, part), returns_of_two_leaves(rng, h)):
+    for state in chain(states_at(h, part), seldom_drawn(rng, h)):
         clock = step_clock(rng, state)
         words = words_of(rng, state, clock)
         yield from (Ahead(state.settings, state.client, clock, room) for room in range(len(words) + 2))

@@ -1,15 +1,18 @@
 """The compiled calls for operations that are posted together, from Python: the whole of the lent list is seen, also behind what is put into it."""
 
-from ctypes import c_uint64
+from ctypes import POINTER, c_uint64, cast
 from functools import lru_cache
 from struct import Struct
 
+from ahead_states import Ahead
 from compiled_operations import OPERATION, lent_client, lent_settings
 from compiled_table import library, nolthewyr
+from guarded_memory import Guarded
 
 ALL_AFTER = Struct("18Q")
 # What stands in a lent list before the call, other numbers at each place; and how many operations behind its room are looked at too.
 SPARE = 2
+GUARDED_PAGES = 2
 BEFORE = b"".join(OPERATION.pack(*(0x5A5A000000000000 + 8 * place + field for field in range(7))) for place in range(100))
 
 
@@ -42,6 +45,23 @@ def completed_all(asked):
     answer = library().nolthewyr_completed_all(
         lent_client(asked.client), lent_settings(asked.settings), asked.clock, lent, len(asked.found))
     return ALL_AFTER.unpack(answer)
+
+
+class Guarding:
+    """The same calls with lent memory that ends where a page begins that nobody may touch."""
+
+    def __init__(self):
+        self.guarded = Guarded(GUARDED_PAGES)
+
+    def lent(self, numbers):
+        return self.guarded.put(numbers, at_end=True)
+
+    def answer(self, asked):
+        client, settings = lent_client(asked.client), lent_settings(asked.settings)
+        if isinstance(asked, Ahead):
+            room = cast(self.lent([0] * (OPERATION.size // 8 * asked.room)), POINTER(nolthewyr.OperationAnswer))
+            return tuple(library().nolthewyr_operations_ahead(client, settings, asked.clock, room, asked.room))
+        return ALL_AFTER.unpack(library().nolthewyr_completed_all(client, settings, asked.clock, self.lent(asked.found), len(asked.found)))
 
 
 def one_by_one(asked):
