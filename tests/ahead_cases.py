@@ -26,7 +26,7 @@ NAMES["counts occur"] = ("levels", "phase", "number", "counted none, some or all
 
 # Of the states in histories, readable, damaged and with any fields, one in so many is asked one operation after another too, or
 # of memory beside guarded pages.
-PART_SINGLY, PART_AT_GUARDS = 24, 40
+PART_SINGLY, PART_AT_GUARDS = 32, 40
 NONE_COUNTED, SOME_COUNTED, ALL_COUNTED = range(3)
 # What must occur at every H: phase, number and whether the list has more than one operation.
 LISTS = [

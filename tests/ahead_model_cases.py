@@ -5,7 +5,7 @@ from collections import Counter
 from itertools import chain, islice
 from random import Random
 
-from ahead_states import EVERY_PLACE_PART, PART, asked_at, asked_at_bounds, asked_outside, at_every_place
+from ahead_states import PART, asked_at, asked_at_bounds, asked_outside, at_every_place
 from broken_ahead import RULES, broken
 from broken_rules import by_broken
 from compare import NAMES, case
@@ -23,7 +23,7 @@ NAMES["list of trying answers in"] = ("phase", "more than one"), ("occurs",)
 NAMES["broken list of operations"] = ("place in the list of broken rules",), ("found out",)
 
 # Of the states that the compiled calls are asked of, one in so many; of those at bounds likewise.
-PART_EXPLORED, PART_EXPLORED_AT_BOUNDS = 12, 30
+PART_EXPLORED, PART_EXPLORED_AT_BOUNDS = 20, 30
 # The phases in which all that is posted is certain: an inner claim with its notices or a leaf's claim, notices, and a return.
 ALL_CERTAIN = 5, 6, 10
 MUST_OCCUR = [(phase, 0) for phase in range(11) if phase not in (1, 4)] + [(phase, 1) for phase in (1, 2, 3, 4, 5, 6, 8, 10)]
@@ -55,7 +55,7 @@ def by_trying():
 
 def broken_rules():
     """Of each broken rule some question shows it: compiled code with that fault would not answer as the model."""
-    questions = [asked for h in (2, 3, 6) for asked in chain(asked_at(h, 4 * PART), at_every_place(h, 4 * EVERY_PLACE_PART))]
+    questions = [asked for h in (2, 3, 6) for asked in chain(asked_at(h, 4 * PART), at_every_place(h))]
     questions += [*islice(asked_at_bounds(), None, None, 4), *islice(asked_outside(), None, None, 4)]
     answered = [(asked, asked.answer()) for asked in questions]
     for place, rule in enumerate(RULES):

@@ -18,9 +18,9 @@ from word_cases import random_inner
 # The longest list, a check of 1 + 4 + 16 + 64 nodes, and how many words are found at most beyond a list.
 LONGEST, BEYOND = 85, 3
 # Of the states in histories, readable, damaged and with any fields, one in so many; of those at bounds likewise.
-PART, PART_AT_BOUNDS, EVERY_PLACE_PART = 8, 6, 64
+PART, PART_AT_BOUNDS, EVERY_PLACE_PART = 8, 8, 160
 # Of each kind of state that is seldom drawn, so many.
-SELDOM = 4
+SELDOM = 2
 TELLING = "occ", "tcnt", "dcnt", "dmax"
 
 
@@ -59,10 +59,12 @@ class CompletedAll(NamedTuple):
 
 
 class Found(NamedTuple):
-    """A word by which a client goes on, and beside it one by which it does not, or which differs where nothing is looked at."""
+    """A word by which a client goes on; one that differs in one field or all, or in a bit, and may be as good where nothing looks at that; and one by
+    which it does not go on, if any word can keep it."""
 
     good: int
     turned: int
+    bad: int
 
 
 def posted_by(state, clock):
@@ -74,7 +76,7 @@ def found_by_swap(rng, posted):
     """What it expects in the compared bits, or all of these but one, with any bits beside them."""
     good = posted.expected | any_found(rng) & ~posted.compared
     compared = [bit for bit in range(64) if posted.compared >> bit & 1]
-    return Found(good, good ^ 1 << rng.choice(compared))
+    return Found(good, good ^ 1 << rng.choice(compared), good ^ 1 << rng.choice(compared))
 
 
 def found_in_inner(rng, client):
@@ -82,8 +84,12 @@ def found_in_inner(rng, client):
     inner = word.unpack(random_inner(rng))
     good = inner._replace(occ=0, tcnt=client.record.ticket, dcnt=inner.dmax)
     changed = rng.choice([TELLING[:3], *((name,) for name in TELLING)])
-    turned = good._replace(**{name: (getattr(good, name) + 1) % 2 ** getattr(word.WIDTH, name) for name in changed})
-    return Found(word.pack(good), word.pack(turned))
+    return Found(*(word.pack(one_more(good, names)) for names in ((), changed, TELLING[:3])))
+
+
+def one_more(inner, names):
+    """The word with 1 added in these fields, each of which wraps by itself."""
+    return inner._replace(**{name: (getattr(inner, name) + 1) % 2 ** getattr(word.WIDTH, name) for name in names})
 
 
 def words_of(rng, state, clock):
@@ -99,13 +105,13 @@ def good(rng, words):
     return [each.good for each in words]
 
 
-def turned_at(words, place):
-    return [each.turned if at == place else each.good for at, each in enumerate(words)]
+def other_at(words, place, which):
+    """Another word at one place, and good ones before and behind it."""
+    return [getattr(each, which) if at == place else each.good for at, each in enumerate(words)]
 
 
 def turned(rng, words):
-    """Turned at one place, and good before and behind it."""
-    return turned_at(words, rng.randrange(len(words))) if words else []
+    return other_at(words, rng.randrange(len(words)), "turned") if words else []
 
 
 def mixed(rng, words):
@@ -170,17 +176,26 @@ def checks_before_another_piece(state):
     return state.record.phase == 8 and not records.is_last(state.record)
 
 
+def posts_in(phase, many):
+    """In this phase it posts more than so many operations together."""
+    return lambda state: state.record.phase == phase and len(posted_by(state, state.last)) > many
+
+
 def seldom_drawn(rng, h):
-    """A few states of each kind that is seldom drawn. In a tree of H 2 the one inner node is the root, and no piece comes after it."""
-    for wanted in (returns_two_leaves, *([checks_before_another_piece] if h > 2 else [])):
-        yield from islice(filter(wanted, iter(lambda: built_state(rng, h), None)), SELDOM)
+    """A few states of each kind that is seldom drawn. In a tree of H 2 the one inner node is the root: no piece comes after it, and most lists are
+    short."""
+    more_than = {1: 2, 2: 1, 3: 1, 4: 2, 8: 1} if h > 2 else {}
+    wanted = [*([checks_before_another_piece] if h > 2 else []), *(posts_in(*each) for each in more_than.items())]
+    for each in (returns_two_leaves, *wanted):
+        yield from islice(filter(each, iter(lambda: built_state(rng, h), None)), SELDOM)
 
 
 def at_every_place(h, part=EVERY_PLACE_PART):
-    """Of fewer states: every room up to past the list's end, and words turned at every place."""
+    """Of fewer states: every room up to past the list's end, no words, good ones, too many, and a bad one at every place."""
     rng = Random(f"ahead at every place at {h}")
-    for state in chain(states_at(h, part), seldom_drawn(rng, h)):
-        clock = step_clock(rng, state)
+    drawn = ((state, step_clock(rng, state)) for state in states_at(h, part))
+    for state, clock in chain(drawn, ((state, state.last) for state in seldom_drawn(rng, h))):
         words = words_of(rng, state, clock)
         yield from (Ahead(state.settings, state.client, clock, room) for room in range(len(words) + 2))
-        yield from (CompletedAll(state.settings, state.client, clock, tuple(turned_at(words, place))) for place in range(len(words)))
+        found = [], good(rng, words), too_many(rng, words), *(other_at(words, place, "bad") for place in range(len(words)))
+        yield from (CompletedAll(state.settings, state.client, clock, tuple(each)) for each in found)

@@ -20,7 +20,7 @@ NAMES["list posted in a wrong way"] = ("place in the list of ways",), ("found ou
 
 # So long that clocks that are 1 part in 20,000 too fast or too slow, and rounded down, are true (docs/LINKING.md).
 WAIT = 40000
-SEEDS, WINDOWS = 120, 80
+SEEDS, SEEDS_OF_LISTS, WINDOWS = 120, 80, 80
 # Readings that must be found out, and by which claim at least: two hold overlapping windows, or the tree is not clean.
 WRONG = [
     ("overlaps", Readings(after=(NOTIFY,))), ("overlaps", Readings(after=(CLAIM,))), ("overlaps", Readings(after=(CLIMB, CLAIM, NOTIFY))),
@@ -43,11 +43,11 @@ def counts_of(seed, readings=Readings(), posting=OneAtATime()):
     return world.lived(2 + seed % 3, WINDOWS)
 
 
-def held_apart(name, posting, counted):
+def held_apart(name, posting, seeds, counted):
     """In all runs together every phase and outcome occurs, and what else is counted."""
     library()
     total = Counter()
-    for seed in range(SEEDS):
+    for seed in range(seeds):
         counts = counts_of(seed, posting=posting)
         total += counts
         yield case(name, [seed], (0, 0, 0)), (counts["overlaps"], counts["refused"], counts["not clean"])
@@ -57,11 +57,11 @@ def held_apart(name, posting, counted):
 
 
 def one_at_a_time():
-    return held_apart("runs with operations in flight", OneAtATime(), ["two hold"])
+    return held_apart("runs with operations in flight", OneAtATime(), SEEDS, ["two hold"])
 
 
 def lists():
-    return held_apart("runs with lists in flight", Together(), ["two hold", "posted together", "dropped"])
+    return held_apart("runs with lists in flight", Together(), SEEDS_OF_LISTS, ["two hold", "posted together", "dropped"])
 
 
 def wrong_readings():
@@ -75,7 +75,7 @@ def wrong_readings():
 def wrong_lists():
     library()
     for place, (claim, readings, posting) in enumerate(WRONG_LISTS):
-        found_out = any(counts_of(seed, readings, posting)[claim] for seed in range(SEEDS))
+        found_out = any(counts_of(seed, readings, posting)[claim] for seed in range(SEEDS_OF_LISTS))
         yield case("list posted in a wrong way", [place], 1), int(found_out)
 
 
