@@ -8,7 +8,7 @@ from typing import NamedTuple
 
 from model import record as records
 from model.operations import (
-    READ, Operation, claim, clear_bit, completed, give_back, notify, operation, patience_run_out, read_piece, read_walked, reading, step_refused,
+    READ, claim, clear_bit, completed, give_back, notify, operation, patience_run_out, read_piece, read_walked, reading, step_refused,
     take_ticket)
 from model.record import Client
 

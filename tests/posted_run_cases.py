@@ -11,7 +11,7 @@ from posted_lists import (
     BLOCKED, TICKET, TURN, ClaimByEarlyClock, ClaimWithClimb, DroppedReadsCounted, NoticesWithClaim, Together)
 from posted_runs import CLAIM, CLIMB, NOTIFY, OneAtATime, Readings, World
 
-NAMES["runs with operations in flight"] = ("seed",), ("overlapping windows held", "calls refused", "words not clean")
+NAMES["runs with operations in flight"] = ("seed",), ("overlapping windows held", "calls refused", "words not clean", "not ended")
 NAMES["runs with lists in flight"] = NAMES["runs with operations in flight"]
 NAMES["occurs in runs"] = ("phase or outcome", "number"), ("occurs",)
 NAMES["counted in runs"] = ("place in the list of what is counted",), ("occurs",)
@@ -50,7 +50,7 @@ def held_apart(name, posting, seeds, counted):
     for seed in range(seeds):
         counts = counts_of(seed, posting=posting)
         total += counts
-        yield case(name, [seed], (0, 0, 0)), (counts["overlaps"], counts["refused"], counts["not clean"])
+        yield case(name, [seed], (0, 0, 0, 0)), tuple(counts[what] for what in ("overlaps", "refused", "not clean", "not ended"))
     for place, (kind, numbers) in enumerate((("phase", nolthewyr.Phase), ("outcome", list(nolthewyr.Outcome)[1:]))):
         yield from ((case("occurs in runs", [place, number], 1), int(total[kind, number] > 0)) for number in numbers)
     yield from ((case("counted in runs", [place], 1), int(total[what] > 0)) for place, what in enumerate(counted))

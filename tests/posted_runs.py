@@ -143,7 +143,8 @@ class World:
         self.held[run] = window
 
     def lived(self, runs, windows):
-        """Lets so many runs take so many windows each, every other run long ones, and gives what is counted when all are idle."""
+        """Lets so many runs take so many windows each, every other run long ones, and gives what is counted when all are idle. Of
+        runs that do not end it is not asked whether the words are clean."""
         drawn = sorted(contended_windows(self.rng, self.settings.levels), key=lambda window: window[1] - window[0])
         short_and_long = drawn[:len(drawn) // 2], drawn[len(drawn) // 2:]
         lives = [Run(self, self.rng).life(self.rng.choices(short_and_long[place % 2], k=windows)) for place in range(runs)]
@@ -153,6 +154,6 @@ class World:
             delays += 1
             if (delay := next(lives[place], None)) is not None:
                 heappush(waiting, (self.time + delay, place))
-        self.counts["delays"] = delays
-        self.counts["not clean"] += bool(waiting) or not left_clean(self.settings, self.words, [True])
+        self.counts["not ended"] += bool(waiting)
+        self.counts["not clean"] += not waiting and not left_clean(self.settings, self.words, [True])
         return self.counts
