@@ -142,6 +142,22 @@ pub fn completed(client: Client, settings: Settings, clock: u64, found: u64) -> 
     next(nolthewyr_completed(client, settings, clock, found))
 }
 
+/// Puts the operations that the client may post together now into the lent list, in their order, at most as many as it holds, and gives
+/// how many they are; the longest list has 85. docs/LINKING.md says by which clock they are asked for and completed.
+pub fn operations_ahead(client: Client, settings: Settings, clock: u64, operations: &mut [OperationAnswer]) -> Result<usize, Cause> {
+    // The slice gives what the proof assumes: a length that is true, and nobody else who reads or writes the list meanwhile.
+    let answer = unsafe { nolthewyr_operations_ahead(client, settings, clock, operations.as_mut_ptr(), operations.len()) };
+    accepted(answer.number).map(|()| answer.count as usize)
+}
+
+/// How many of the operations that were posted together count, by the words that they found, and the client after those. Reads that do not
+/// count are dropped.
+pub fn completed_all(client: Client, settings: Settings, clock: u64, found: &[u64]) -> Result<(usize, Client), Cause> {
+    // The slice gives what the proof assumes: a length that is true, and nobody who writes the words meanwhile.
+    let answer = unsafe { nolthewyr_completed_all(client, settings, clock, found.as_ptr(), found.len()) };
+    accepted(answer.number).map(|()| (answer.counted as usize, answer.next))
+}
+
 /// The client after it has asked for [left, right).
 pub fn own_request(client: Client, settings: Settings, left: u64, right: u64) -> Result<Client, Cause> {
     next(nolthewyr_own_request(client, settings, left, right))

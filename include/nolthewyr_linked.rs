@@ -166,6 +166,21 @@ pub struct ClientAnswer {
     pub next: Client,
 }
 
+#[repr(C)]
+#[derive(Clone, Copy, Debug, Default, PartialEq)]
+pub struct AheadAnswer {
+    pub number: u64,
+    pub count: u64,
+}
+
+#[repr(C)]
+#[derive(Clone, Copy, Debug, Default, PartialEq)]
+pub struct CompletedAllAnswer {
+    pub number: u64,
+    pub counted: u64,
+    pub next: Client,
+}
+
 /// A text that the library owns: plain letters, ended by 0, and there as long as the program runs.
 pub(super) fn library_text(text: *const c_char) -> &'static str {
     unsafe { CStr::from_ptr(text) }.to_str().unwrap_or_default()
@@ -189,6 +204,8 @@ unsafe extern "C" {
     pub safe fn nolthewyr_operation(client: Client, settings: Settings, clock: u64) -> OperationAnswer;
     pub safe fn nolthewyr_applied(operation: OperationAnswer, found: u64) -> u64;
     pub safe fn nolthewyr_completed(client: Client, settings: Settings, clock: u64, found: u64) -> ClientAnswer;
+    pub fn nolthewyr_operations_ahead(client: Client, settings: Settings, clock: u64, operations: *mut OperationAnswer, room: usize) -> AheadAnswer;
+    pub fn nolthewyr_completed_all(client: Client, settings: Settings, clock: u64, found: *const u64, found_count: usize) -> CompletedAllAnswer;
     pub safe fn nolthewyr_own_request(client: Client, settings: Settings, left: u64, right: u64) -> ClientAnswer;
     pub safe fn nolthewyr_own_release(client: Client, settings: Settings) -> ClientAnswer;
     pub safe fn nolthewyr_own_cancel(client: Client, settings: Settings) -> ClientAnswer;

@@ -19,10 +19,13 @@ from threading import RLock
 
 # All that a program names is found here, whichever of the two files has it.
 from nolthewyr_linked import (
-    FUNCTIONS, LEAST, SERIES, Calendar, CalendarQuarterAnswer, CalendarWindowAnswer, Call, Cause, Client, ClientAnswer, CoverAnswer, Operation,
-    OperationAnswer, Outcome, Phase, Quarter, Record, Row, RunPageAnswer, Settings, StepCountAnswer, fitting, library, library_file)
+    FUNCTIONS, LEAST, SERIES, AheadAnswer, Calendar, CalendarQuarterAnswer, CalendarWindowAnswer, Call, Cause, Client, ClientAnswer,
+    CompletedAllAnswer, CoverAnswer, Operation, OperationAnswer, Outcome, Phase, Quarter, Record, Row, RunPageAnswer, Settings, StepCountAnswer,
+    fitting, library, library_file)
 
 TOO_MANY_CLIENTS = 32768
+# The longest list of operations that are posted together: a check of 1 + 4 + 16 + 64 nodes.
+MOST_AHEAD = 85
 
 
 class Refused(Exception):
@@ -155,6 +158,21 @@ def applied(operation, found):
 def completed(client, settings, clock, found):
     """The client after its operation, which found this word."""
     return accepted_answer(library().nolthewyr_completed(client, settings, fitting(clock), fitting(found))).next
+
+
+def operations_ahead(client, settings, clock, room=MOST_AHEAD):
+    """The operations that the client may post together now, in their order, at most so many; none where it has nothing to post. docs/LINKING.md
+    says by which clock they are asked for and completed."""
+    lent = (OperationAnswer * min(fitting(room), MOST_AHEAD))()
+    return lent[:accepted_answer(library().nolthewyr_operations_ahead(client, settings, fitting(clock), lent, len(lent))).count]
+
+
+def completed_all(client, settings, clock, found):
+    """How many of the operations that were posted together count, by the words that they found, and the client after those. Reads that do not count
+    are dropped."""
+    lent = (c_uint64 * len(found))(*map(fitting, found))
+    answer = accepted_answer(library().nolthewyr_completed_all(client, settings, fitting(clock), lent, len(lent)))
+    return answer.counted, answer.next
 
 
 def own_request(client, settings, left, right):

@@ -11,7 +11,7 @@ from pathlib import Path
 
 # Structs grow between versions, and functions come with the third number: a library of another series, or of a lower version, is not used.
 SERIES = "0.4"
-LEAST = 2
+LEAST = 3
 FILE = f"libnolthewyr.so.{SERIES}"
 
 Phase = IntEnum("Phase", "IDLE TICKET TURN CLIMB BLOCKED CLAIM NOTIFY WAIT CHECK HELD RETURNING", start=0)
@@ -142,6 +142,18 @@ class ClientAnswer(Fields):
     _fields_ = [("number", c_uint64), ("next", Client)]
 
 
+class AheadAnswer(Numbers):
+    """How many operations were put into the lent list."""
+
+    _fields_ = numbers("number count")
+
+
+class CompletedAllAnswer(Fields):
+    """How many of the operations that were posted together count, and the client after those."""
+
+    _fields_ = [("number", c_uint64), ("counted", c_uint64), ("next", Client)]
+
+
 LENT = POINTER(Client), c_size_t, POINTER(c_uint64), c_size_t, Settings
 FUNCTIONS = {
     "open": (LENT, c_uint64),
@@ -156,6 +168,8 @@ FUNCTIONS = {
     "operation": ((Client, Settings, c_uint64), OperationAnswer),
     "applied": ((OperationAnswer, c_uint64), c_uint64),
     "completed": ((Client, Settings, c_uint64, c_uint64), ClientAnswer),
+    "operations_ahead": ((Client, Settings, c_uint64, POINTER(OperationAnswer), c_size_t), AheadAnswer),
+    "completed_all": ((Client, Settings, c_uint64, POINTER(c_uint64), c_size_t), CompletedAllAnswer),
     "own_request": ((Client, Settings, c_uint64, c_uint64), ClientAnswer),
     **{name: ((Client, Settings), ClientAnswer) for name in ("own_release", "own_cancel")},
     **{f"{name}_text": ((c_uint64,), c_char_p) for name in ("phase", "outcome", "cause", "operation")},

@@ -33,7 +33,7 @@ RUST_FILES = "nolthewyr.rs", "nolthewyr_linked.rs"
 PYTHON_FILES = "nolthewyr.py", "nolthewyr_linked.py"
 # Versions that the Python files do not use, each with the least third number that they ask for: of other series, the one before among them,
 # one without a third number, and a lower one.
-OTHER_VERSIONS = {"0.3.0": 0, "0.5.0": 0, "1.4.0": 0, "0.40.0": 0, "0.4.x": 0, "0.4.1": 2}
+OTHER_VERSIONS = {"0.3.0": 0, "0.5.0": 0, "1.4.0": 0, "0.40.0": 0, "0.4.x": 0, "0.4.2": 3}
 
 
 def compared(name, before, expected, found):

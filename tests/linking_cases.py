@@ -28,18 +28,21 @@ STRUCTS = {
     "cover_answer": ("cover", "Answer"), "step_count_answer": ("lock", "StepCount"), "row": ("pages", "Row"),
     "run_page_answer": ("pages", "RunPage"), "calendar": ("calendar", "Calendar"), "quarter": ("calendar", "Quarter"),
     "calendar_window_answer": ("calendar", "WindowAnswer"), "calendar_quarter_answer": ("calendar", "QuarterAnswer"),
-    "operation_answer": ("lock", "Operation"), "client_answer": ("lock", "Stepped"),
+    "operation_answer": ("lock", "Operation"), "client_answer": ("lock", "Stepped"), "ahead_answer": ("runs", "Ahead"),
+    "completed_all_answer": ("runs", "CompletedAll"),
 }
 # The crates whose exported functions are linked.
 LINKED = "table", "runs", "pages", "calendar"
 
 # What the length of each lent slice is called, what C's types are in Rust, and what the structs that a function answers, or takes as another
 # has answered them, are called where it is linked.
-LENGTHS = {"clients": "client_count", "words": "word_count", "rows": "row_count", "hours": "hour_count"}
+LENGTHS = {
+    "clients": "client_count", "words": "word_count", "rows": "row_count", "hours": "hour_count", "operations": "room", "found": "found_count"}
 C_TYPES = {"uint64_t": "u64", "size_t": "usize", "char": "c_char"}
 ANSWERS = {
     "cover::Answer": "CoverAnswer", "lock::StepCount": "StepCountAnswer", "RunPage": "RunPageAnswer", "WindowAnswer": "CalendarWindowAnswer",
-    "QuarterAnswer": "CalendarQuarterAnswer", "Operation": "OperationAnswer", "Stepped": "ClientAnswer",
+    "QuarterAnswer": "CalendarQuarterAnswer", "Operation": "OperationAnswer", "Stepped": "ClientAnswer", "Ahead": "AheadAnswer",
+    "CompletedAll": "CompletedAllAnswer",
 }
 
 
@@ -99,7 +102,7 @@ def by_rattle(parameters):
     """The parameters in Rattle, as C and Rust have them: a slice is a pointer, and then its length by its own name."""
     for name, type_ in named_types(parameters):
         if lent := re.fullmatch(r"&(mut )?\[(\w+)\]", type_):
-            yield from (f"{name}: *{'mut' if lent[1] else 'const'} {lent[2]}", f"{LENGTHS[name]}: usize")
+            yield from (f"{name}: *{'mut' if lent[1] else 'const'} {ANSWERS.get(lent[2], lent[2])}", f"{LENGTHS[name]}: usize")
         else:
             yield f"{name}: {ANSWERS.get(type_, type_)}"
 

@@ -1,5 +1,6 @@
-"""Runs on machines of their own, in whole ticks of true time: each keeps its client and reads its own clock, and has one operation in flight, which
-takes any time to its word and back. Each reads its clock where docs/REMOTE.md says, so that nothing is supposed of the network."""
+"""Runs on machines of their own, in whole ticks of true time: each keeps its client and reads its own clock, and has one operation in flight, or a
+list of them that are carried out in order, with others' between. They take any time to their words and back. Each run reads its clock where
+docs/REMOTE.md says, so that nothing is supposed of the network."""
 
 from collections import Counter
 from heapq import heappop, heappush
@@ -15,6 +16,8 @@ IDLE, CLIMB, CLAIM, NOTIFY, HELD = (getattr(nolthewyr.Phase, name) for name in (
 # Clocks go by so many parts in 20,000 too fast or too slow.
 RATES, PARTS = (-1, 0, 1), 20000
 CANCELS = 0.005
+# Runs whose words have been spoilt may wait for each other for ever: after so many delays they are not waited for any more.
+MOST_DELAYS = 60000
 
 
 class Readings(NamedTuple):
@@ -25,6 +28,22 @@ class Readings(NamedTuple):
     after: tuple = (CLAIM, NOTIFY)
     leaves_climbs: bool = True
     within_patience: bool = True
+
+
+class OneAtATime:
+    """A run posts one operation, and the next when it has come back."""
+
+    # The phases from whose start the parent may be read by what is posted; its reading in a climb is the climb's first.
+    climbs_from = ()
+
+    def posted(self, client, settings, clock):
+        """What is posted now: nothing, where no word is touched."""
+        operation = library().nolthewyr_operation(client, settings, clock)
+        return [operation] if operation.node else []
+
+    def completed(self, run, before, after, posted, found):
+        """The client after all of it, by the clock that was read before the posting or by that which was read after it."""
+        return library().nolthewyr_completed(run.client, run.settings, after, found[0] if found else 0)
 
 
 class Run:
@@ -54,29 +73,37 @@ class Run:
 
     def too_late_to_climb(self, now):
         """A later piece's climb begins only if its patience is not over a wait from now."""
-        begins = self.record.current > 0 and (self.record.phase, self.record.place) == (CLIMB, 0)
-        return self.world.readings.leaves_climbs and begins and now + self.settings.wait >= self.record.taken + self.settings.patience
+        begins = (self.record.phase, self.record.place) == (CLIMB, 0) or self.record.phase in self.world.posting.climbs_from
+        too_late = self.record.current > 0 and now + self.settings.wait >= self.record.taken + self.settings.patience
+        return self.world.readings.leaves_climbs and begins and too_late
 
     def completion_clock(self, before, posted):
-        """The clock by which an operation is completed. If patience is over by it, though an operation was posted, it is one by which the claim is
+        """The clock by which what was posted is completed. If patience is over by it, though something was posted, it is one by which the claim is
         late and patience is not over."""
         after = self.clock() if self.record.phase in self.world.readings.after else before
         run_out = self.record.current > 0 and after - self.record.taken >= self.settings.patience
-        return max(before, self.record.t1 + self.settings.wait) if run_out and posted.node and self.world.readings.within_patience else after
+        return max(before, self.record.t1 + self.settings.wait) if run_out and posted and self.world.readings.within_patience else after
+
+    def carried_out(self, posted):
+        """The operations at their words, one after another with any time between, and in `found` the words as they were; gives how long all takes."""
+        found = []
+        for place, operation in enumerate(posted):
+            yield self.rng.randrange(self.settings.wait // 20) if place else self.delay()
+            found.append(self.world.words[operation.node - 1])
+            self.world.words[operation.node - 1] = library().nolthewyr_applied(operation, found[-1])
+        if posted:
+            yield self.delay()
+        return found
 
     def step(self):
-        """One operation, there and back; gives how long each takes."""
+        """What is posted at a time, there and back; gives how long each takes."""
         before = self.clock()
         while self.too_late_to_climb(before) and before < self.record.taken + self.settings.patience:
             yield self.settings.wait // 10
             before = self.clock()
-        posted, found = library().nolthewyr_operation(self.client, self.settings, before), 0
-        if posted.node:
-            yield self.delay()
-            found = self.world.words[posted.node - 1]
-            self.world.words[posted.node - 1] = library().nolthewyr_applied(posted, found)
-            yield self.delay()
-        self.given(library().nolthewyr_completed(self.client, self.settings, self.completion_clock(before, posted), found))
+        posted = self.world.posting.posted(self.client, self.settings, before)
+        found = yield from self.carried_out(posted)
+        self.given(self.world.posting.completed(self, before, self.completion_clock(before, posted), posted, found))
         self.world.counts["phase", self.record.phase] += 1
         yield self.rng.randrange(self.settings.wait // 20)
 
@@ -105,8 +132,9 @@ class Run:
 class World:
     """The words, true time, and which runs hold what; and what is counted."""
 
-    def __init__(self, settings, seed, readings=Readings()):
+    def __init__(self, settings, seed, readings=Readings(), posting=OneAtATime()):
         self.settings, self.rng, self.readings = nolthewyr.Settings(*settings), Random(f"posted runs {seed}"), readings
+        self.posting = posting
         self.words, self.time, self.held, self.counts = [0] * tree.node_count(settings.levels), 0, {}, Counter()
 
     def hold(self, run, window):
@@ -115,14 +143,17 @@ class World:
         self.held[run] = window
 
     def lived(self, runs, windows):
-        """Lets so many runs take so many windows each, every other run long ones, and gives what is counted when all are idle."""
+        """Lets so many runs take so many windows each, every other run long ones, and gives what is counted when all are idle. Of
+        runs that do not end it is not asked whether the words are clean."""
         drawn = sorted(contended_windows(self.rng, self.settings.levels), key=lambda window: window[1] - window[0])
         short_and_long = drawn[:len(drawn) // 2], drawn[len(drawn) // 2:]
         lives = [Run(self, self.rng).life(self.rng.choices(short_and_long[place % 2], k=windows)) for place in range(runs)]
-        waiting = [(0, place) for place in range(runs)]
-        while waiting:
+        waiting, delays = [(0, place) for place in range(runs)], 0
+        while waiting and delays < MOST_DELAYS:
             self.time, place = heappop(waiting)
+            delays += 1
             if (delay := next(lives[place], None)) is not None:
                 heappush(waiting, (self.time + delay, place))
-        self.counts["not clean"] += not left_clean(self.settings, self.words, [True])
+        self.counts["not ended"] += bool(waiting)
+        self.counts["not clean"] += not waiting and not left_clean(self.settings, self.words, [True])
         return self.counts

@@ -35,6 +35,8 @@ def by_value(outside):
         lambda: nolthewyr.Client(clock=outside), lambda: nolthewyr.OperationAnswer(value=outside),
         lambda: nolthewyr.operation(client, settings, outside), lambda: nolthewyr.applied(nolthewyr.OperationAnswer(), outside),
         lambda: nolthewyr.completed(client, settings, outside, 0), lambda: nolthewyr.completed(client, settings, 0, outside),
+        lambda: nolthewyr.operations_ahead(client, settings, outside), lambda: nolthewyr.operations_ahead(client, settings, 0, outside),
+        lambda: nolthewyr.completed_all(client, settings, outside, []), lambda: nolthewyr.completed_all(client, settings, 0, [0, outside]),
         lambda: nolthewyr.own_request(client, settings, outside, 20), lambda: nolthewyr.own_request(client, settings, 10, outside),
         lambda: nolthewyr.operation_text(outside),
     ]

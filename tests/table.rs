@@ -17,14 +17,17 @@
 //!                                                 last clock and the record
 //!     applied OPERATION FOUND                     the word; OPERATION is all of its fields, the number first
 //!     completed SETTINGS CLIENT CLOCK FOUND       the number, and the client, as it was if it is refused; the others likewise
+//!     operations_ahead SETTINGS CLIENT CLOCK ROOM the number, how many, and all fields of a list of ROOM operations, which was filled by ones
+//!     completed_all SETTINGS CLIENT CLOCK FOUND   the number, how many count, and the client, as it was if it is refused; FOUND is any count
+//!                                                 of words
 //!     own_request SETTINGS CLIENT LEFT RIGHT
 //!     own_release SETTINGS CLIENT
 //!     own_cancel SETTINGS CLIENT
 //!     phase NUMBER                                its text; outcome, cause and operation likewise
 
-use nolthewyr::{applied, calendar_quarter, calendar_window, completed, cover, operation, own_cancel, own_release, own_request};
-use nolthewyr::{step_count, word_count, Calendar, Cause, Client, CoverAnswer, Operation, OperationAnswer, Outcome, Phase, Quarter};
-use nolthewyr::{Record, Row, RunPageAnswer, Settings, Table};
+use nolthewyr::{applied, calendar_quarter, calendar_window, completed, completed_all, cover, operation, operations_ahead, own_cancel};
+use nolthewyr::{own_release, own_request, step_count, word_count, Calendar, Cause, Client, CoverAnswer, Operation, OperationAnswer, Outcome};
+use nolthewyr::{Phase, Quarter, Record, Row, RunPageAnswer, Settings, Table};
 use std::io::stdin;
 
 /// The numbers of a record, in its order.
@@ -113,12 +116,32 @@ fn asked(numbers: &[u64]) -> (Settings, Client, &[u64]) {
     (Settings { levels, distance, wait, patience }, Client { clock, record }, &numbers[20..])
 }
 
+/// The numbers of an operation, in its order.
+fn fields_of_operation(operation: OperationAnswer) -> String {
+    let OperationAnswer { number, kind, node, compared, expected, swapped, value } = operation;
+    format!("{number} {} {node} {compared} {expected} {swapped} {value}", kind.0)
+}
+
 fn posted(numbers: &[u64]) -> String {
     let (settings, client, beside) = asked(numbers);
     let refused = |cause: Cause| OperationAnswer { number: cause.0, ..OperationAnswer::default() };
-    let OperationAnswer { number, kind, node, compared, expected, swapped, value } =
-        operation(client, settings, beside[0]).unwrap_or_else(refused);
-    format!("{number} {} {node} {compared} {expected} {swapped} {value}", kind.0)
+    fields_of_operation(operation(client, settings, beside[0]).unwrap_or_else(refused))
+}
+
+fn posted_together(numbers: &[u64]) -> String {
+    let (settings, client, beside) = asked(numbers);
+    let ones = OperationAnswer { number: 1, kind: Operation(1), node: 1, compared: 1, expected: 1, swapped: 1, value: 1 };
+    let mut list = vec![ones; beside[1] as usize];
+    let (number, count) = operations_ahead(client, settings, beside[0], &mut list).map_or_else(|cause| (cause.0, 0), |count| (0, count));
+    list.into_iter().fold(format!("{number} {count}"), |told, each| format!("{told} {}", fields_of_operation(each)))
+}
+
+fn completed_together(numbers: &[u64]) -> String {
+    let (settings, client, beside) = asked(numbers);
+    let made = completed_all(client, settings, beside[0], &beside[1..]);
+    let (number, counted, Client { clock, record }) =
+        made.map_or_else(|cause| (cause.0, 0, client), |(counted, next)| (0, counted, next));
+    format!("{number} {counted} {clock} {}", fields(&record))
 }
 
 fn left_by(numbers: &[u64]) -> String {
@@ -160,6 +183,8 @@ fn main() {
             ("operation", &[number]) => Operation(number).to_string(),
             ("operation", numbers) => posted(numbers),
             ("applied", numbers) => left_by(numbers),
+            ("operations_ahead", numbers) => posted_together(numbers),
+            ("completed_all", numbers) => completed_together(numbers),
             ("completed" | "own_request" | "own_release" | "own_cancel", numbers) => by_value(name, numbers),
             ("phase", &[number]) => Phase(number).to_string(),
             ("outcome", &[number]) => Outcome(number).to_string(),
