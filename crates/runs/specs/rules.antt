@@ -1,4 +1,1 @@
 pub mod Ahead
-pub mod ByOperation
-pub mod Clocks
-pub mod Network

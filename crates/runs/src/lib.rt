@@ -1,5 +1,5 @@
-// Runs on other machines, whose words are on a memory server: the calls that such a run makes, by value, and that what many of them do together is a history. The calls are compiled apart from those over
-// the table, which are fast because the call by value has one caller there.
+// Runs on other machines, whose words are on a memory server: the calls that such a run makes, by value, one operation at a time or several together. They are compiled apart from the calls over the table, which
+// are fast because the call by value has one caller there.
 use lock::Client;
 
 mod by_value;

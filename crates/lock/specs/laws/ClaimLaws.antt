@@ -1,7 +1,7 @@
 -- Law: a step of a claim or a notice after which the piece is still claimed and not checked. It keeps t1, and it goes to the wait only from the root's claim, or from a last notice that is in time. Assumes nothing.
-use mathlib.Core.Path.{_≡_, refl, sym, ap, subst}
+use mathlib.Core.Path.{_≡_, refl, sym, subst}
 use mathlib.Core.Logic.{_⊎_, inl, inr, ⊎-elim}
-use mathlib.Core.Bool.{Bool, true, false, not}
+use mathlib.Core.Bool.{not}
 use Prim.Native.Nat.{ℕ, suc, _+_, _-_, _*_, _≤_, _<_}
 use native.Mathlib.Omega.{arith}
 use borrow.Author.Tests.{ltb-true, not-false}
@@ -14,7 +14,7 @@ use Rattle.word.specs.rules.Word.{takeBits}
 use Rattle.lock.specs.declared.Moved.{Moved}
 use Rattle.lock.specs.declared.Record.{Record}
 use Rattle.lock.specs.declared.Settings.{Settings}
-use Rattle.lock.specs.rules.Records.{Phase, claim, notify, phaseOf, currentPiece, isLeaf, isRoot, pieces, pieceAt, toPhase, withNotices}
+use Rattle.lock.specs.rules.Records.{Phase, claim, currentPiece, isLeaf, isRoot, pieces, pieceAt, toPhase, withNotices}
 use Rattle.lock.specs.rules.Steps.{wanted, startPhase, begin, firstNoted, taken, bitsClaimed, occClaimed, late, allNotified, noticeGiven, moved}
 use Rattle.lock.specs.laws.Phases.{at-claim, at-notify}
 use Rattle.lock.specs.laws.Rows.{claimPiece, movedIn, on-moved}

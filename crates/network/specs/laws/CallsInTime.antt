@@ -1,24 +1,22 @@
 -- Laws: the history of runs that read their clocks in time has each step's clock read on the safe side of its touch. Assumes nothing.
-use mathlib.Core.Path.{_≡_, refl, sym, ap, ap₂, subst, _∙_}
+use mathlib.Core.Path.{_≡_, refl, sym, ap, subst, _∙_}
 use mathlib.Core.Logic.{_≢_, _⊎_, inl, inr, ⊎-elim}
 use mathlib.Core.Bool.{Bool, true, false, _&&_, _||_}
 use mathlib.Core.List.{List, [], _∷_, _++_, map}
-use Prim.Native.Nat.{ℕ, zero, suc, _+_, _≤_, _<_, max}
+use Prim.Native.Nat.{ℕ, _+_, _≤_, _<_, max}
 use native.Mathlib.Omega.{arith}
-use borrow.Author.Tests.{leb-true, eqb-true, eq-eqb, ne-eqb}
-use lib.Dec.{T, eqb, leb}
-use lib.ListN.{length, getD}
+use borrow.Author.Tests.{leb-true, eqb-true}
+use lib.Dec.{eqb, leb}
 use Rattle.base.specs.rules.Choice.{choose}
-use Rattle.base.specs.laws.ChoiceLaws.{on-choose, by-eq, by-lt}
-use Rattle.base.specs.laws.Sum.{on-set}
+use Rattle.base.specs.laws.ChoiceLaws.{on-choose}
 use Rattle.base.specs.laws.TestLaws.{by-test, both-true, second-false}
 use Rattle.lock.specs.declared.Client.{Client}
 use Rattle.lock.specs.declared.Operation.{Operation}
 use Rattle.lock.specs.declared.Record.{Record}
 use Rattle.lock.specs.declared.Settings.{Settings}
-use Rattle.lock.specs.rules.Records.{wordAt, currentPiece, idleClient}
+use Rattle.lock.specs.rules.Records.{wordAt, currentPiece}
 use Rattle.lock.specs.rules.Steps.{outOfPatience}
-use Rattle.lock.specs.rules.Table.{State, Call, request, step, release, cancel, clientOf, clientAt, recordAt, openingNumber, call}
+use Rattle.lock.specs.rules.Table.{State, Call, request, step, release, cancel, clientOf, recordAt, call}
 use Rattle.lock.specs.rules.History.{run}
 use Rattle.lock.specs.rules.Readings.{LateAt}
 use Rattle.lock.specs.rules.Operations.{operationAnswer}
@@ -28,17 +26,15 @@ use Rattle.lock.specs.claim.Fit.{later-below, fit-ready}
 use Rattle.lock.specs.claim.Invariant.{Invariant}
 use Rattle.lock.specs.claim.Keeping.{run-keeps}
 use Rattle.lock.specs.claim.Parts.{partsOf, record-at}
-use Rattle.runs.specs.rules.Ahead.{aheadOf}
-use Rattle.runs.specs.rules.Clocks.{claims, completing, OwnRead, ClocksRead, momentAfter, InTime}
-use Rattle.runs.specs.rules.Network.{Flight, free, flying, Run, Network, runAt, clientOn, withRun, Act, own, post, carry, complete, ownCalls, touchesNone, sameList, asks, posts, between, carries, completes, act, askedBy, counts, carriedBy, callsOf, historyOf}
-use Rattle.runs.specs.laws.ActLaws.{Fair, Kept, act-kept, act-shown}
-use Rattle.runs.specs.laws.CarryLaws.{outcome, is-seen, counting-counts, dropped-counts}
-use Rattle.runs.specs.laws.CarriedOut.{Underway, Counting, Dropped}
-use Rattle.runs.specs.laws.CarriedOut.{seen as seenAfter}
-use Rattle.runs.specs.laws.Leading.{Alike}
-use Rattle.runs.specs.laws.ReadOnce.{Moments, ReadOne, EachRead, each-earlier}
-use Rattle.runs.specs.laws.Shown.{shown, set-past}
-use Rattle.runs.specs.laws.InTimeLaws.{readingOf, momentsBy, momentsOf, momentsIn, ReadFlight, AllRead, act-read}
+use Rattle.network.specs.rules.Clocks.{claims, completing, OwnRead, ClocksRead, momentAfter, InTime}
+use Rattle.network.specs.rules.Network.{Flight, free, flying, Network, runAt, clientOn, Act, own, post, carry, complete, ownCalls, touchesNone, between, act, askedBy, counts, carriedBy, callsOf, historyOf}
+use Rattle.network.specs.laws.ActLaws.{Fair, Kept, act-kept, act-shown}
+use Rattle.network.specs.laws.CarryLaws.{outcome, is-seen, counting-counts, dropped-counts}
+use Rattle.network.specs.laws.CarriedOut.{Underway, Counting}
+use Rattle.network.specs.laws.Leading.{Alike}
+use Rattle.network.specs.laws.ReadOnce.{Moments, ReadOne, EachRead, each-earlier}
+use Rattle.network.specs.laws.Shown.{shown}
+use Rattle.network.specs.laws.InTimeLaws.{readingOf, momentsBy, momentsOf, momentsIn, ReadFlight, AllRead, act-read}
 
 -- ---- whether a record claims
 
@@ -54,9 +50,6 @@ phase-claims r = ⊎-elim (λ e. ap (λ p. eqb p 5 || eqb p 6) e) (λ e. ap (λ 
 phase-early : (r : Record) → (r .phase ≡ 3) ⊎ (r .phase ≡ 7) → claims r ≡ false
 unfolding claims
 phase-early r = ⊎-elim (λ e. ap (λ p. eqb p 5 || eqb p 6) e) (λ e. ap (λ p. eqb p 5 || eqb p 6) e)
-
-true-false : {P : Type 0} (b : Bool) → b ≡ true → b ≡ false → P
-true-false b e f = absurd (subst T (sym e ∙ f) tt)
 
 -- ---- the calls of an act: none, or one that is read on the safe side
 

@@ -1,7 +1,7 @@
 -- Laws: a history in which each step's clock is what its run's clock showed at one moment, on the safe side of the touch, is read apart. Assumes nothing.
-use mathlib.Core.Path.{_≡_, refl, sym, ap, subst, _∙_}
-use mathlib.Core.Logic.{_⊎_, inl, inr, ⊎-elim}
-use mathlib.Core.List.{List, [], _∷_, _++_}
+use mathlib.Core.Path.{_≡_}
+use mathlib.Core.Logic.{_⊎_, ⊎-elim}
+use mathlib.Core.List.{List, [], _∷_}
 use Prim.Native.Nat.{ℕ, zero, suc, _≤_, _<_}
 use native.Mathlib.Omega.{arith}
 use lib.ListN.{getD}
@@ -9,9 +9,9 @@ use Rattle.base.specs.laws.ChoiceLaws.{by-lt}
 use Rattle.lock.specs.declared.Record.{Record}
 use Rattle.lock.specs.declared.Settings.{Settings}
 use Rattle.lock.specs.rules.Table.{State, Call, step, clientOf, recordAt, call}
-use Rattle.lock.specs.rules.History.{run, events, At, StepAt}
+use Rattle.lock.specs.rules.History.{events, At, StepAt}
 use Rattle.lock.specs.rules.Readings.{NotSlow, NotFast, LateAt, foundIn, ReadApart}
-use Rattle.runs.specs.rules.Clocks.{TrueClock}
+use Rattle.network.specs.rules.Clocks.{TrueClock}
 
 -- the moments of a call: of the touch, and of the reading of its clock
 pub record Moments : Type 0 where

@@ -11,7 +11,7 @@ use Rattle.lock.specs.declared.Settings.{Settings}
 use Rattle.lock.specs.rules.Steps.{outOfPatience}
 use Rattle.lock.specs.rules.Table.{Call, request, step, release, cancel}
 use Rattle.lock.specs.rules.Readings.{NotSlow, NotFast}
-use Rattle.runs.specs.rules.Network.{Network, clientOn, Act, own, post, carry, complete, act}
+use Rattle.network.specs.rules.Network.{Network, clientOn, Act, own, post, carry, complete, act}
 
 -- ---- "clocks read before the posting where early is safe and after the last completion where late is safe"
 

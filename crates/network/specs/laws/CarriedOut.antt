@@ -1,12 +1,12 @@
 -- Laws of a list in flight: an operation that is carried out counts, and is the client's next step, or it is dropped, and leaves its word as it was. Assumes nothing.
-use mathlib.Core.Path.{_≡_, refl, sym, ap, ap₂, subst, _∙_}
+use mathlib.Core.Path.{_≡_, refl, sym, ap, subst, _∙_}
 use mathlib.Core.Logic.{_≢_, _⊎_, inl, inr, ⊎-elim}
 use mathlib.Core.Bool.{Bool, true, false, _&&_}
 use mathlib.Core.List.{List, [], _∷_, _++_}
-use Prim.Native.Nat.{ℕ, suc, _+_, _≤_}
+use Prim.Native.Nat.{ℕ, suc, _+_}
 use native.Mathlib.Omega.{arith}
 use borrow.Author.Tests.{eqb-true, eq-eqb}
-use lib.Dec.{T, eqb}
+use lib.Dec.{T}
 use lib.ListN.{length, take, drop, take-append-drop, length-append}
 use Rattle.base.specs.rules.Choice.{choose}
 use Rattle.base.specs.laws.ChoiceLaws.{by-eq}
@@ -20,12 +20,14 @@ use Rattle.lock.specs.rules.Calls.{firstCause}
 use Rattle.lock.specs.rules.Steps.{completed, moved}
 use Rattle.lock.specs.rules.Operations.{postTests, operationAnswer, completedAnswer}
 use Rattle.lock.specs.laws.OperationLaws.{completed-taken}
 use Rattle.runs.specs.rules.Ahead.{aheadOf, same, Counted, nothingMore, oneMore, along}
-use Rattle.runs.specs.rules.Clocks.{claims}
-use Rattle.runs.specs.laws.Counted.{due, after, along-none, along-one, along-on, along-stopped}
-use Rattle.runs.specs.laws.Leading.{Leads, Reads, Alike, joined}
-use Rattle.runs.specs.laws.SameOperation.{same-itself, same-equal}
-use Rattle.runs.specs.laws.Underway.{posting, Posting, first-due, then, read-unclaimed}
+use Rattle.network.specs.rules.Clocks.{claims}
+use Rattle.runs.specs.laws.AlongLaws.{no-words}
+use Rattle.network.specs.laws.Counted.{due, after, along-one, along-on, along-stopped}
+use Rattle.network.specs.laws.Leading.{Alike}
+use Rattle.network.specs.laws.OperationLists.{Leads, Reads, joined}
+use Rattle.network.specs.laws.SameOperation.{same-itself, same-equal}
+use Rattle.network.specs.laws.Underway.{not-empty, first-due, then, read-unclaimed}
 
 reads-front : (os rest : List Operation) → Reads (os ++ rest) → Reads os
 unfolding Reads
@@ -48,14 +50,14 @@ module _ (s : Settings) (c : Client) (u : ℕ) where
   abbrev pub sofar : List ℕ → Counted
   sofar found = along s u c (aheadOf s c u) found
 
-  abbrev pub seen : List ℕ → Client
-  seen found = sofar found .next
+  abbrev pub seenAfter : List ℕ → Client
+  seenAfter found = sofar found .next
 
   -- every word found was as hoped: what is left is what the client would post, claims where the list has claims
   pub record Led (os : List Operation) (found : List ℕ) : Type 0 where
     pub all : sofar found .count ≡ length found
-    pub leads : Leads os (aheadOf s (seen found) u)
-    pub alike : (os ≡ []) ⊎ Alike s (c .«record») (seen found .«record»)
+    pub leads : Leads os (aheadOf s (seenAfter found) u)
+    pub alike : (os ≡ []) ⊎ Alike s (c .«record») (seenAfter found .«record»)
 
   pub record Underway (os : List Operation) (found : List ℕ) : Type 0 where
     pub done : List Operation
@@ -67,7 +69,7 @@ module _ (s : Settings) (c : Client) (u : ℕ) where
   -- as it was posted
   pub begun : (room : ℕ) (l : List Operation) → l ≡ aheadOf s c u → Underway (take room l) []
   begun room l e =
-      let none = along-none s u c (aheadOf s c u) in
+      let none = no-words s u c (aheadOf s c u) in
       let whole = take-append-drop room l ∙ e in
       record {
         done = [];
@@ -87,14 +89,14 @@ module _ (s : Settings) (c : Client) (u : ℕ) where
 
     pub record Counting : Type 0 where
       pub more : sofar longer .count ≡ suc (sofar found .count)
-      pub is : o ≡ operationAnswer s (seen found) u
-      pub accepted : completedAnswer s (seen found) u w .number ≡ 0
-      pub next : seen longer ≡ completedAnswer s (seen found) u w .next
-      pub alike : Alike s (c .«record») (seen found .«record»)
+      pub is : o ≡ operationAnswer s (seenAfter found) u
+      pub accepted : completedAnswer s (seenAfter found) u w .number ≡ 0
+      pub next : seenAfter longer ≡ completedAnswer s (seenAfter found) u w .next
+      pub alike : Alike s (c .«record») (seenAfter found .«record»)
 
     pub record Dropped : Type 0 where
       pub more : sofar longer .count ≡ sofar found .count
-      pub next : seen longer ≡ seen found
+      pub next : seenAfter longer ≡ seenAfter found
       pub reads : o .kind ≡ 1
 
     module _ (v : Underway (o ∷ os) found) where
@@ -105,28 +107,28 @@ module _ (s : Settings) (c : Client) (u : ℕ) where
       Sofar l f = along s u c l f
 
       -- the next word, where all before it counted
-      on : sofar found .count ≡ length found → let next = choose (due s u (seen found) o w) (oneMore (nothingMore (after s u (seen found) w))) (nothingMore (seen found)) in
-          (sofar longer .count ≡ length found + next .count) × (seen longer ≡ next .next)
+      on : sofar found .count ≡ length found → let next = choose (due s u (seenAfter found) o w) (oneMore (nothingMore (after s u (seenAfter found) w))) (nothingMore (seenAfter found)) in
+          (sofar longer .count ≡ length found + next .count) × (seenAfter longer ≡ next .next)
       on all =
           let l = v .done ++ (o ∷ rest) in
           let e = subst (λ (k : List Operation). Sofar k found .count ≡ length found → let next = along s u (Sofar k found .next) (o ∷ rest) (w ∷ []) in (Sofar k longer .count ≡ length found + next .count) × (Sofar k longer .next ≡ next .next)) (v .whole)
           (along-on s u c (v .done) found (o ∷ rest) (w ∷ []) (v .even)) all in
-          let one = along-one s u (seen found) o rest w in
+          let one = along-one s u (seenAfter found) o rest w in
           (e .0 ∙ ap (λ (x : Counted). length found + x .count) one, e .1 ∙ ap (λ (x : Counted). x .next) one)
 
       stopped : sofar found .count ≢ length found → sofar longer ≡ sofar found
       stopped = subst (λ (k : List Operation). Sofar k found .count ≢ length found → Sofar k longer ≡ Sofar k found) (v .whole) (along-stopped s u c (v .done) found (o ∷ rest) (w ∷ []) (v .even))
 
       -- one that is due counts
-      counting : sofar found .count ≡ length found → due s u (seen found) o w ≡ true → Alike s (c .«record») (seen found .«record») → Counting
+      counting : sofar found .count ≡ length found → due s u (seenAfter found) o w ≡ true → Alike s (c .«record») (seenAfter found .«record») → Counting
       unfolding choose
       counting all is alike =
           let e = on all in
-          let f : choose (due s u (seen found) o w) (oneMore (nothingMore (after s u (seen found) w))) (nothingMore (seen found)) ≡ oneMore (nothingMore (after s u (seen found) w)) = ap (λ (b : Bool). choose b (oneMore (nothingMore (after s u (seen found) w))) (nothingMore (seen found))) is in
+          let f : choose (due s u (seenAfter found) o w) (oneMore (nothingMore (after s u (seenAfter found) w))) (nothingMore (seenAfter found)) ≡ oneMore (nothingMore (after s u (seenAfter found) w)) = ap (λ (b : Bool). choose b (oneMore (nothingMore (after s u (seenAfter found) w))) (nothingMore (seenAfter found))) is in
           let b = both-true _ _ is in
           record {
             more = omega (arith, all, e .0, ap (λ (x : Counted). x .count) f);
-            is = sym (same-equal (operationAnswer s (seen found) u) o (b .0));
+            is = sym (same-equal (operationAnswer s (seenAfter found) u) o (b .0));
             accepted = eqb-true _ 0 (b .1);
             next = e .1 ∙ ap (λ (x : Counted). x .next) f;
             alike = alike;
@@ -142,14 +144,14 @@ module _ (s : Settings) (c : Client) (u : ℕ) where
         goes = g;
       }
 
-      module _ (accepted : firstCause (postTests s (seen found) u) ≡ 0 → o ≡ operationAnswer s (seen found) u → completed s (seen found .«record») w u .number ≡ 0)
-          (readable : Counting → firstCause (postTests s (completedAnswer s (seen found) u w .next) u) ≡ 0) where
+      module _ (accepted : firstCause (postTests s (seenAfter found) u) ≡ 0 → o ≡ operationAnswer s (seenAfter found) u → completed s (seenAfter found .«record») w u .number ≡ 0)
+          (readable : Counting → firstCause (postTests s (completedAnswer s (seenAfter found) u w .next) u) ≡ 0) where
         -- as hoped so far: it is due
         led : Led (o ∷ os) found → Counting × Underway os longer
         led g =
-            let x = seen found in
+            let x = seenAfter found in
             let behind = g .leads .rest in
-            let p = posting s x u o (os ++ behind) (sym (g .leads .whole)) in
+            let p = not-empty s x u o (os ++ behind) (sym (g .leads .whole)) in
             let is = first-due s x u o (os ++ behind) p in
             let fine = accepted (p .passed) is in
             let number : completedAnswer s x u w .number ≡ 0 = sym (ap (λ (a : Stepped). a .number) (completed-taken s x u _ refl w (p .passed) (moved s (x .«record») w u) refl fine)) in
@@ -160,7 +162,7 @@ module _ (s : Settings) (c : Client) (u : ℕ) where
               k,
               under (⊎-elim
                   (λ e. let none = none-front os behind e in
-                  inl (record { all = all; leads = subst (λ (l : List Operation). Leads l (aheadOf s (seen longer) u)) (sym none) (record { rest = aheadOf s (seen longer) u; whole = refl }); alike = inl none }))
+                  inl (record { all = all; leads = subst (λ (l : List Operation). Leads l (aheadOf s (seenAfter longer) u)) (sym none) (record { rest = aheadOf s (seenAfter longer) u; whole = refl }); alike = inl none }))
                   (λ y. ⊎-elim
                   (λ e. inr (reads-front os behind (e .0), sym (alike .claiming) ∙ e .1))
                   (λ e. inl (record {
@@ -177,11 +179,11 @@ module _ (s : Settings) (c : Client) (u : ℕ) where
         read-ahead g early =
             let later = under (inr (g .1, early)) in
             by-eq (sofar found .count) (length found)
-            (λ all. by-test (due s u (seen found) o w)
-            (λ is. let k = same-equal (operationAnswer s (seen found) u) o (both-true _ _ is .0) in
-            (inl (counting all is (record { claiming = read-unclaimed s (seen found) u (ap (λ (y : Operation). y .kind) k ∙ g .0) ∙ sym early; kept = λ z. absurd (subst T (sym z ∙ early) tt) })), later))
+            (λ all. by-test (due s u (seenAfter found) o w)
+            (λ is. let k = same-equal (operationAnswer s (seenAfter found) u) o (both-true _ _ is .0) in
+            (inl (counting all is (record { claiming = read-unclaimed s (seenAfter found) u (ap (λ (y : Operation). y .kind) k ∙ g .0) ∙ sym early; kept = λ z. absurd (subst T (sym z ∙ early) tt) })), later))
             (λ is. let e = on all in
-            let f : choose (due s u (seen found) o w) (oneMore (nothingMore (after s u (seen found) w))) (nothingMore (seen found)) ≡ nothingMore (seen found) = ap (λ (b : Bool). choose b (oneMore (nothingMore (after s u (seen found) w))) (nothingMore (seen found))) is in
+            let f : choose (due s u (seenAfter found) o w) (oneMore (nothingMore (after s u (seenAfter found) w))) (nothingMore (seenAfter found)) ≡ nothingMore (seenAfter found) = ap (λ (b : Bool). choose b (oneMore (nothingMore (after s u (seenAfter found) w))) (nothingMore (seenAfter found))) is in
             (inr (record { more = omega (arith, all, e .0, ap (λ (x : Counted). x .count) f); next = e .1 ∙ ap (λ (x : Counted). x .next) f; reads = g .0 }), later)))
             (λ some. (inr (record { more = ap (λ (x : Counted). x .count) (stopped some); next = ap (λ (x : Counted). x .next) (stopped some); reads = g .0 }), later))
 

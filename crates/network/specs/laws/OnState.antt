@@ -1,50 +1,29 @@
 -- Laws of the calls on the state that a network shows: those that touch no word, and an operation that is carried out and completed at once. Assumes nothing.
-use mathlib.Core.Path.{_≡_, refl, sym, ap, ap₂, subst, _∙_}
-use mathlib.Core.Bool.{Bool, true, false, _&&_}
-use mathlib.Core.Logic.{_⊎_, ⊎-elim}
+use mathlib.Core.Path.{_≡_, refl, sym, ap, ap₂, _∙_}
+use mathlib.Core.Bool.{false}
 use mathlib.Core.List.{List, [], _∷_, _++_}
-use Prim.Native.Nat.{ℕ, zero, suc, _≤_, _<_}
+use Prim.Native.Nat.{ℕ, _<_}
 use native.Mathlib.Omega.{arith}
-use borrow.Author.Tests.{eqb-true, lt-ltb, le-ltb}
-use lib.Dec.{T, eqb}
-use lib.ListN.{length, getD, set, take, length-set}
-use lib.Seq.{getD-set-same}
-use Rattle.base.specs.rules.Choice.{choose}
-use Rattle.base.specs.laws.ChoiceLaws.{on-choose, choose-eq, by-lt, neqb→ne}
+use lib.ListN.{length, set}
+use Rattle.base.specs.laws.ChoiceLaws.{choose-eq, by-lt}
 use Rattle.base.specs.laws.Mapped.{map-count}
-use Rattle.base.specs.laws.TestLaws.{both-true}
 use Rattle.tree.specs.rules.Tree.{wordCount}
 use Rattle.lock.specs.declared.Client.{Client}
-use Rattle.lock.specs.declared.Operation.{Operation}
 use Rattle.lock.specs.declared.Settings.{Settings}
-use Rattle.lock.specs.declared.Stepped.{Stepped}
 use Rattle.lock.specs.rules.Records.{wordAt, written, clientWith, idleClient}
-use Rattle.lock.specs.rules.Steps.{applied, touched, access, completed, moved}
-use Rattle.lock.specs.rules.Unreadable.{unreadable}
+use Rattle.lock.specs.rules.Steps.{applied, completed}
 use Rattle.lock.specs.rules.Calls.{Tests, firstCause, settingsOutside, treeTests, clientsOutside, answered, requested, released, cancelled, requestTests, releaseTests, cancelTests, requestNumber, requestAnswer, releaseAnswer, cancelAnswer}
-use Rattle.lock.specs.rules.Operations.{accessOf, postTests, operationAnswer, completedTests, completedAnswer, ownRequestAnswer, ownReleaseAnswer, ownCancelAnswer}
-use Rattle.lock.specs.rules.Table.{State, Call, request, step, release, cancel, clientOf, clientAt, Out, openingNumber, call}
+use Rattle.lock.specs.rules.Operations.{accessOf, operationAnswer, completedAnswer, ownRequestAnswer, ownReleaseAnswer, ownCancelAnswer}
+use Rattle.lock.specs.rules.Table.{State, Call, step, clientOf, clientAt, Out, openingNumber, call}
 use Rattle.lock.specs.rules.ByValue.{answerTo, wordsAfter}
-use Rattle.lock.specs.rules.History.{run}
-use Rattle.lock.specs.claim.ClearBit.{step-accepted}
-use Rattle.lock.specs.claim.Keeping.{call-keeps}
-use Rattle.lock.specs.claim.Parts.{partsOf}
-use Rattle.lock.specs.claim.Readable.{invariant-readable}
-use Rattle.lock.specs.claim.Invariant.{Invariant}
-use Rattle.lock.specs.laws.OperationLaws.{kind-leaves, operation-found, cause-0}
 use Rattle.lock.specs.laws.CallLaws.{cause-skip, tree-passed, cause-tested}
 use Rattle.table.specs.laws.Causes.{tableCause}
 use Rattle.table.specs.laws.CauseLaws.{both-none, table-client, table-passed}
 use Rattle.table.specs.laws.CallLaws.{set-same, table-refuses, table-takes}
-use Rattle.runs.specs.rules.Ahead.{aheadOf, Counted, completedAllAnswer}
-use Rattle.runs.specs.rules.ByOperation.{byOperation}
-use Rattle.runs.specs.rules.Network.{Flight, free, flying, Run, Network, runAt, clientOn, withRun, Act, own, post, carry, complete, touchesNone, ownNext, ownCalls, sameList, asks, posts, between, carries, completes, act, askedBy, counts, carriedBy, callsOf}
-use Rattle.runs.specs.laws.CarriedOut.{Underway, begun, sofar, Counting, Dropped, carried-out}
-use Rattle.runs.specs.laws.CarriedOut.{seen as seenAfter}
-use Rattle.runs.specs.laws.Counted.{along-none}
-use Rattle.runs.specs.laws.SameOperation.{lists-equal}
-use Rattle.runs.specs.laws.Shown.{seenBy, seen, shown, set-past, shown-free, shown-flying, shown-with, written-count}
-use Rattle.runs.specs.laws.StepByOperation.{step-by-operation, node-at, written-same}
+use Rattle.network.specs.rules.ByOperation.{byOperation}
+use Rattle.network.specs.rules.Network.{Network, counts}
+use Rattle.network.specs.laws.Shown.{seen, shown, set-past}
+use Rattle.network.specs.laws.StepByOperation.{step-by-operation}
 
 -- ---- the calls that touch no word, by value and on lent words
 

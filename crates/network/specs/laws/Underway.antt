@@ -2,23 +2,22 @@
 -- out is the client's next step, or it leaves its word as it was. Assumes nothing.
 use mathlib.Core.Path.{_≡_, refl, sym, ap, ap₂, subst, _∙_}
 use mathlib.Core.Logic.{_≢_, _⊎_, inl, inr, ⊎-elim}
-use mathlib.Core.Bool.{Bool, true, false, _&&_, _||_}
-use mathlib.Core.List.{List, [], _∷_, _++_}
-use Prim.Native.Nat.{ℕ, suc, _+_, _≤_}
+use mathlib.Core.Bool.{Bool, false, _||_}
+use mathlib.Core.List.{List, [], _∷_}
+use Prim.Native.Nat.{ℕ}
 use native.Mathlib.Omega.{arith}
 use borrow.Author.Tests.{eqb-true, eq-eqb, ne-eqb}
-use lib.Dec.{T, eqb, eqb→eq}
-use lib.ListN.{length, take, drop, take-append-drop}
+use lib.Dec.{eqb}
 use Rattle.base.specs.rules.Choice.{choose}
 use Rattle.base.specs.laws.ChoiceLaws.{on-choose, by-eq}
-use Rattle.base.specs.laws.TestLaws.{by-test, both-true}
+use Rattle.base.specs.laws.TestLaws.{by-test}
 use Rattle.lock.specs.declared.Client.{Client}
 use Rattle.lock.specs.declared.Operation.{Operation}
 use Rattle.lock.specs.declared.Record.{Record}
 use Rattle.lock.specs.declared.Settings.{Settings}
 use Rattle.lock.specs.declared.Stepped.{Stepped}
 use Rattle.lock.specs.rules.Records.{Phase, claim, notify, phaseOf, currentPiece, isLeaf, clientWith}
-use Rattle.lock.specs.rules.Steps.{Access, none, touched, access, accessIn, claimAccess, ownTouched, outOfPatience, Completion, goesTo, givenUp, completed, completedIn, moved}
+use Rattle.lock.specs.rules.Steps.{Access, none, touched, access, accessIn, claimAccess, outOfPatience, Completion, goesTo, givenUp, completed, completedIn, moved}
 use Rattle.lock.specs.rules.Calls.{firstCause}
 use Rattle.lock.specs.rules.Operations.{operationAt, postTests, operationAnswer, completedAnswer}
 use Rattle.lock.specs.laws.OperationLaws.{post-tested, operation-found, operation-refused, completed-taken, patient-access, impatient-access}
@@ -26,10 +25,11 @@ use Rattle.lock.specs.laws.PatienceLaws.{own-touched}
 use Rattle.lock.specs.laws.Phases.{at-idle, at-claim, at-notify}
 use Rattle.lock.specs.laws.Ready.{Ready, ready}
 use Rattle.lock.specs.laws.SettledLaws.{settled}
-use Rattle.runs.specs.rules.Ahead.{aheadIn, aheadOf, same, Counted, nothingMore, oneMore, along}
-use Rattle.runs.specs.rules.Clocks.{claims}
-use Rattle.runs.specs.laws.Counted.{due, after, along-none, along-one, along-on, along-stopped}
-use Rattle.runs.specs.laws.Leading.{Leads, Reads, Alike, Onward, Behind, none-some, first-same, rest-same, joined, own-first, behind}
+use Rattle.runs.specs.rules.Ahead.{aheadIn, aheadOf}
+use Rattle.network.specs.rules.Clocks.{claims}
+use Rattle.network.specs.laws.Behind.{behind}
+use Rattle.network.specs.laws.Leading.{Alike, own-first}
+use Rattle.network.specs.laws.OperationLists.{Leads, Reads, none-some}
 
 -- ---- a list that is not empty
 
@@ -41,14 +41,14 @@ module _ (s : Settings) (c : Client) (u : ℕ) where
   own = aheadIn s r (phaseOf (r .phase))
 
   -- what it shows
-  pub record Posting (o : Operation) (l : List Operation) : Type 0 where
+  pub record NotEmpty (o : Operation) (l : List Operation) : Type 0 where
     pub passed : firstCause (postTests s c u) ≡ 0
     pub patient : outOfPatience s r u ≡ false
     pub listed : own ≡ o ∷ l
 
-  pub posting : (o : Operation) (l : List Operation) → aheadOf s c u ≡ o ∷ l → Posting o l
+  pub not-empty : (o : Operation) (l : List Operation) → aheadOf s c u ≡ o ∷ l → NotEmpty o l
   unfolding aheadOf choose
-  posting o l e =
+  not-empty o l e =
       by-test (eqb (firstCause (postTests s c u)) 0)
       (λ a. by-test (outOfPatience s r u)
       (λ b. absurd (none-some o l ((λ i. choose (sym a i) (choose (sym b i) [] own) []) ∙ e)))
@@ -59,7 +59,7 @@ module _ (s : Settings) (c : Client) (u : ℕ) where
   unfolding aheadOf choose
   ahead-is a b = λ i. choose (eq-eqb _ 0 a i) (choose (b i) [] own) []
 
-  module _ (o : Operation) (l : List Operation) (v : Posting o l) where
+  module _ (o : Operation) (l : List Operation) (v : NotEmpty o l) where
     awake : r .phase ≢ 0
     unfolding aheadIn
     awake e = none-some o l (ap (aheadIn s r) (sym (at-idle (r .phase) e)) ∙ v .listed)
@@ -76,7 +76,7 @@ module _ (s : Settings) (c : Client) (u : ℕ) where
         ∙ ap₂ operationAt (sym (own-touched s r u (v .patient))) (sym (patient-access s r u (v .patient)))
         ∙ operation-found s c u _ refl (v .passed)
 
-module _ (s : Settings) (c : Client) (u : ℕ) (o : Operation) (l : List Operation) (v : Posting s c u o l) where
+module _ (s : Settings) (c : Client) (u : ℕ) (o : Operation) (l : List Operation) (v : NotEmpty s c u o l) where
   abbrev of : Record
   of = c .«record»
 

@@ -3,17 +3,16 @@ use mathlib.Core.Path.{_≡_, refl, sym, ap, ap₂, subst, _∙_}
 use mathlib.Core.Bool.{Bool, true, false, _&&_}
 use mathlib.Core.Logic.{_⊎_, ⊎-elim}
 use mathlib.Core.List.{List, [], _∷_, _++_}
-use Prim.Native.Nat.{ℕ, zero, suc, _≤_, _<_}
+use Prim.Native.Nat.{ℕ, _≤_, _<_}
 use native.Mathlib.Omega.{arith}
-use borrow.Author.Tests.{eqb-true, lt-ltb, le-ltb}
+use borrow.Author.Tests.{lt-ltb, le-ltb}
 use lib.Dec.{T, eqb}
-use lib.ListN.{length, getD, set, take, length-set}
+use lib.ListN.{length, set}
 use lib.Seq.{getD-set-same}
 use Rattle.base.specs.rules.Choice.{choose}
-use Rattle.base.specs.laws.ChoiceLaws.{on-choose, choose-eq, by-lt, neqb→ne}
+use Rattle.base.specs.laws.ChoiceLaws.{on-choose, by-lt, neqb→ne}
 use Rattle.base.specs.laws.Mapped.{map-count}
-use Rattle.base.specs.laws.TestLaws.{both-true}
-use Rattle.tree.specs.rules.Tree.{wordCount}
+use Rattle.base.specs.laws.Sum.{getD-past}
 use Rattle.lock.specs.declared.Client.{Client}
 use Rattle.lock.specs.declared.Operation.{Operation}
 use Rattle.lock.specs.declared.Settings.{Settings}
@@ -21,10 +20,9 @@ use Rattle.lock.specs.declared.Stepped.{Stepped}
 use Rattle.lock.specs.rules.Records.{wordAt, written, clientWith, idleClient}
 use Rattle.lock.specs.rules.Steps.{applied, touched, access, completed, moved}
 use Rattle.lock.specs.rules.Unreadable.{unreadable}
-use Rattle.lock.specs.rules.Calls.{Tests, firstCause, settingsOutside, treeTests, clientsOutside, answered, requested, released, cancelled, requestTests, releaseTests, cancelTests, requestNumber, requestAnswer, releaseAnswer, cancelAnswer}
-use Rattle.lock.specs.rules.Operations.{accessOf, postTests, operationAnswer, completedTests, completedAnswer, ownRequestAnswer, ownReleaseAnswer, ownCancelAnswer}
-use Rattle.lock.specs.rules.Table.{State, Call, request, step, release, cancel, clientOf, clientAt, Out, openingNumber, call}
-use Rattle.lock.specs.rules.ByValue.{answerTo, wordsAfter}
+use Rattle.lock.specs.rules.Calls.{firstCause, answered}
+use Rattle.lock.specs.rules.Operations.{accessOf, postTests, operationAnswer, completedTests, completedAnswer}
+use Rattle.lock.specs.rules.Table.{State, step, clientAt, openingNumber, call}
 use Rattle.lock.specs.rules.History.{run}
 use Rattle.lock.specs.claim.ClearBit.{step-accepted}
 use Rattle.lock.specs.claim.Keeping.{call-keeps}
@@ -32,20 +30,12 @@ use Rattle.lock.specs.claim.Parts.{partsOf}
 use Rattle.lock.specs.claim.Readable.{invariant-readable}
 use Rattle.lock.specs.claim.Invariant.{Invariant}
 use Rattle.lock.specs.laws.OperationLaws.{kind-leaves, operation-found, cause-0}
-use Rattle.lock.specs.laws.CallLaws.{cause-skip, tree-passed, cause-tested}
-use Rattle.table.specs.laws.Causes.{tableCause}
-use Rattle.table.specs.laws.CauseLaws.{both-none, table-client, table-passed}
-use Rattle.table.specs.laws.CallLaws.{set-same, table-refuses, table-takes}
-use Rattle.runs.specs.rules.Ahead.{aheadOf, Counted, completedAllAnswer}
-use Rattle.runs.specs.rules.ByOperation.{byOperation}
-use Rattle.runs.specs.rules.Network.{Flight, free, flying, Run, Network, runAt, clientOn, withRun, Act, own, post, carry, complete, touchesNone, ownNext, ownCalls, sameList, asks, posts, between, carries, completes, act, askedBy, counts, carriedBy, callsOf}
-use Rattle.runs.specs.laws.CarriedOut.{Underway, begun, sofar, Counting, Dropped, carried-out}
-use Rattle.runs.specs.laws.CarriedOut.{seen as seenAfter}
-use Rattle.runs.specs.laws.Counted.{along-none}
-use Rattle.runs.specs.laws.SameOperation.{lists-equal}
-use Rattle.runs.specs.laws.Shown.{seenBy, seen, shown, set-past, shown-free, shown-flying, shown-with, written-count}
-use Rattle.runs.specs.laws.StepByOperation.{step-by-operation, node-at, written-same}
-use Rattle.runs.specs.laws.OnState.{unchanged, carried, passed, inside}
+use Rattle.runs.specs.rules.Ahead.{completedAllAnswer}
+use Rattle.network.specs.rules.Network.{Flight, free, flying, Run, Network, runAt, clientOn, withRun, counts}
+use Rattle.network.specs.laws.CarriedOut.{seenAfter, Underway, sofar, Counting, Dropped, carried-out}
+use Rattle.network.specs.laws.Shown.{seenBy, seen, shown, shown-flying, shown-with}
+use Rattle.network.specs.laws.StepByOperation.{node-at, written-same}
+use Rattle.network.specs.laws.OnState.{unchanged, carried, passed, inside}
 
 -- ---- what is in flight
 
@@ -56,11 +46,6 @@ isFree (flying u m n os found) = false
 not-flying : (u m n : ℕ) (os : List Operation) (found : List ℕ) → free ≡ flying u m n os found → ⊥
 unfolding isFree
 not-flying u m n os found e = subst T (ap isFree e) tt
-
-getD-past : {A : Type 0} (l : List A) (i : ℕ) (d : A) → length l ≤ i → getD l i d ≡ d
-getD-past [] i d h = refl
-getD-past (x ∷ l) zero d h = absurd (omega arith)
-getD-past (x ∷ l) (suc i) d h = getD-past l i d (omega arith)
 
 answered-clock : (number : ℕ) (c next : Client) → answered number c next .number ≡ 0 → answered number c next .next ≡ next
 unfolding answered

@@ -16,13 +16,13 @@ use Rattle.lock.specs.claim.Keeping.{run-keeps}
 use Rattle.lock.specs.claim.Parts.{partsOf}
 use Rattle.lock.specs.claim.Start.{opening-invariant}
 use Rattle.lock.specs.claim.Demand3.{records-apart, read-apart-holding, records-clean}
-use Rattle.runs.specs.rules.Clocks.{TrueClock, InTime}
-use Rattle.runs.specs.rules.Network.{Network, clientOn, started, Act, act, acts, callsOf, historyOf, HoldsOwn, IdleOwn}
-use Rattle.runs.specs.laws.CallsInTime.{acts-read}
-use Rattle.runs.specs.laws.InTimeLaws.{momentsIn, started-read}
-use Rattle.runs.specs.laws.ReadOnce.{Moments, momentsAt, EachRead, read-apart}
-use Rattle.runs.specs.laws.Shown.{shown, shown-free, shown-started, shown-held, started-counts}
-use Rattle.runs.specs.laws.ActLaws.{Kept, act-kept, act-shown, started-fair}
+use Rattle.network.specs.rules.Clocks.{TrueClock, InTime}
+use Rattle.network.specs.rules.Network.{Network, clientOn, started, Act, act, acts, callsOf, historyOf, HoldsOwn, IdleOwn}
+use Rattle.network.specs.laws.CallsInTime.{acts-read}
+use Rattle.network.specs.laws.InTimeLaws.{momentsIn, started-read}
+use Rattle.network.specs.laws.ReadOnce.{Moments, momentsAt, EachRead, read-apart}
+use Rattle.network.specs.laws.Shown.{shown, shown-free, shown-started, shown-held, started-counts}
+use Rattle.network.specs.laws.ActLaws.{Kept, act-kept, act-shown, started-fair}
 
 run-on : (s : Settings) (st : State) (ks js : List Call) → run s st (ks ++ js) ≡ run s (run s st ks) js
 unfolding run

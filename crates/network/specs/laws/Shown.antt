@@ -4,7 +4,7 @@ use lib.Dec.{eqb}
 use mathlib.Core.List.{List, [], _∷_, map}
 use Prim.Native.Nat.{ℕ, zero, suc, _≤_}
 use native.Mathlib.Omega.{arith}
-use lib.ListN.{length, getD, set, length-set, length-replicate}
+use lib.ListN.{length, set, length-set, length-replicate}
 use Rattle.base.specs.rules.Choice.{choose}
 use Rattle.base.specs.laws.ChoiceLaws.{choose-eq, on-choose}
 use Rattle.base.specs.laws.Mapped.{map-set, map-at, map-count}
@@ -12,14 +12,14 @@ use Rattle.lock.specs.declared.Client.{Client}
 use Rattle.lock.specs.declared.Operation.{Operation}
 use Rattle.lock.specs.declared.Record.{Record}
 use Rattle.lock.specs.declared.Settings.{Settings}
-use Rattle.lock.specs.rules.Records.{Phase, phaseOf, written, idleClient}
+use Rattle.lock.specs.rules.Records.{Phase, written, idleClient}
 use Rattle.lock.specs.rules.Steps.{outOfPatience}
 use Rattle.lock.specs.rules.Calls.{firstCause}
 use Rattle.lock.specs.rules.Operations.{postTests}
 use Rattle.lock.specs.rules.Table.{State, clientAt, openingNumber, opened, opening}
 use Rattle.lock.specs.laws.Phases.{at-held}
 use Rattle.runs.specs.rules.Ahead.{aheadIn, aheadOf, along, completedAllAnswer}
-use Rattle.runs.specs.rules.Network.{Flight, free, flying, Run, Network, runAt, clientOn, withRun, started}
+use Rattle.network.specs.rules.Network.{Flight, free, flying, Run, Network, runAt, clientOn, withRun, started}
 
 unfoldable pub seenBy : Settings → Client → Flight → Client
 seenBy s c free = c

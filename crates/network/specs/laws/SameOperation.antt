@@ -7,8 +7,8 @@ use borrow.Author.Tests.{eqb-true, eq-eqb}
 use lib.Dec.{T, eqb}
 use Rattle.base.specs.laws.TestLaws.{both-true}
 use Rattle.lock.specs.declared.Operation.{Operation}
 use Rattle.runs.specs.rules.Ahead.{same}
-use Rattle.runs.specs.rules.Network.{sameList}
+use Rattle.network.specs.rules.Network.{sameList}
 
 -- an operation is the same as itself
 pub same-itself : (o : Operation) → same o o ≡ true

@@ -28,7 +28,7 @@ use Rattle.lock.specs.laws.Rows.{claimPiece, returnBits, returnInner, giveBack,
 use Rattle.table.specs.laws.Causes.{tableCause}
 use Rattle.table.specs.laws.CauseLaws.{both-none}
 use Rattle.table.specs.laws.CallLaws.{set-same, table-refuses, table-takes}
-use Rattle.runs.specs.rules.ByOperation.{byOperation}
+use Rattle.network.specs.rules.ByOperation.{byOperation}
 
 -- ---- a returning leaf that finds a wanted bit clear leaves its word
 

@@ -18,9 +18,9 @@ use Rattle.lock.specs.rules.Calls.{firstCause, settingsOutside, treeTests, clie
 use Rattle.lock.specs.rules.Table.{request, step, release, clientOf, clientAt, ownTests, numberOf, after, call, openingNumber, opened, opening}
 use Rattle.lock.specs.rules.Operations.{operationAt, accessOf, postTests, operationAnswer, completedTests, completedAnswer, ownRequestAnswer, ownReleaseAnswer}
 use Rattle.lock.specs.examples.WholeCase.{settings, lent, calls}
 use Rattle.runs.specs.rules.Ahead.{standing, walk, givesBack, aheadIn, aheadOf, same, along, firstNumber, completedAllAnswer}
-use Rattle.runs.specs.rules.Clocks.{claims, completing, TrueClock, OwnRead, ClocksRead, momentAfter, InTime}
-use Rattle.runs.specs.rules.Network.{Network, runAt, clientOn, started, Act, own, post, carry, complete, touchesNone, ownNext, ownCalls, sameList, asks, posts, between, carries, completes, act, acts, askedBy, counts, carriedBy, callsOf, historyOf, HoldsOwn}
+use Rattle.network.specs.rules.Clocks.{claims, completing, TrueClock, OwnRead, ClocksRead, momentAfter, InTime}
+use Rattle.network.specs.rules.Network.{Network, runAt, clientOn, started, Act, own, post, carry, complete, touchesNone, ownNext, ownCalls, sameList, asks, posts, between, carries, completes, act, acts, askedBy, counts, carriedBy, callsOf, historyOf, HoldsOwn}
 
 -- both clocks show the true moment; each list has room for nine operations
 abbrev happened : List Act

@@ -1,52 +1,37 @@
 -- Each act of the network is its calls on the state that is shown: an own call is that call, an operation that is carried out and counts is a step, and the others change nothing that is shown. Assumes nothing.
 use mathlib.Core.Path.{_≡_, refl, sym, ap, ap₂, subst, _∙_}
-use mathlib.Core.Bool.{Bool, true, false, _&&_}
-use mathlib.Core.Logic.{_⊎_, ⊎-elim}
+use mathlib.Core.Bool.{Bool, true, false}
 use mathlib.Core.List.{List, [], _∷_, _++_}
-use Prim.Native.Nat.{ℕ, zero, suc, _≤_, _<_}
+use Prim.Native.Nat.{ℕ, zero, suc}
 use native.Mathlib.Omega.{arith}
-use borrow.Author.Tests.{eqb-true, lt-ltb, le-ltb}
-use lib.Dec.{T, eqb}
+use borrow.Author.Tests.{eqb-true}
+use lib.Dec.{eqb}
 use lib.ListN.{length, getD, set, take, length-set}
-use lib.Seq.{getD-set-same}
 use Rattle.base.specs.rules.Choice.{choose}
-use Rattle.base.specs.laws.ChoiceLaws.{on-choose, choose-eq, by-lt, neqb→ne}
-use Rattle.base.specs.laws.Mapped.{map-count}
+use Rattle.base.specs.laws.ChoiceLaws.{on-choose, by-lt}
 use Rattle.base.specs.laws.TestLaws.{both-true}
-use Rattle.tree.specs.rules.Tree.{wordCount}
 use Rattle.lock.specs.declared.Client.{Client}
-use Rattle.lock.specs.declared.Operation.{Operation}
 use Rattle.lock.specs.declared.Settings.{Settings}
 use Rattle.lock.specs.declared.Stepped.{Stepped}
-use Rattle.lock.specs.rules.Records.{wordAt, written, clientWith, idleClient}
-use Rattle.lock.specs.rules.Steps.{applied, touched, access, completed, moved}
-use Rattle.lock.specs.rules.Unreadable.{unreadable}
-use Rattle.lock.specs.rules.Calls.{Tests, firstCause, settingsOutside, treeTests, clientsOutside, answered, requested, released, cancelled, requestTests, releaseTests, cancelTests, requestNumber, requestAnswer, releaseAnswer, cancelAnswer}
-use Rattle.lock.specs.rules.Operations.{accessOf, postTests, operationAnswer, completedTests, completedAnswer, ownRequestAnswer, ownReleaseAnswer, ownCancelAnswer}
+use Rattle.lock.specs.rules.Records.{wordAt, written, idleClient}
+use Rattle.lock.specs.rules.Steps.{applied}
+use Rattle.lock.specs.rules.Calls.{requestAnswer, releaseAnswer, cancelAnswer}
+use Rattle.lock.specs.rules.Operations.{accessOf, operationAnswer, completedAnswer, ownRequestAnswer, ownReleaseAnswer, ownCancelAnswer}
 use Rattle.lock.specs.rules.Table.{State, Call, request, step, release, cancel, clientOf, clientAt, Out, openingNumber, call}
 use Rattle.lock.specs.rules.ByValue.{answerTo, wordsAfter}
 use Rattle.lock.specs.rules.History.{run}
-use Rattle.lock.specs.claim.ClearBit.{step-accepted}
-use Rattle.lock.specs.claim.Keeping.{call-keeps}
 use Rattle.lock.specs.claim.Parts.{partsOf}
-use Rattle.lock.specs.claim.Readable.{invariant-readable}
 use Rattle.lock.specs.claim.Invariant.{Invariant}
-use Rattle.lock.specs.laws.OperationLaws.{kind-leaves, operation-found, cause-0}
-use Rattle.lock.specs.laws.CallLaws.{cause-skip, tree-passed, cause-tested}
-use Rattle.table.specs.laws.Causes.{tableCause}
-use Rattle.table.specs.laws.CauseLaws.{both-none, table-client, table-passed}
-use Rattle.table.specs.laws.CallLaws.{set-same, table-refuses, table-takes}
+use Rattle.table.specs.laws.CauseLaws.{table-client}
+use Rattle.table.specs.laws.CallLaws.{table-refuses}
 use Rattle.runs.specs.rules.Ahead.{aheadOf, Counted, completedAllAnswer}
-use Rattle.runs.specs.rules.ByOperation.{byOperation}
-use Rattle.runs.specs.rules.Network.{Flight, free, flying, Run, Network, runAt, clientOn, withRun, started, Act, own, post, carry, complete, touchesNone, ownNext, ownCalls, sameList, asks, posts, between, carries, completes, act, askedBy, counts, carriedBy, callsOf}
-use Rattle.runs.specs.laws.CarriedOut.{Underway, begun, sofar, Counting, Dropped, carried-out}
-use Rattle.runs.specs.laws.CarriedOut.{seen as seenAfter}
-use Rattle.runs.specs.laws.Counted.{along-none}
-use Rattle.runs.specs.laws.SameOperation.{lists-equal}
-use Rattle.runs.specs.laws.Shown.{seenBy, seen, shown, set-past, shown-free, shown-flying, shown-with, written-count}
-use Rattle.runs.specs.laws.StepByOperation.{step-by-operation, node-at, written-same}
-use Rattle.runs.specs.laws.CarryLaws.{outcome, out-shown}
-use Rattle.runs.specs.laws.OnState.{request-same, release-same, cancel-same, unchanged, quiet, carried, passed, inside, count}
+use Rattle.network.specs.rules.Network.{Flight, free, flying, Run, Network, runAt, clientOn, withRun, started, Act, own, post, carry, complete, touchesNone, ownNext, ownCalls, sameList, asks, posts, between, carries, completes, act, askedBy, counts, carriedBy, callsOf}
+use Rattle.network.specs.laws.CarriedOut.{Underway, begun}
+use Rattle.runs.specs.laws.AlongLaws.{no-words}
+use Rattle.network.specs.laws.SameOperation.{lists-equal}
+use Rattle.network.specs.laws.Shown.{seenBy, shown, set-past, shown-free, shown-flying, shown-with, written-count}
+use Rattle.network.specs.laws.CarryLaws.{outcome, out-shown}
+use Rattle.network.specs.laws.OnState.{request-same, release-same, cancel-same, unchanged, quiet, carried, passed, inside, count}
 use Rattle.base.specs.laws.Sum.{on-set}
 use Rattle.base.specs.laws.TestLaws.{test-true}
 
@@ -118,7 +103,7 @@ module _ (s : Settings) (net : Network) (open-passed : openingNumber s (length (
       let x = clientOn net c in
       on-choose (λ (y : Network). shown s y ≡ now) (sameList (aheadOf s x t) (aheadOf s x u)) _ _
       (λ _. shown-with s net c (net .words) x (flying u m n (take room (aheadOf s x t)) [])
-      ∙ unchanged s now (passed s net open-passed) c _ (ap (λ (d : Counted). d .next) (along-none s u x (aheadOf s x u)) ∙ sym (shown-free s net c e))) (λ _. refl)
+      ∙ unchanged s now (passed s net open-passed) c _ (ap (λ (d : Counted). d .next) (no-words s u x (aheadOf s x u)) ∙ sym (shown-free s net c e))) (λ _. refl)
   post-shown c room t u m n (flying v p q os found) e = refl
 
   complete-shown : (c : ℕ) (f : Flight) → runAt net c .flight ≡ f → shown s (completes s net c f) ≡ now

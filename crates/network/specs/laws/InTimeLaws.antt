@@ -1,40 +1,21 @@
 -- The moments of the calls that an act makes; and the law that every list in flight will be completed by the clock that its run reads. Assumes nothing.
-use mathlib.Core.Path.{_≡_, refl, sym, ap, ap₂, subst, _∙_}
-use mathlib.Core.Logic.{_≢_, _⊎_, inl, inr, ⊎-elim}
-use mathlib.Core.Bool.{Bool, true, false, _&&_, _||_}
+use mathlib.Core.Path.{_≡_, refl, sym, subst}
 use mathlib.Core.List.{List, [], _∷_, _++_, map}
-use Prim.Native.Nat.{ℕ, zero, suc, _+_, _≤_, _<_, max}
-use native.Mathlib.Omega.{arith}
-use borrow.Author.Tests.{leb-true, eqb-true, eq-eqb, ne-eqb}
-use lib.Dec.{T, eqb, leb}
+use Prim.Native.Nat.{ℕ, zero, suc}
 use lib.ListN.{length, getD}
 use Rattle.base.specs.rules.Choice.{choose}
-use Rattle.base.specs.laws.ChoiceLaws.{on-choose, by-eq, by-lt}
+use Rattle.base.specs.laws.ChoiceLaws.{on-choose, by-lt}
 use Rattle.base.specs.laws.Sum.{on-set}
-use Rattle.base.specs.laws.TestLaws.{by-test, both-true, both-false}
 use Rattle.lock.specs.declared.Client.{Client}
-use Rattle.lock.specs.declared.Operation.{Operation}
-use Rattle.lock.specs.declared.Record.{Record}
 use Rattle.lock.specs.declared.Settings.{Settings}
-use Rattle.lock.specs.rules.Records.{wordAt, currentPiece, idleClient}
-use Rattle.lock.specs.rules.Steps.{outOfPatience}
-use Rattle.lock.specs.rules.Table.{State, Call, request, step, release, cancel, clientOf, clientAt, recordAt, openingNumber, call}
+use Rattle.lock.specs.rules.Records.{idleClient}
+use Rattle.lock.specs.rules.Table.{Call, clientOf}
 use Rattle.lock.specs.rules.History.{run}
-use Rattle.lock.specs.rules.Readings.{LateAt}
-use Rattle.lock.specs.laws.PatienceLaws.{out-of-patience}
-use Rattle.lock.specs.claim.Fit.{later-below, fit-ready}
-use Rattle.lock.specs.claim.Invariant.{Invariant}
-use Rattle.lock.specs.claim.Parts.{partsOf, record-at}
 use Rattle.runs.specs.rules.Ahead.{aheadOf}
-use Rattle.runs.specs.rules.Clocks.{claims, completing, OwnRead, ClocksRead, momentAfter, InTime}
-use Rattle.runs.specs.rules.Network.{Flight, free, flying, Run, Network, runAt, clientOn, withRun, started, Act, own, post, carry, complete, ownCalls, touchesNone, sameList, asks, posts, between, carries, completes, act, askedBy, counts, carriedBy, callsOf, historyOf}
-use Rattle.runs.specs.laws.ActLaws.{Fair, Kept, act-kept, act-shown}
-use Rattle.runs.specs.laws.CarryLaws.{outcome, is-seen}
-use Rattle.runs.specs.laws.CarriedOut.{Underway, Counting, Dropped}
-use Rattle.runs.specs.laws.CarriedOut.{seen as seenAfter}
-use Rattle.runs.specs.laws.Leading.{Alike}
-use Rattle.runs.specs.laws.ReadOnce.{Moments, ReadOne, EachRead, each-earlier}
-use Rattle.runs.specs.laws.Shown.{shown, set-past}
+use Rattle.network.specs.rules.Clocks.{claims, completing, ClocksRead}
+use Rattle.network.specs.rules.Network.{Flight, free, flying, Run, Network, runAt, clientOn, withRun, started, Act, own, post, carry, complete, sameList, asks, posts, between, carries, completes, act, callsOf}
+use Rattle.network.specs.laws.ReadOnce.{Moments}
+use Rattle.network.specs.laws.Shown.{set-past}
 
 -- ---- the moments of the calls of an act
 

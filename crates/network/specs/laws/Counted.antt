@@ -1,9 +1,9 @@
 -- Laws of how many operations of a list count, as the words found come in one by one. Assumes nothing.
-use mathlib.Core.Path.{_≡_, refl, sym, ap, _∙_}
+use mathlib.Core.Path.{_≡_, refl, sym, ap}
 use mathlib.Core.Logic.{_≢_}
 use mathlib.Core.Bool.{Bool, true, false, _&&_}
 use mathlib.Core.List.{List, [], _∷_, _++_}
-use Prim.Native.Nat.{ℕ, suc, _+_, _≤_}
+use Prim.Native.Nat.{ℕ, suc, _+_}
 use native.Mathlib.Omega.{arith}
 use lib.Dec.{eqb}
 use lib.ListN.{length}
@@ -12,7 +12,8 @@ use Rattle.lock.specs.declared.Client.{Client}
 use Rattle.lock.specs.declared.Operation.{Operation}
 use Rattle.lock.specs.declared.Settings.{Settings}
 use Rattle.lock.specs.rules.Operations.{operationAnswer, completedAnswer}
+use Rattle.runs.specs.laws.AlongLaws.{no-words}
 use Rattle.runs.specs.rules.Ahead.{same, Counted, nothingMore, oneMore, along}
 
 module _ (s : Settings) (u : ℕ) where
   -- whether the first of a list counts
@@ -22,15 +23,9 @@ module _ (s : Settings) (u : ℕ) where
   abbrev pub after : Client → ℕ → Client
   after c w = completedAnswer s c u w .next
 
-  -- nothing was found
-  pub along-none : (c : Client) (l : List Operation) → along s u c l [] ≡ nothingMore c
-  unfolding along choose
-  along-none c [] = refl
-  along-none c (o ∷ l) = refl
-
   pub along-one : (c : Client) (o : Operation) (l : List Operation) (w : ℕ) → along s u c (o ∷ l) (w ∷ []) ≡ choose (due c o w) (oneMore (nothingMore (after c w))) (nothingMore c)
   unfolding along choose
-  along-one c o l w = ap (λ (x : Counted). choose (due c o w) (oneMore x) (nothingMore c)) (along-none (after c w) l)
+  along-one c o l w = ap (λ (x : Counted). choose (due c o w) (oneMore x) (nothingMore c)) (no-words s u (after c w) l)
 
   -- where all that were found count, it goes on from there
   pub along-on : (c : Client) (done : List Operation) (found : List ℕ) (l : List Operation) (more : List ℕ) → length done ≡ length found → along s u c (done ++ l) found .count ≡ length found
@@ -38,7 +33,7 @@ module _ (s : Settings) (u : ℕ) where
       (along s u c (done ++ l) (found ++ more) .count ≡ length found + next .count) × (along s u c (done ++ l) (found ++ more) .next ≡ next .next)
   unfolding along choose
   along-on c [] [] l more even all =
-      let e = ap (λ (x : Counted). along s u (x .next) l more) (along-none c l) in
+      let e = ap (λ (x : Counted). along s u (x .next) l more) (no-words s u c l) in
       (omega (arith, ap (λ (x : Counted). x .count) e), sym (ap (λ (x : Counted). x .next) e))
   along-on c [] (w ∷ found) l more even all = absurd (omega arith)
   along-on c (o ∷ done) [] l more even all = absurd (omega arith)
@@ -61,7 +56,7 @@ module _ (s : Settings) (u : ℕ) where
   pub along-stopped : (c : Client) (done : List Operation) (found : List ℕ) (l : List Operation) (more : List ℕ) → length done ≡ length found → along s u c (done ++ l) found .count ≢ length found
       → along s u c (done ++ l) (found ++ more) ≡ along s u c (done ++ l) found
   unfolding along choose
-  along-stopped c [] [] l more even some = absurd (some (ap (λ (x : Counted). x .count) (along-none c l)))
+  along-stopped c [] [] l more even some = absurd (some (ap (λ (x : Counted). x .count) (no-words s u c l)))
   along-stopped c [] (w ∷ found) l more even some = absurd (omega arith)
   along-stopped c (o ∷ done) [] l more even some = absurd (omega arith)
   along-stopped c (o ∷ done) (w ∷ found) l more even some = by-due (due c o w) some (λ f. along-stopped (after c w) done found l more (omega arith) f)

@@ -1,0 +1,4 @@
+pub mod claim
+pub mod examples
+pub mod laws
+pub mod rules

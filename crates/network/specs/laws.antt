@@ -1,0 +1,16 @@
+pub mod ActLaws
+pub mod Behind
+pub mod CallsInTime
+pub mod CarriedOut
+pub mod CarryLaws
+pub mod Completing
+pub mod Counted
+pub mod InTimeLaws
+pub mod Leading
+pub mod OnState
+pub mod OperationLists
+pub mod ReadOnce
+pub mod SameOperation
+pub mod Shown
+pub mod StepByOperation
+pub mod Underway

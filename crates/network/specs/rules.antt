@@ -1,0 +1,3 @@
+pub mod ByOperation
+pub mod Clocks
+pub mod Network
