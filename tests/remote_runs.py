@@ -17,7 +17,9 @@ NETWORK = "tcp;ofi_rxm"
 MISSING = "libfabric is not on this machine, so that no run goes over a network here; on Debian and Ubuntu: apt-get install libfabric-dev"
 CHECKED_C = "gcc", "-std=c11", "-D_GNU_SOURCE", "-O2", "-Wall", "-Wextra", "-Werror", "-I", "include"
 # The names that rangerun prints, in its order.
-PRINTED = "windows", "torn", "late", "out-of-patience", "operations", "swaps", "round-trips", "seconds"
+PRINTED = (
+    "windows", "torn", "late", "out-of-patience", "operations", "added", "flipped", "dropped", "swaps", "together", "round-trips", "seconds",
+)
 
 
 class Tried(NamedTuple):
