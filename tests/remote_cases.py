@@ -20,8 +20,9 @@ BRIEF_HOLD = "20000"
 # A pause of 2 ms is within the one wait and over the other. What is held is held for 1 ms.
 LONG_WAIT, SHORT_WAIT = Settings(3, 2, 10_000_000, 100_000_000), Settings(3, 2, 200_000, 50_000_000)
 PAUSE, HOLD = "2000000", "1000000"
-# A rule, and whether units are torn without it. With the short wait each pause makes a claim late, unless that is left out.
-LEFT_OUT = ("none", LONG_WAIT, 0), ("wait", LONG_WAIT, 1), ("none", SHORT_WAIT, 0), ("late", SHORT_WAIT, 1)
+# A rule, and whether units are torn without it. With the short wait each pause makes a claim late, unless that is left out, or the claim goes out
+# with its climb, so that no pause is between.
+LEFT_OUT = ("none", LONG_WAIT, 0), ("wait", LONG_WAIT, 1), ("none", SHORT_WAIT, 0), ("late", SHORT_WAIT, 1), ("climb", LONG_WAIT, 1)
 
 NAMES["runs of a memory server"] = ("over a network",), ("windows", "torn", "runs that failed", "words not clean")
 NAMES["late claims of these runs"] = (), ("some",)
@@ -40,7 +41,7 @@ def torn_rows(over, settings, windows):
         status = unclean(file)
     counts, network = ran.counts, int(over == NETWORK)
     print(f"    over {over}, T {settings.wait} ns: {counts['late']:.0f} late and {counts['out-of-patience']:.0f} out of patience"
-          f" beside {counts['windows']:.0f} windows, {counts['round-trips']:.0f} round trips")
+          f" beside {counts['windows']:.0f} windows, {counts['round-trips']:.0f} round trips, {counts['dropped']:.0f} reads dropped")
     yield case("runs of a memory server", [network], (windows, 0, 0, 0)), (counts["windows"], counts["torn"], ran.failed, status)
     if not network:
         yield case("late claims of these runs", [], 1), int(counts["late"] > 0)
@@ -59,7 +60,8 @@ def over_network():
 
 
 def left_out():
-    """With the wait or the late test left out units are torn; with the same pauses and none left out they are not."""
+    """With the wait or the late test left out, or a leaf claimed whatever its climb finds, units are torn; with the same pauses and none left out
+    they are not."""
     for place, (rule, settings, torn) in enumerate(LEFT_OUT):
         with serving("memory", settings) as file:
             ran = tried(file, PROCESSES, 400, "--within", "0", "512", "--hold", HOLD, run=run_in_part(), LEFT_OUT=rule, PAUSE=PAUSE)

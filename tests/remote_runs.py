@@ -21,6 +21,9 @@ PRINTED = (
     "windows", "torn", "late", "out-of-patience", "operations", "added", "flipped", "dropped", "swaps", "together", "round-trips", "seconds",
 )
 
+# The calls that tests/broken_run.c takes the place of, and what its own are called.
+REPLACED = {"completed": "completed", "completed_all": "completed_all", "operations_ahead": "ahead"}
+
 
 class Tried(NamedTuple):
     """What the runs of a trial came to: how many of them ended otherwise than well, and what all have counted, by name."""
@@ -48,13 +51,14 @@ def build_with_run(built, source):
 
 @lru_cache(maxsize=None)
 def run_in_part():
-    """`rangerun` with tests/broken_run.c between the proved completion and the one place in run/ that calls it, as the Makefile builds it."""
+    """`rangerun` with tests/broken_run.c between the proved calls and the places in run/ that call them, as the Makefile builds it."""
     folder = Path("target/tests/in_part")
     (ROOT / folder).mkdir(parents=True, exist_ok=True)
     between, library, built = (folder / name for name in ("broken_run.o", "libnolthewyr.a", "rangerun"))
     command(*CHECKED_C, "-c", "tests/broken_run.c", "-o", between)
     (ROOT / built).unlink(missing_ok=True)  # make knows nothing of what stands between
-    command("make", "--silent", f"BUILT={folder}", "CFLAGS=-O2 -Dnolthewyr_completed=completed_in_part", f"LDLIBS={between} {library}", built)
+    replaced = " ".join(f"-Dnolthewyr_{call}={own}_in_part" for call, own in REPLACED.items())
+    command("make", "--silent", f"BUILT={folder}", f"CFLAGS=-O2 {replaced}", f"LDLIBS={between} {library}", built)
     return ROOT / built
 
 
