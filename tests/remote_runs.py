@@ -10,6 +10,7 @@ from pathlib import Path
 from tempfile import TemporaryDirectory
 from typing import NamedTuple
 
+from compare import NAMES, case
 from library import ROOT, SECONDS, command, made
 from model import tree, word
 
@@ -23,6 +24,8 @@ PRINTED = (
 
 # The calls that tests/broken_run.c takes the place of, and what its own are called.
 REPLACED = {"completed": "completed", "completed_all": "completed_all", "operations_ahead": "ahead"}
+
+NAMES["libfabric"] = (), ("on this machine",)
 
 
 class Tried(NamedTuple):
@@ -41,6 +44,12 @@ def program(name):
 def has_libfabric():
     """Whether a program can be built with it here: then a server and a run must be."""
     return subprocess.run(["gcc", "-E", "-include", "rdma/fabric.h", "-x", "c", os.devnull], capture_output=True).returncode == 0
+
+
+def without_libfabric():
+    """In place of the cases of a network."""
+    print(f"    {MISSING}")
+    yield case("libfabric", [], 0), 0
 
 
 def build_with_run(built, source):
