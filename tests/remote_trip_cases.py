@@ -2,6 +2,7 @@
 node 2, its wait, 1 for the check, and 1 back, and two pieces as many as both, and 1 back. One at a time each operation is a round trip."""
 
 from compare import NAMES, case
+from model import tree
 from model.record import Settings
 from remote_runs import NETWORK, has_libfabric, serving, without_libfabric
 from remote_trips import ALL, ONE, WAIT, trips, windows_of
@@ -9,7 +10,7 @@ from remote_trips import ALL, ONE, WAIT, trips, windows_of
 # By the name of the window.
 BY_LISTS = {"leaf": (3, 1), "inner node": (3, 1), "two leaves": (6, 1), "leaf and inner node": (6, 1)}
 # Higher trees have too many units for shared memory in a test; over a network none is touched, and a connection takes its time.
-OVER_MEMORY = [(levels, distance) for levels in range(2, 9) for distance in (1, 4)]
+OVER_MEMORY = [(levels, tree.DISTANCES[levels % len(tree.DISTANCES)]) for levels in range(2, 9)]
 OVER_NETWORK = [(2, 1), (6, 2), (12, 1), (12, 4)]
 TIMES = 2
 
