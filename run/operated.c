@@ -27,46 +27,46 @@ static nolthewyr_seen *seen_at(nolthewyr_run *run, uint64_t node)
  * - Occ: it has one bit, so that 1 more is the other.
  * - Occ and TCnt: only who has the turn changes them, which is the run itself. It has seen the word since its turn came, so that it knows TCnt.
  * A ticket is TMax + 1, and others draw tickets too. Bits of a leaf that are wanted may be another's. */
-static uint64_t flipped_bits(nolthewyr_operation_answer operation, const nolthewyr_seen *seen)
+static uint64_t flipped_bits(const nolthewyr_operation_answer *operation, const nolthewyr_seen *seen)
 {
-    if (operation.kind == NOLTHEWYR_OPERATION_SWAP)
-        return operation.value == 0 ? operation.swapped : 0;
-    bool told = operation.value == OCC || (seen->whole && (operation.value & ~OCC_AND_TCNT) == 0);
-    return told ? seen->word ^ nolthewyr_applied(operation, seen->word) : 0;
+    if (operation->kind == NOLTHEWYR_OPERATION_SWAP)
+        return operation->value == 0 ? operation->swapped : 0;
+    bool told = operation->value == OCC || (seen->whole && (operation->value & ~OCC_AND_TCNT) == 0);
+    return told ? seen->word ^ nolthewyr_applied(*operation, seen->word) : 0;
 }
 
 /* DMax and DCnt are quarters of the word: what is added there wraps in place and touches nothing else. */
-static bool is_notice(nolthewyr_operation_answer operation)
+static bool is_notice(const nolthewyr_operation_answer *operation)
 {
-    return operation.kind == NOLTHEWYR_OPERATION_ADD && (operation.value == DMAX_ONE || operation.value == DCNT_ONE);
+    return operation->kind == NOLTHEWYR_OPERATION_ADD && (operation->value == DMAX_ONE || operation->value == DCNT_ONE);
 }
 
 /* A swap from the last word seen to what the operation would leave of it, or a read if it would leave all as it is. */
-static nolthewyr_access guessed(nolthewyr_operation_answer operation, uint64_t guess)
+static nolthewyr_access guessed(const nolthewyr_operation_answer *operation, uint64_t guess)
 {
-    uint64_t value = nolthewyr_applied(operation, guess);
+    uint64_t value = nolthewyr_applied(*operation, guess);
     enum nolthewyr_access_kind kind = value == guess ? NOLTHEWYR_ACCESS_READ : NOLTHEWYR_ACCESS_SWAP;
-    return (nolthewyr_access){.kind = kind, .node = operation.node, .expected = guess, .value = value};
+    return (nolthewyr_access){.kind = kind, .node = operation->node, .expected = guess, .value = value};
 }
 
-static nolthewyr_access access_of(nolthewyr_run *run, nolthewyr_operation_answer operation)
+static nolthewyr_access access_of(nolthewyr_run *run, const nolthewyr_operation_answer *operation)
 {
     const nolthewyr_transport *over = run->transport;
-    if (operation.kind == NOLTHEWYR_OPERATION_READ)
-        return (nolthewyr_access){.kind = NOLTHEWYR_ACCESS_READ, .node = operation.node};
+    if (operation->kind == NOLTHEWYR_OPERATION_READ)
+        return (nolthewyr_access){.kind = NOLTHEWYR_ACCESS_READ, .node = operation->node};
     if (over->adds && !run->only_swaps && is_notice(operation))
-        return (nolthewyr_access){.kind = NOLTHEWYR_ACCESS_ADD, .node = operation.node, .value = operation.value};
-    const nolthewyr_seen *seen = seen_at(run, operation.node);
+        return (nolthewyr_access){.kind = NOLTHEWYR_ACCESS_ADD, .node = operation->node, .value = operation->value};
+    const nolthewyr_seen *seen = seen_at(run, operation->node);
     uint64_t bits = over->flips && !run->only_swaps ? flipped_bits(operation, seen) : 0;
     if (bits != 0)
-        return (nolthewyr_access){.kind = NOLTHEWYR_ACCESS_FLIP, .node = operation.node, .value = bits};
+        return (nolthewyr_access){.kind = NOLTHEWYR_ACCESS_FLIP, .node = operation->node, .value = bits};
     return guessed(operation, seen->word);
 }
 
 /* Whether an access makes its operation whatever the word is. */
-static bool certain(nolthewyr_operation_answer operation, const nolthewyr_access *access)
+static bool certain(const nolthewyr_operation_answer *operation, const nolthewyr_access *access)
 {
-    return operation.kind == NOLTHEWYR_OPERATION_READ || access->kind == NOLTHEWYR_ACCESS_ADD || access->kind == NOLTHEWYR_ACCESS_FLIP;
+    return operation->kind == NOLTHEWYR_OPERATION_READ || access->kind == NOLTHEWYR_ACCESS_ADD || access->kind == NOLTHEWYR_ACCESS_FLIP;
 }
 
 /* Finds the accesses that go out together, and gives how many. */
@@ -75,18 +75,18 @@ static size_t accesses_found(nolthewyr_run *run, size_t count)
     bool all_certain = true;
     size_t place = 0;
     for (; place < count && (all_certain || run->operations[place].kind == NOLTHEWYR_OPERATION_READ); place++) {
-        run->accesses[place] = access_of(run, run->operations[place]);
-        all_certain = all_certain && certain(run->operations[place], &run->accesses[place]);
+        run->accesses[place] = access_of(run, &run->operations[place]);
+        all_certain = all_certain && certain(&run->operations[place], &run->accesses[place]);
     }
     return place;
 }
 
 /* Whether an access has made its operation: for certain, or the swap found what it expected, or the operation leaves the word found as it is,
  * which is so of a masked swap that finds other bits than expected. */
-static bool has_made(nolthewyr_operation_answer operation, const nolthewyr_access *access)
+static bool has_made(const nolthewyr_operation_answer *operation, const nolthewyr_access *access)
 {
     return certain(operation, access) || (access->kind == NOLTHEWYR_ACCESS_SWAP && access->found == access->expected) ||
-           nolthewyr_applied(operation, access->found) == access->found;
+           nolthewyr_applied(*operation, access->found) == access->found;
 }
 
 /* Notes the word that an access left, and gives the one that it found. Of an add only a quarter came back, the rest is as last seen: no
@@ -127,7 +127,7 @@ static size_t taken_in(nolthewyr_run *run, size_t count)
         const nolthewyr_access *access = &run->accesses[place];
         run->found[place] = checks ? access->found : noted(run, access);
         counted(run, access);
-        made += made == place && has_made(run->operations[place], access);
+        made += made == place && has_made(&run->operations[place], access);
     }
     return made;
 }
