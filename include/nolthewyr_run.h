@@ -42,10 +42,10 @@ typedef struct nolthewyr_run_counts {
 
 /* How a run posts its operations, and what has come of that since it was opened. */
 typedef struct nolthewyr_run_lists {
-    uint64_t most;    /* operations in one list at most; 1 where the provider keeps no order, so that each is awaited before the next is posted */
-    uint64_t added;   /* of the operations those made by an add of 16 bits, as notices are; 0 where the provider has none, and swaps take its place */
-    uint64_t flipped; /* those made by a flip of bits that are known before, as claims of inner nodes are and what is given back; likewise */
-    uint64_t dropped; /* reads ahead that did not count, because a word found ahead of them turned the run another way */
+    uint64_t most;    /* operations in one list; 1 where the provider keeps no order, so that each is awaited before the next is posted */
+    uint64_t added;   /* operations made by an add of 16 bits, as notices are; 0 where the provider has none, and swaps take its place */
+    uint64_t flipped; /* those made by a flip of bits that are known before, as claims of inner nodes and returns are; likewise */
+    uint64_t dropped; /* reads that did not count, because a word found ahead of them turned the run another way */
 } nolthewyr_run_lists;
 
 typedef struct nolthewyr_run nolthewyr_run;

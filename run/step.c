@@ -63,13 +63,13 @@ static uint64_t clock_after(const nolthewyr_run *run, uint64_t before)
     return before > late ? before : late;
 }
 
-/* How many operations the next list may have. Who has looked for its turn, or at who blocks it, and had to pause, looks at that word alone: what
- * is read ahead behind it would mostly be dropped, and is work for the server. */
+/* How many operations the next list may have. Who has looked at a word that another must change first, and had to pause, looks at that word
+ * alone: what is read ahead behind it would mostly be dropped, and is work for the server. */
 static size_t room(const nolthewyr_run *run)
 {
     uint64_t phase = run->client.record.phase;
-    bool looks_again = run->look_limit > NOLTHEWYR_LOOK_FIRST && (phase == NOLTHEWYR_PHASE_TURN || phase == NOLTHEWYR_PHASE_BLOCKED);
-    return looks_again ? 1 : run->lists.most;
+    bool looks = phase == NOLTHEWYR_PHASE_TURN || phase == NOLTHEWYR_PHASE_BLOCKED || phase == NOLTHEWYR_PHASE_CHECK;
+    return looks && run->look_limit > NOLTHEWYR_LOOK_FIRST ? 1 : run->lists.most;
 }
 
 /* Finds the operations that are due, and gives how many; 0 where the phase touches no word. One alone is what nolthewyr_operation says. */
