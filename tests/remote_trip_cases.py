@@ -4,8 +4,8 @@ node 2, its wait, 1 for the check, and 1 back, and two pieces as many as both, a
 from compare import NAMES, case
 from model import tree
 from model.record import Settings
-from remote_runs import NETWORK, has_libfabric, serving, without_libfabric
-from remote_trips import ALL, ONE, WAIT, trips, windows_of
+from remote_runs import NETWORK, has_libfabric, serving, unclean, without_libfabric
+from remote_trips import ALL, ONE, WAIT, WINDOWS, trips, windows_of
 
 # By the name of the window.
 BY_LISTS = {"leaf": (3, 1), "inner node": (3, 1), "two leaves": (6, 1), "leaf and inner node": (6, 1)}
@@ -13,9 +13,13 @@ BY_LISTS = {"leaf": (3, 1), "inner node": (3, 1), "two leaves": (6, 1), "leaf an
 OVER_MEMORY = [(levels, tree.DISTANCES[levels % len(tree.DISTANCES)]) for levels in range(2, 9)]
 OVER_NETWORK = [(2, 1), (6, 2), (12, 1), (12, 4)]
 TIMES = 2
+# More than a count of tickets has before it begins anew, 2^15, and more than one of notices, 2^16; and a wait of few nanoseconds.
+TICKETS, NOTICES, SHORT_WAIT = 33_000, 66_000, 20_000
 
 NAMES["round trips by lists"] = ("over a network", "levels", "distance", "window"), ("first taken", "back", "taken again", "back")
 NAMES["round trips one at a time"] = ("over a network", "levels", "distance", "window"), ("fewer or more than operations",)
+
+NAMES["counts that begin anew"] = ("window",), ("times taken", "times that needed other round trips", "a word is not clean")
 
 
 def counted(over, levels, distance):
@@ -42,4 +46,17 @@ def over_network():
         yield from counted(NETWORK, levels, distance)
 
 
-SUITES = {"round trips of a run alone, over shared memory": over_memory, "round trips of a run alone, over tcp;ofi_rxm": over_network}
+def begun_anew():
+    """The root has one ticket after another, and then one notice after another, until the counts have begun anew."""
+    with serving("memory", Settings(2, 1, SHORT_WAIT, 20 * SHORT_WAIT)) as file:
+        for place, (name, times) in enumerate((("inner node", TICKETS), ("leaf", NOTICES))):
+            [found] = trips(file, ALL, times, [WINDOWS[name]])
+            others = sum((one.taken, one.back) != BY_LISTS[name] for one in found[1:])
+            yield case("counts that begin anew", [place], (times, 0, 0)), (len(found), others, unclean(file))
+
+
+SUITES = {
+    "round trips of a run alone, over shared memory": over_memory,
+    "round trips of a run alone, over tcp;ofi_rxm": over_network,
+    "round trips of a run alone, counts that begin anew": begun_anew,
+}
