@@ -20,7 +20,7 @@ static bool done(int answer, const char *call, const nolthewyr_server *server, c
  * only reads (FI_ORDER_ATOMIC_WAR), which `tcp;ofi_rxm` does not promise. On a card a reliable connection keeps it. */
 static const uint64_t ORDER = FI_ORDER_ATOMIC_RAR | FI_ORDER_ATOMIC_RAW | FI_ORDER_ATOMIC_WAW;
 
-/* What both sides ask of a provider: words read and swapped, units read and written, each write in place before its completion is told
+/* What both sides ask of a provider: words read and changed, units read and written, each write in place before its completion is told
  * (FI_DELIVERY_COMPLETE), and any way of registering memory. Both sides drive the provider themselves. */
 static struct fi_info *hints_of(const nolthewyr_server *server, uint64_t order)
 {
