@@ -2,8 +2,8 @@
  *
  * The library allocates nothing: the caller lends clients and words. The proof of the calls assumes what Rust's references give, and
  * from C it is the caller's duty:
- * - each length is true: `clients` has `client_count` elements, `words` has `word_count`, `rows` has `row_count` and `hours` has
- *   `hour_count`, at aligned addresses; no pointer is null;
+ * - each length is true: `clients` has `client_count` elements, `words` has `word_count`, `rows` has `row_count`, `hours` has
+ *   `hour_count`, `operations` has `room` and `found` has `found_count`, at aligned addresses; no pointer is null;
  * - the two arrays do not overlap;
  * - while a call runs nobody else reads or writes them (while a page is asked for, others may read the clients), and between the calls
  *   of one table nobody else writes them.
@@ -27,7 +27,7 @@ extern "C" {
 
 /* The version of this header. Structs grow between versions: a program goes with a library whose first two numbers are the same, and
  * whose third, which grows with new functions, is not lower if the program calls one of these. */
-#define NOLTHEWYR_VERSION "0.4.2"
+#define NOLTHEWYR_VERSION "0.4.3"
 
 /* Where a client is. It holds its window exactly while its phase is 9. */
 enum nolthewyr_phase {

@@ -1,11 +1,14 @@
 /* A run on another machine than the words: a step as one operation on one word. nolthewyr.h has these declarations too. docs/REMOTE.md says
  * how an operation is carried out over a network, and when a run reads its clock.
  *
- * None of these calls touches a word, and none is lent memory: a client goes in and comes back by value. It starts all zero. All is tested: a
- * call with any numbers is accepted or refused by a number. A run makes its request, and then one operation after another until its phase is 9:
- * it asks which (nolthewyr_operation), has it carried out, which gives back the word as it was found, and asks what becomes of its client
+ * None of these calls touches a word: a client goes in and comes back by value. It starts all zero. All is tested: a call with any numbers is
+ * accepted or refused by a number. A run makes its request, and then one operation after another until its phase is 9: it asks which
+ * (nolthewyr_operation), has it carried out, which gives back the word as it was found, and asks what becomes of its client
  * (nolthewyr_completed). Each operation is atomic: it leaves nolthewyr_applied of the word found, and nobody touches that word between. By one
- * clock for both calls this is what nolthewyr_step does with words in the caller's memory. */
+ * clock for both calls this is what nolthewyr_step does with words in the caller's memory.
+ *
+ * Operations can also be posted together, and are then awaited once: nolthewyr_operations_ahead says which, and nolthewyr_completed_all what
+ * becomes of the client when all words found have come back. The two are lent lists, whose lengths must be true, as nolthewyr.h has it. */
 
 #ifndef NOLTHEWYR_OPERATIONS_H
 #define NOLTHEWYR_OPERATIONS_H
@@ -43,6 +46,19 @@ typedef struct nolthewyr_client_answer {
     nolthewyr_client next;
 } nolthewyr_client_answer;
 
+/* The number, and how many operations are in the list; 0 where no word is touched now, and in a refused answer. */
+typedef struct nolthewyr_ahead_answer {
+    uint64_t number;
+    uint64_t count;
+} nolthewyr_ahead_answer;
+
+/* The number, how many of the words found counted, and the client after these; in a refused answer 0, and the client as it was. */
+typedef struct nolthewyr_completed_all_answer {
+    uint64_t number;
+    uint64_t counted;
+    nolthewyr_client next;
+} nolthewyr_completed_all_answer;
+
 /* Which operation the client's phase says, by its own clock. Where its patience has run out, none. Tests the settings (1), the clock (5) and
  * that the record is readable (6). */
 nolthewyr_operation_answer nolthewyr_operation(nolthewyr_client client, nolthewyr_settings settings, uint64_t clock);
@@ -53,6 +69,20 @@ uint64_t nolthewyr_applied(nolthewyr_operation_answer operation, uint64_t found)
 /* The client after its operation, which found this word; the clock is then its last. Tests the settings (1), the clock (5), that the record is
  * readable (6), and that a returning leaf finds no wanted bit clear (9). */
 nolthewyr_client_answer nolthewyr_completed(nolthewyr_client client, nolthewyr_settings settings, uint64_t clock, uint64_t found);
+
+/* Which operations can be posted together now, in this order: those that come next whatever the words found are, and reads that come next if
+ * all before them find nobody in the way. Never a write that a word found could forbid. Fills the lent list, of `room` operations, and leaves
+ * what is behind the last one as it was. They must be carried out in the order of the list, and others' operations may come between. Where no
+ * word is touched now there is none: such a step is completed by nolthewyr_completed. Tests as nolthewyr_operation does. */
+nolthewyr_ahead_answer nolthewyr_operations_ahead(nolthewyr_client client, nolthewyr_settings settings, uint64_t clock,
+                                                  nolthewyr_operation_answer *operations, size_t room);
+
+/* The client after those of its operations that were posted together and found these words, in the order of the list; they may be fewer than
+ * the list has. At the first that turns another way, what was read behind it does not count: it is posted again when it comes next. One clock
+ * completes all: for a list that was begun in phase 5 or 6 it is read after the last has come back, for every other before the first is
+ * posted. Tests as nolthewyr_completed does, by 9 only where the first word found is refused by it. */
+nolthewyr_completed_all_answer nolthewyr_completed_all(nolthewyr_client client, nolthewyr_settings settings, uint64_t clock,
+                                                       const uint64_t *found, size_t found_count);
 
 /* Asks for [left, right) for an idle client. Tests the settings (1), that the record is readable (6), the window (7) and the phase (8). */
 nolthewyr_client_answer nolthewyr_own_request(nolthewyr_client client, nolthewyr_settings settings, uint64_t left, uint64_t right);

@@ -29,16 +29,24 @@ enum nolthewyr_run_answer {
                                   * tree stays there */
 };
 
-/* What a run has done since it was opened. A masked operation is made by compare-and-swap from the last word seen, and tried again if
- * another's came before. */
+/* What a run has done since it was opened. A masked operation that cannot go otherwise is made by compare-and-swap from the last word seen, and
+ * tried again if another's came before. */
 typedef struct nolthewyr_run_counts {
     uint64_t windows;         /* taken */
     uint64_t late;            /* asked for again, because a claim took too long for the wait */
     uint64_t out_of_patience; /* asked for again, because the second piece was not to be had within the patience */
     uint64_t operations;      /* on words */
     uint64_t swaps_again;     /* compare-and-swaps that found another word than the last one seen */
-    uint64_t round_trips;     /* lists of accesses to words that the server was sent */
+    uint64_t round_trips;     /* lists of accesses to words that were sent to the server, each of which was awaited once */
 } nolthewyr_run_counts;
+
+/* How a run posts its operations, and what has come of that since it was opened. */
+typedef struct nolthewyr_run_lists {
+    uint64_t most;    /* operations in one list; 1 where the provider keeps no order, so that each is awaited before the next is posted */
+    uint64_t added;   /* operations made by an add of 16 bits, as notices are; 0 where the provider has none, and swaps take its place */
+    uint64_t flipped; /* those made by a flip of bits that are known before, as claims of inner nodes and returns are; likewise */
+    uint64_t dropped; /* reads that did not count, because a word found ahead of them turned the run another way */
+} nolthewyr_run_lists;
 
 typedef struct nolthewyr_run nolthewyr_run;
 
@@ -66,6 +74,11 @@ int nolthewyr_run_read(nolthewyr_run *run, uint64_t first, uint64_t count, uint6
 int nolthewyr_run_write(nolthewyr_run *run, uint64_t first, uint64_t count, const uint64_t *units);
 
 nolthewyr_run_counts nolthewyr_run_counted(const nolthewyr_run *run);
+nolthewyr_run_lists nolthewyr_run_listed(const nolthewyr_run *run);
+
+/* From now on no list has more operations than `most`, which is at least 1: with 1 each is awaited before the next is posted. Lists do not get
+ * longer than the provider and the tree let them. */
+void nolthewyr_run_list_at_most(nolthewyr_run *run, uint64_t most);
 
 /* Why the last call was refused or has failed. */
 const char *nolthewyr_run_error(const nolthewyr_run *run);

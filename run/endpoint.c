@@ -16,9 +16,13 @@ static bool done(int answer, const char *call, const nolthewyr_server *server, c
     return answer == 0;
 }
 
-/* What both sides ask of a provider: words read and swapped, units read and written, each write in place before its completion is told
+/* The order that lists of accesses need. In them a read follows reads and writes, and a write follows writes; no write follows a read that
+ * only reads (FI_ORDER_ATOMIC_WAR), which `tcp;ofi_rxm` does not promise. On a card a reliable connection keeps it. */
+static const uint64_t ORDER = FI_ORDER_ATOMIC_RAR | FI_ORDER_ATOMIC_RAW | FI_ORDER_ATOMIC_WAW;
+
+/* What both sides ask of a provider: words read and changed, units read and written, each write in place before its completion is told
  * (FI_DELIVERY_COMPLETE), and any way of registering memory. Both sides drive the provider themselves. */
-static struct fi_info *hints_of(const nolthewyr_server *server)
+static struct fi_info *hints_of(const nolthewyr_server *server, uint64_t order)
 {
     struct fi_info *hints = fi_allocinfo();
     if (hints == NULL)
@@ -26,23 +30,35 @@ static struct fi_info *hints_of(const nolthewyr_server *server)
     hints->ep_attr->type = FI_EP_RDM;
     hints->caps = FI_ATOMIC | FI_RMA | FI_MSG;
     hints->tx_attr->op_flags = FI_DELIVERY_COMPLETE;
+    hints->tx_attr->msg_order = hints->rx_attr->msg_order = order;
     hints->fabric_attr->prov_name = strdup(server->over);
     hints->domain_attr->data_progress = FI_PROGRESS_MANUAL;
     hints->domain_attr->mr_mode = FI_MR_VIRT_ADDR | FI_MR_ALLOCATED | FI_MR_PROV_KEY | FI_MR_LOCAL | FI_MR_ENDPOINT;
     return hints;
 }
 
-static bool found(nolthewyr_endpoint *at, const nolthewyr_server *server, bool serves, char *error)
+/* Asks libfabric for such a provider that keeps this order. */
+static int asked(nolthewyr_endpoint *at, const nolthewyr_server *server, bool serves, uint64_t order)
 {
     const char *host = server->host[0] == '\0' ? NULL : server->host;
     uint64_t flags = serves && host != NULL ? FI_SOURCE : 0; /* the host is where the endpoint is, and not where it leads to */
-    struct fi_info *hints = hints_of(server);
+    struct fi_info *hints = hints_of(server, order);
     int answer = hints == NULL ? -FI_ENOMEM : fi_getinfo(FI_VERSION(1, 17), host, NULL, flags, hints, &at->info);
     if (hints != NULL)
         fi_freeinfo(hints);
+    return answer;
+}
+
+static bool found(nolthewyr_endpoint *at, const nolthewyr_server *server, bool serves, char *error)
+{
+    int answer = asked(at, server, serves, ORDER);
+    if (answer != 0)
+        answer = asked(at, server, serves, FI_ORDER_NONE);
     if (answer != 0)
         snprintf(error, NOLTHEWYR_ERROR_SIZE, "over %s%s%s: libfabric finds no such provider with atomics: %s", server->over,
-                 host == NULL ? "" : " at ", host == NULL ? "" : host, fi_strerror(abs(answer)));
+                 server->host[0] == '\0' ? "" : " at ", server->host, fi_strerror(abs(answer)));
+    else
+        at->ordered = (at->info->tx_attr->msg_order & at->info->rx_attr->msg_order & ORDER) == ORDER;
     return answer == 0;
 }
 

@@ -19,10 +19,12 @@ typedef struct nolthewyr_endpoint {
     struct fid_av *addresses;
     struct fid_cq *completions;
     struct fid_ep *endpoint;
+    bool ordered; /* whether what is posted to a word is made in the order of posting */
     int work; /* of a server: a file descriptor that is readable while the provider has something to do; -1 if it has none */
 } nolthewyr_endpoint;
 
-/* Opens an endpoint over the server's provider: the server's own, or one from which that is reached. False if it cannot, and `error` says
+/* Opens an endpoint over the server's provider: the server's own, or one from which that is reached. Asks for order, and does without where a
+ * provider keeps none. False if it cannot, and `error` says
  * what libfabric said; nothing is then open. */
 bool nolthewyr_endpoint_open(nolthewyr_endpoint *at, const nolthewyr_server *server, bool serves, char *error);
 

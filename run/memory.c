@@ -19,18 +19,41 @@ typedef struct memory {
     size_t size;
 } memory;
 
+/* Adds within a quarter, and gives that quarter as it was. */
+static uint64_t added(_Atomic uint64_t *word, uint64_t value)
+{
+    uint64_t found = atomic_load(word), quarter = value * 0xffff;
+    while (!atomic_compare_exchange_weak(word, &found, (found & ~quarter) | ((found + value) & quarter)))
+        ;
+    return found & quarter;
+}
+
+static uint64_t swapped(_Atomic uint64_t *word, uint64_t expected, uint64_t value)
+{
+    atomic_compare_exchange_strong(word, &expected, value);
+    return expected;
+}
+
 /* Sequentially consistent, since the rules speak of words that are touched one after another. */
+static uint64_t found_by(_Atomic uint64_t *word, const nolthewyr_access *access)
+{
+    switch (access->kind) {
+    case NOLTHEWYR_ACCESS_READ:
+        return atomic_load(word);
+    case NOLTHEWYR_ACCESS_SWAP:
+        return swapped(word, access->expected, access->value);
+    case NOLTHEWYR_ACCESS_ADD:
+        return added(word, access->value);
+    default:
+        return atomic_fetch_xor(word, access->value);
+    }
+}
+
 static bool execute(nolthewyr_transport *transport, nolthewyr_access *list, size_t count)
 {
     memory *over = (memory *)transport;
-    for (nolthewyr_access *access = list; access < list + count; access++) {
-        _Atomic uint64_t *word = &over->words[access->node - 1];
-        access->found = access->expected;
-        if (access->kind == NOLTHEWYR_ACCESS_READ)
-            access->found = atomic_load(word);
-        else
-            atomic_compare_exchange_strong(word, &access->found, access->value);
-    }
+    for (nolthewyr_access *access = list; access < list + count; access++)
+        access->found = found_by(&over->words[access->node - 1], access);
     return true;
 }
 
@@ -101,7 +124,7 @@ nolthewyr_transport *nolthewyr_memory_open(const nolthewyr_server *server, char 
     }
     /* One machine has one CLOCK_MONOTONIC. */
     over->transport = (nolthewyr_transport){.execute = execute, .read_units = read_units, .write_units = write_units, .close = close_memory,
-                                            .clock = CLOCK_MONOTONIC};
+                                            .clock = CLOCK_MONOTONIC, .together = NOLTHEWYR_MOST_AHEAD, .adds = true, .flips = true};
     if (reached(over, server, error))
         return &over->transport;
     free(over);

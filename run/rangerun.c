@@ -22,6 +22,7 @@ static volatile sig_atomic_t signalled;
 static const char usage[] =
     "usage: rangerun FILE hold [--limit NS] LEFT RIGHT COMMAND...\n"
     "       rangerun FILE try --windows COUNT [--number N] [--seed S] [--within LEFT RIGHT] [--largest UNITS] [--hold NS]\n"
+    "            [--ahead COUNT] [--swaps]\n"
     "       rangerun FILE tree\n";
 
 int nolthewyr_wrong_line(const char *reason, const char *text)

@@ -11,7 +11,7 @@
 
 #include "arguments.h"
 #include "rangerun.h"
-#include "server_file.h"
+#include "run.h"
 
 typedef struct trial {
     uint64_t windows;
@@ -22,6 +22,8 @@ typedef struct trial {
     uint64_t right;
     uint64_t largest;
     uint64_t hold;
+    uint64_t ahead; /* the most operations in a list, 0 where it is not said */
+    bool swaps;     /* words are read and swapped alone */
     uint64_t torn;
     uint64_t *units; /* room for the largest window */
 } trial;
@@ -87,16 +89,23 @@ static double seconds_now(void)
     return (double)now.tv_sec + (double)now.tv_nsec / 1e9;
 }
 
+static void counts_printed(const nolthewyr_run *run, uint64_t torn, double seconds)
+{
+    nolthewyr_run_counts counts = nolthewyr_run_counted(run);
+    nolthewyr_run_lists lists = nolthewyr_run_listed(run);
+    printf("windows %" PRIu64 " torn %" PRIu64 " late %" PRIu64 " out-of-patience %" PRIu64 " operations %" PRIu64 " added %" PRIu64
+           " flipped %" PRIu64 " dropped %" PRIu64 " swaps %" PRIu64 " together %" PRIu64 " round-trips %" PRIu64 " seconds %.6f\n",
+           counts.windows, torn, counts.late, counts.out_of_patience, counts.operations, lists.added, lists.flipped, lists.dropped,
+           counts.swaps_again, lists.most, counts.round_trips, seconds);
+}
+
 static int windows_tried(nolthewyr_run *run, trial *tried)
 {
     double begun = seconds_now();
     int answer = NOLTHEWYR_RUN_DONE;
     for (uint64_t i = 0; i < tried->windows && answer == NOLTHEWYR_RUN_DONE && nolthewyr_signalled() == 0; i++)
         answer = window_tried(run, tried);
-    nolthewyr_run_counts counts = nolthewyr_run_counted(run);
-    printf("windows %" PRIu64 " torn %" PRIu64 " late %" PRIu64 " out-of-patience %" PRIu64 " operations %" PRIu64 " swaps %" PRIu64
-           " round-trips %" PRIu64 " seconds %.6f\n", counts.windows, tried->torn, counts.late, counts.out_of_patience, counts.operations,
-           counts.swaps_again, counts.round_trips, seconds_now() - begun);
+    counts_printed(run, tried->torn, seconds_now() - begun);
     if (answer == NOLTHEWYR_RUN_REFUSED || answer == NOLTHEWYR_RUN_FAILED)
         return nolthewyr_failed(run, NOLTHEWYR_EXIT_FAILED);
     return tried->torn > 0 ? NOLTHEWYR_EXIT_FOUND_WRONG : 0;
@@ -104,7 +113,8 @@ static int windows_tried(nolthewyr_run *run, trial *tried)
 
 static const struct option options[] = {
     {"windows", required_argument, NULL, 'w'}, {"number", required_argument, NULL, 'n'}, {"seed", required_argument, NULL, 's'},
-    {"within", required_argument, NULL, 'i'}, {"largest", required_argument, NULL, 'l'}, {"hold", required_argument, NULL, 'h'}, {0},
+    {"within", required_argument, NULL, 'i'}, {"largest", required_argument, NULL, 'l'}, {"hold", required_argument, NULL, 'h'},
+    {"ahead", required_argument, NULL, 'a'}, {"swaps", no_argument, NULL, 'c'}, {0},
 };
 
 /* Sets what the option says; `within` has two numbers behind it. */
@@ -121,6 +131,10 @@ static bool option_set(trial *tried, int option, int argc, char **argv)
         return nolthewyr_number(optarg, &tried->largest) && tried->largest > 0;
     case 'h':
         return nolthewyr_number(optarg, &tried->hold);
+    case 'a':
+        return nolthewyr_number(optarg, &tried->ahead) && tried->ahead > 0;
+    case 'c':
+        return tried->swaps = true;
     case 'i':
         tried->within = true;
         return nolthewyr_number(optarg, &tried->left) && optind < argc && nolthewyr_number(argv[optind++], &tried->right);
@@ -171,6 +185,9 @@ int nolthewyr_try(const char *file, int argc, char **argv)
         return NOLTHEWYR_EXIT_FAILED;
     int status = NOLTHEWYR_EXIT_FAILED;
     nolthewyr_cancelled_by_signals(run);
+    if (tried.ahead > 0)
+        nolthewyr_run_list_at_most(run, tried.ahead);
+    run->only_swaps = tried.swaps;
     if (settled(&tried, nolthewyr_unit_count(nolthewyr_run_settings(run).levels)))
         status = windows_tried(run, &tried);
     nolthewyr_closed(run);

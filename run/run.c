@@ -32,6 +32,7 @@ nolthewyr_run *nolthewyr_run_over(nolthewyr_transport *transport, nolthewyr_sett
     }
     run->transport = transport;
     run->settings = settings;
+    run->lists.most = transport->together;
     run->look_limit = NOLTHEWYR_LOOK_FIRST;
     run->drawn = (nolthewyr_run_clock(run) << 20 | (uint64_t)getpid()) | 1; /* runs that begin together draw other numbers */
     return run;
@@ -67,6 +68,17 @@ nolthewyr_settings nolthewyr_run_settings(const nolthewyr_run *run)
 nolthewyr_run_counts nolthewyr_run_counted(const nolthewyr_run *run)
 {
     return run->counts;
+}
+
+nolthewyr_run_lists nolthewyr_run_listed(const nolthewyr_run *run)
+{
+    return run->lists;
+}
+
+void nolthewyr_run_list_at_most(nolthewyr_run *run, uint64_t most)
+{
+    uint64_t together = run->transport->together, least = most < 1 ? 1 : most;
+    run->lists.most = least < together ? least : together;
 }
 
 const char *nolthewyr_run_error(const nolthewyr_run *run)

@@ -17,6 +17,7 @@ enum { NOLTHEWYR_MOST_LEVELS = 12, NOLTHEWYR_LOOK_FIRST = 1000, NOLTHEWYR_LOOK_M
 /* The last word that a run saw at a node. */
 typedef struct nolthewyr_seen {
     uint64_t node, word;
+    bool whole; /* false if it saw none, or a part of one alone */
 } nolthewyr_seen;
 
 struct nolthewyr_run {
@@ -24,9 +25,15 @@ struct nolthewyr_run {
     nolthewyr_settings settings;
     nolthewyr_client client;
     nolthewyr_run_counts counts;
+    nolthewyr_run_lists lists;
+    bool only_swaps; /* words are read and swapped alone, though the transport has more */
+    /* What is under way: operations that are due together, the accesses that make them, and the words that they found. */
+    nolthewyr_operation_answer operations[NOLTHEWYR_MOST_AHEAD];
+    nolthewyr_access accesses[NOLTHEWYR_MOST_AHEAD];
+    uint64_t found[NOLTHEWYR_MOST_AHEAD];
     /* The first guesses of masked operations. Any guess is right, since the swap compares; a good one saves a round trip. Two a level, the later
-     * first, since of each level a piece changes one node at most, its own or one that it notifies; and one for the nodes that are only read. */
-    nolthewyr_seen seen[NOLTHEWYR_MOST_LEVELS][2], passing;
+     * first, since of each level a piece changes one node at most, its own or one that it notifies. */
+    nolthewyr_seen seen[NOLTHEWYR_MOST_LEVELS][2];
     uint64_t look_limit; /* the next pause between two looks is below this */
     uint64_t deadline;   /* the clock at which a take gives up, UINT64_MAX for none */
     uint64_t drawn;      /* the last random number */
@@ -47,9 +54,14 @@ void nolthewyr_run_rest(const nolthewyr_run *run, uint64_t until);
 /* Rests for a random time below the limit, then doubles it, up to `most`. */
 void nolthewyr_run_pause(nolthewyr_run *run, uint64_t *limit, uint64_t most);
 
-/* Makes one step: finds the operation of the record, makes it on the word, completes it. Rests where the phase waits for a time, and pauses
- * if others are in the way; makes none if the take gives up while it rests. False if it has failed; `error` says why. */
+/* Makes one step: finds the operations that are due, makes them on their words, completes them. Rests where the phase waits for a time, and
+ * pauses if others are in the way; makes none if the take gives up while it rests, or if another's operation came before its swap. False if
+ * it has failed; `error` says why. */
 bool nolthewyr_run_step(nolthewyr_run *run);
+
+/* Makes the first of the `count` operations that are due, as many as can go out together, in one round trip. Gives in `made` how many of them,
+ * and their words in `found`; 0 if another's operation came before the swap that stands first. False if it has failed. */
+bool nolthewyr_run_operated(nolthewyr_run *run, size_t count, size_t *made);
 
 /* Makes the answer's client the run's. False if it is refused, which only damaged words can bring about; `error` names what was asked. */
 bool nolthewyr_run_accepted(nolthewyr_run *run, nolthewyr_client_answer answer, const char *asked);

@@ -1,65 +1,10 @@
-/* One step of a run: one operation on one word, between the proved calls that say which and what becomes of the record. */
+/* One step of a run: a list of operations, between the proved calls that say which and what becomes of the record. */
 
 #include "run.h"
 
 #include <inttypes.h>
 #include <stdio.h>
 #include <string.h>
-
-static bool executed(nolthewyr_run *run, nolthewyr_access *access)
-{
-    run->counts.round_trips++;
-    if (run->transport->execute(run->transport, access, 1))
-        return true;
-    run->failed = true;
-    snprintf(run->error, sizeof run->error, "%s", run->transport->error);
-    return false;
-}
-
-/* What the operation does to a word that is as guessed: a swap that writes what it leaves there, or a read if it leaves all as it is. */
-static nolthewyr_access access_of(nolthewyr_operation_answer operation, uint64_t guess)
-{
-    uint64_t value = nolthewyr_applied(operation, guess);
-    enum nolthewyr_access_kind kind = value == guess ? NOLTHEWYR_ACCESS_READ : NOLTHEWYR_ACCESS_SWAP;
-    return (nolthewyr_access){.kind = kind, .node = operation.node, .expected = guess, .value = value};
-}
-
-/* The place of the last word seen at a node. One that has none takes the older of the two of its level, but not where it is checked: the nodes
- * below an inner piece are many, and those of the piece before it would be forgotten. The first node of level d is (4^(d-1) + 2) / 3. */
-static nolthewyr_seen *seen_at(nolthewyr_run *run, uint64_t node)
-{
-    nolthewyr_seen *two = run->seen[(63 - __builtin_clzll(3 * node - 2)) / 2], older = two[1];
-    if (two[0].node == node)
-        return two;
-    if (older.node != node && run->client.record.phase == NOLTHEWYR_PHASE_CHECK) {
-        run->passing = (nolthewyr_seen){.node = node};
-        return &run->passing;
-    }
-    two[1] = two[0];
-    two[0] = older.node == node ? older : (nolthewyr_seen){.node = node};
-    return two;
-}
-
-/* Makes the operation on its word and gives the word found. A masked one is a loop of swaps, the first from the last word seen at this node,
- * each other from the word that the one before found. A masked swap whose compared bits are other than expected writes nothing: the
- * word that says so must have been found by this operation and not before. */
-static bool operated(nolthewyr_run *run, nolthewyr_operation_answer operation, uint64_t *found)
-{
-    nolthewyr_seen *seen = seen_at(run, operation.node);
-    nolthewyr_access access = access_of(operation, seen->word);
-    run->counts.operations++;
-    for (bool found_now = false; !(found_now && access.kind == NOLTHEWYR_ACCESS_READ); found_now = true) {
-        if (!executed(run, &access))
-            return false;
-        if (access.kind == NOLTHEWYR_ACCESS_SWAP && access.found == access.expected)
-            break;
-        run->counts.swaps_again += access.kind == NOLTHEWYR_ACCESS_SWAP;
-        access = access_of(operation, access.found);
-    }
-    seen->word = access.value;
-    *found = access.expected;
-    return true;
-}
 
 bool nolthewyr_run_accepted(nolthewyr_run *run, nolthewyr_client_answer answer, const char *asked)
 {
@@ -72,6 +17,13 @@ bool nolthewyr_run_accepted(nolthewyr_run *run, nolthewyr_client_answer answer, 
     return false;
 }
 
+/* Whether the parent's word may be read in the next list, at which the record notes t1. */
+static bool may_begin_claim(const nolthewyr_record *record)
+{
+    return record->phase >= NOLTHEWYR_PHASE_TICKET && record->phase <= NOLTHEWYR_PHASE_BLOCKED &&
+           (record->phase != NOLTHEWYR_PHASE_CLIMB || record->place == 0);
+}
+
 /* The clock from which on the next step may be made. The wait is not looked at before it is over. A later piece whose claim might end only
  * when patience is over is not begun: the run rests until it is over, and then gives up. So wherever a claim was begun, t1 + T is
  * below the clock at which patience is over. */
@@ -79,13 +31,12 @@ static uint64_t clock_of_step(const nolthewyr_run *run, uint64_t now)
 {
     const nolthewyr_record *record = &run->client.record;
     uint64_t patience_over = record->taken + run->settings.patience;
-    bool begins_later_claim = record->current > 0 && record->phase == NOLTHEWYR_PHASE_CLIMB && record->place == 0;
     if (record->phase == NOLTHEWYR_PHASE_WAIT)
         return record->t0 + run->settings.wait;
-    return begins_later_claim && now + run->settings.wait >= patience_over ? patience_over : now;
+    return record->current > 0 && may_begin_claim(record) && now + run->settings.wait >= patience_over ? patience_over : now;
 }
 
-/* Reads the clock before the operation is posted, after a rest where there has to be one. False if the take gives up meanwhile. */
+/* Reads the clock before the list is posted, after a rest where there has to be one. False if the take gives up meanwhile. */
 static bool clock_before(const nolthewyr_run *run, uint64_t *now)
 {
     *now = nolthewyr_run_clock(run);
@@ -97,19 +48,51 @@ static bool clock_before(const nolthewyr_run *run, uint64_t *now)
     return *now >= from;
 }
 
-/* The clock by which the operation is completed. Single holding asks that t1 and the end of the wait are read before their word is touched,
- * and t0 and the clock of the late test after: so claim and notices go by a clock read now, all others by the one before.
- * If patience ran out meanwhile, the completion would be that of no operation, although one was made: so it goes by t1 + T, at which it is
+/* The clock by which a list is completed. Single holding asks that t1 and the end of the wait are read before their word is touched, and t0 and
+ * the clock of the late test after: so claim and notices go by a clock read now, all others by the one before.
+ * If patience ran out meanwhile, the completion would be that of no operation, although some were made: so it goes by t1 + T, at which it is
  * late in any case and patience is not over yet. */
-static uint64_t clock_after(const nolthewyr_run *run, nolthewyr_operation_answer operation, uint64_t before)
+static uint64_t clock_after(const nolthewyr_run *run, uint64_t before)
 {
     const nolthewyr_record *record = &run->client.record;
     bool claims = record->phase == NOLTHEWYR_PHASE_CLAIM || record->phase == NOLTHEWYR_PHASE_NOTIFY;
     uint64_t after = claims ? nolthewyr_run_clock(run) : before, late = record->t1 + run->settings.wait;
-    bool impatient = record->current > 0 && after - record->taken >= run->settings.patience;
-    if (!impatient || operation.kind == NOLTHEWYR_OPERATION_NONE)
+    bool impatient = claims && record->current > 0 && after - record->taken >= run->settings.patience;
+    if (!impatient)
         return after;
     return before > late ? before : late;
+}
+
+/* How many operations the next list may have. Who has looked at a word that another must change first, and had to pause, looks at that word
+ * alone: what is read ahead behind it would mostly be dropped, and is work for the server. */
+static size_t room(const nolthewyr_run *run)
+{
+    uint64_t phase = run->client.record.phase;
+    bool looks = phase == NOLTHEWYR_PHASE_TURN || phase == NOLTHEWYR_PHASE_BLOCKED || phase == NOLTHEWYR_PHASE_CHECK;
+    return looks && run->look_limit > NOLTHEWYR_LOOK_FIRST ? 1 : run->lists.most;
+}
+
+/* Finds the operations that are due, and gives how many; 0 where the phase touches no word. One alone is what nolthewyr_operation says. */
+static size_t due(nolthewyr_run *run, uint64_t clock)
+{
+    size_t most = room(run);
+    if (most > 1)
+        return nolthewyr_operations_ahead(run->client, run->settings, clock, run->operations, most).count;
+    run->operations[0] = nolthewyr_operation(run->client, run->settings, clock);
+    return run->operations[0].kind != NOLTHEWYR_OPERATION_NONE;
+}
+
+/* Completes so many operations that were made, or the step that touches no word. What was read ahead and does not count is dropped. */
+static nolthewyr_client_answer completed(nolthewyr_run *run, uint64_t clock, size_t made)
+{
+    nolthewyr_completed_all_answer answer;
+    run->counts.operations += made;
+    if (made < 2)
+        return nolthewyr_completed(run->client, run->settings, clock, run->found[0]);
+    answer = nolthewyr_completed_all(run->client, run->settings, clock, run->found, made);
+    run->counts.operations -= made - answer.counted;
+    run->lists.dropped += made - answer.counted;
+    return (nolthewyr_client_answer){.number = answer.number, .next = answer.next};
 }
 
 /* Pauses if the step found others in the way: the record is as it was, or a leaf's claim begins anew. The pauses grow until the piece
@@ -127,14 +110,16 @@ static void pause_if_none_came_on(nolthewyr_run *run, const nolthewyr_record *be
 bool nolthewyr_run_step(nolthewyr_run *run)
 {
     const nolthewyr_record record = run->client.record;
-    uint64_t found = 0, before;
+    uint64_t before;
     if (!clock_before(run, &before))
         return true;
-    nolthewyr_operation_answer operation = nolthewyr_operation(run->client, run->settings, before);
-    if (operation.kind != NOLTHEWYR_OPERATION_NONE && !operated(run, operation, &found))
+    size_t count = due(run, before), made = 0;
+    if (count > 0 && !nolthewyr_run_operated(run, count, &made))
         return false;
-    uint64_t after = clock_after(run, operation, before);
-    if (!nolthewyr_run_accepted(run, nolthewyr_completed(run->client, run->settings, after, found), "a step"))
+    if (count > 0 && made == 0)
+        return true;
+    uint64_t after = count > 0 ? clock_after(run, before) : before;
+    if (!nolthewyr_run_accepted(run, completed(run, after, made), "a step"))
         return false;
     pause_if_none_came_on(run, &record);
     return true;

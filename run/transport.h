@@ -14,9 +14,18 @@
 /* Inside the library alone. */
 #pragma GCC visibility push(hidden)
 
-enum nolthewyr_access_kind { NOLTHEWYR_ACCESS_READ, NOLTHEWYR_ACCESS_SWAP };
+/* The most operations that are due together: the nodes that an inner node checks, at distance 4 (document 01). */
+enum { NOLTHEWYR_MOST_AHEAD = 85 };
 
-/* One access to one word. A swap writes `value` if the word is `expected`. Either way `found` is the word as it was before. */
+/* What an access does to its word. Every transport reads and swaps; the other two it may have. */
+enum nolthewyr_access_kind {
+    NOLTHEWYR_ACCESS_READ,
+    NOLTHEWYR_ACCESS_SWAP, /* writes `value` if the word is `expected` */
+    NOLTHEWYR_ACCESS_ADD,  /* adds 1 to one of the two lowest quarters of the word, which wraps by itself: `value` is 1, or 1 << 16 */
+    NOLTHEWYR_ACCESS_FLIP  /* flips the bits of `value` */
+};
+
+/* One access to one word. `found` is the word as it was before; of an add it is the quarter alone, in its place. */
 typedef struct nolthewyr_access {
     enum nolthewyr_access_kind kind;
     uint64_t node; /* node n is word n - 1 */
@@ -36,6 +45,8 @@ struct nolthewyr_transport {
     void (*close)(nolthewyr_transport *transport);
     /* A clock that is true within 1 part in 10,000 among all runs that share the words by this transport. */
     clockid_t clock;
+    size_t together; /* how many accesses it has under way at a time: 1 where it does not know that they are made in order */
+    bool adds, flips;
     char error[NOLTHEWYR_ERROR_SIZE];
 };
 

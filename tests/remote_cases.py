@@ -9,7 +9,7 @@ from time import monotonic, sleep
 from compare import NAMES, case
 from library import SECONDS
 from model.record import Settings
-from remote_runs import MISSING, NETWORK, has_libfabric, memory, run_in_part, running, serving, taken, tried, unclean
+from remote_runs import NETWORK, has_libfabric, memory, run_in_part, running, serving, taken, tried, unclean, without_libfabric
 
 PROCESSES = 4
 # The tree in which a run is killed, and its number.
@@ -21,11 +21,10 @@ BRIEF_HOLD = "20000"
 LONG_WAIT, SHORT_WAIT = Settings(3, 2, 10_000_000, 100_000_000), Settings(3, 2, 200_000, 50_000_000)
 PAUSE, HOLD = "2000000", "1000000"
 # A rule, and whether units are torn without it. With the short wait each pause makes a claim late, unless that is left out.
-LEFT_OUT = ("none", LONG_WAIT, 0), ("wait", LONG_WAIT, 1), ("none", SHORT_WAIT, 0), ("late", SHORT_WAIT, 1)
+LEFT_OUT = ("none", LONG_WAIT, 0), ("wait", LONG_WAIT, 1), ("none", SHORT_WAIT, 0), ("late", SHORT_WAIT, 1), ("climb", SHORT_WAIT, 1)
 
 NAMES["runs of a memory server"] = ("over a network",), ("windows", "torn", "runs that failed", "words not clean")
 NAMES["late claims of these runs"] = (), ("some",)
-NAMES["libfabric"] = (), ("on this machine",)
 NAMES["runs with a rule left out"] = ("place in the list",), ("torn", "runs that failed", "words not clean")
 NAMES["late claims after pauses"] = ("place in the list",), ("some",)
 NAMES["run that is killed"] = (), ("has words", "a word is not clean", "words changed by its end", "units changed by its end")
@@ -40,7 +39,7 @@ def torn_rows(over, settings, windows):
         status = unclean(file)
     counts, network = ran.counts, int(over == NETWORK)
     print(f"    over {over}, T {settings.wait} ns: {counts['late']:.0f} late and {counts['out-of-patience']:.0f} out of patience"
-          f" beside {counts['windows']:.0f} windows, {counts['round-trips']:.0f} round trips")
+          f" beside {counts['windows']:.0f} windows, {counts['round-trips']:.0f} round trips, {counts['dropped']:.0f} reads dropped")
     yield case("runs of a memory server", [network], (windows, 0, 0, 0)), (counts["windows"], counts["torn"], ran.failed, status)
     if not network:
         yield case("late claims of these runs", [], 1), int(counts["late"] > 0)
@@ -54,12 +53,12 @@ def over_network():
     if has_libfabric():
         yield from torn_rows(NETWORK, OVER_NETWORK, 2_000)
     else:
-        print(f"    {MISSING}")
-        yield case("libfabric", [], 0), 0
+        yield from without_libfabric()
 
 
 def left_out():
-    """With the wait or the late test left out units are torn; with the same pauses and none left out they are not."""
+    """With the wait or the late test left out, or a leaf claimed whatever its climb finds, units are torn; with the same pauses and none left out
+    they are not."""
     for place, (rule, settings, torn) in enumerate(LEFT_OUT):
         with serving("memory", settings) as file:
             ran = tried(file, PROCESSES, 400, "--within", "0", "512", "--hold", HOLD, run=run_in_part(), LEFT_OUT=rule, PAUSE=PAUSE)
@@ -68,7 +67,7 @@ def left_out():
               f" beside {ran.counts['windows']:.0f} windows")
         yield case("runs with a rule left out", [place], (torn, 0, 0)), (int(ran.counts["torn"] > 0), ran.failed, status)
         if settings == SHORT_WAIT:
-            yield case("late claims after pauses", [place], int(rule == "none")), int(ran.counts["late"] > 0)
+            yield case("late claims after pauses", [place], int(rule != "late")), int(ran.counts["late"] > 0)
 
 
 def units_of(file, number):

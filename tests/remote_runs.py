@@ -10,6 +10,7 @@ from pathlib import Path
 from tempfile import TemporaryDirectory
 from typing import NamedTuple
 
+from compare import NAMES, case
 from library import ROOT, SECONDS, command, made
 from model import tree, word
 
@@ -17,7 +18,14 @@ NETWORK = "tcp;ofi_rxm"
 MISSING = "libfabric is not on this machine, so that no run goes over a network here; on Debian and Ubuntu: apt-get install libfabric-dev"
 CHECKED_C = "gcc", "-std=c11", "-D_GNU_SOURCE", "-O2", "-Wall", "-Wextra", "-Werror", "-I", "include"
 # The names that rangerun prints, in its order.
-PRINTED = "windows", "torn", "late", "out-of-patience", "operations", "swaps", "round-trips", "seconds"
+PRINTED = (
+    "windows", "torn", "late", "out-of-patience", "operations", "added", "flipped", "dropped", "swaps", "together", "round-trips", "seconds",
+)
+
+# The calls that tests/broken_run.c takes the place of, and what its own are called.
+REPLACED = {"completed": "completed", "completed_all": "completed_all", "operations_ahead": "ahead"}
+
+NAMES["libfabric"] = (), ("on this machine",)
 
 
 class Tried(NamedTuple):
@@ -38,6 +46,12 @@ def has_libfabric():
     return subprocess.run(["gcc", "-E", "-include", "rdma/fabric.h", "-x", "c", os.devnull], capture_output=True).returncode == 0
 
 
+def without_libfabric():
+    """In place of the cases of a network."""
+    print(f"    {MISSING}")
+    yield case("libfabric", [], 0), 0
+
+
 def build_with_run(built, source):
     """Builds a program of one source in C with the library of runs."""
     libraries = [made("build/libnolthewyr_run.a"), made("build/libnolthewyr.a"), *["-lfabric"] * has_libfabric()]
@@ -46,13 +60,14 @@ def build_with_run(built, source):
 
 @lru_cache(maxsize=None)
 def run_in_part():
-    """`rangerun` with tests/broken_run.c between the proved completion and the one place in run/ that calls it, as the Makefile builds it."""
+    """`rangerun` with tests/broken_run.c between the proved calls and the places in run/ that call them, as the Makefile builds it."""
     folder = Path("target/tests/in_part")
     (ROOT / folder).mkdir(parents=True, exist_ok=True)
     between, library, built = (folder / name for name in ("broken_run.o", "libnolthewyr.a", "rangerun"))
     command(*CHECKED_C, "-c", "tests/broken_run.c", "-o", between)
     (ROOT / built).unlink(missing_ok=True)  # make knows nothing of what stands between
-    command("make", "--silent", f"BUILT={folder}", "CFLAGS=-O2 -Dnolthewyr_completed=completed_in_part", f"LDLIBS={between} {library}", built)
+    replaced = " ".join(f"-Dnolthewyr_{call}={own}_in_part" for call, own in REPLACED.items())
+    command("make", "--silent", f"BUILT={folder}", f"CFLAGS=-O2 {replaced}", f"LDLIBS={between} {library}", built)
     return ROOT / built
 
 

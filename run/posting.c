@@ -1,0 +1,182 @@
+/* Posts accesses to words and units over libfabric, and waits until they are completed. A word is read by FI_ATOMIC_READ, swapped by FI_CSWAP,
+ * added to by FI_SUM of 16 bits, and flipped by FI_BXOR; units go by fi_read and fi_write. All accesses to words fetch: so no provider may
+ * tell one done before it is. */
+
+#include "fabric.h"
+
+#include <rdma/fi_atomic.h>
+#include <rdma/fi_errno.h>
+#include <rdma/fi_rma.h>
+#include <sched.h>
+#include <stdio.h>
+#include <string.h>
+
+/* A server that answers nothing for so many seconds is taken to be gone. So many completions are looked for at once. */
+enum { SECONDS = 10, LOOKED_FOR = 16 };
+
+/* What is posted: an access to a word, whose kinds stand first and as transport.h has them, or a chunk of units. */
+enum kind { READ_WORD, SWAP_WORD, ADD_TO_WORD, FLIP_BITS, READ_UNITS, WRITE_UNITS };
+
+typedef struct posting {
+    enum kind kind;
+    size_t place;  /* of an access in its list */
+    uint64_t at;   /* where on the server */
+    uint64_t size; /* of a chunk, in bytes */
+} posting;
+
+static bool failed(nolthewyr_fabric *over, enum kind kind, ssize_t answer)
+{
+    static const char *const names[] = {"the read of a word", "the swap of a word",  "the add to a word",
+                                        "the flip of bits",   "the read of units", "the write of units"};
+    over->broken = true;
+    snprintf(over->transport.error, NOLTHEWYR_ERROR_SIZE, "over %s: %s: %s", over->local.info->fabric_attr->prov_name, names[kind],
+             answer == -FI_ETIMEDOUT ? "the server does not answer" : fi_strerror((int)(answer < 0 ? -answer : answer)));
+    return false;
+}
+
+/* Posts an access that fetches and compares nothing. */
+static ssize_t fetching(nolthewyr_fabric *over, posting post, enum fi_datatype type, enum fi_op operation)
+{
+    void *value = &over->buffers->words[post.place].value, *found = &over->buffers->words[post.place].found, *local = over->descriptor;
+    return fi_fetch_atomic(over->local.endpoint, value, 1, local, found, local, over->server, post.at, over->words.key, type, operation, NULL);
+}
+
+/* FI_EAGAIN: the provider is to be driven before it takes more. */
+static ssize_t posted(nolthewyr_fabric *over, posting post)
+{
+    nolthewyr_buffers *room = over->buffers;
+    struct fid_ep *from = over->local.endpoint;
+    void *local = over->descriptor;
+    switch (post.kind) {
+    case READ_WORD:
+        return fetching(over, post, FI_UINT64, FI_ATOMIC_READ);
+    case SWAP_WORD:
+        return fi_compare_atomic(from, &room->words[post.place].value, 1, local, &room->words[post.place].expected, local,
+                                 &room->words[post.place].found, local, over->server, post.at, over->words.key, FI_UINT64, FI_CSWAP, NULL);
+    case ADD_TO_WORD:
+        return fetching(over, post, FI_UINT16, FI_SUM);
+    case FLIP_BITS:
+        return fetching(over, post, FI_UINT64, FI_BXOR);
+    case READ_UNITS:
+        return fi_read(from, room->units, post.size, local, over->server, post.at, over->units.key, NULL);
+    default:
+        return fi_write(from, room->units, post.size, local, over->server, post.at, over->units.key, NULL);
+    }
+}
+
+/* Drives the provider: how much of what was posted is completed since, FI_EAGAIN if nothing. The processor is then handed on, since the
+ * server may need it. */
+static ssize_t driven(nolthewyr_fabric *over)
+{
+    struct fi_cq_entry entries[LOOKED_FOR];
+    struct fi_cq_err_entry error = {0};
+    ssize_t answer = fi_cq_read(over->local.completions, entries, LOOKED_FOR);
+    if (answer == -FI_EAGAIN)
+        sched_yield();
+    if (answer == -FI_EAVAIL && fi_cq_readerr(over->local.completions, &error, 0) == 1)
+        return -error.err;
+    return answer;
+}
+
+static time_t seconds(void)
+{
+    struct timespec now;
+    clock_gettime(CLOCK_MONOTONIC, &now);
+    return now.tv_sec;
+}
+
+/* Posts all in their order, and waits until all are completed. Which was completed does not matter: nothing else is under way. */
+static bool made(nolthewyr_fabric *over, const posting *list, size_t count)
+{
+    size_t sent = 0, completed = 0;
+    time_t begun = seconds();
+    while (completed < count) {
+        ssize_t answer = sent < count ? posted(over, list[sent]) : -FI_EAGAIN;
+        if (answer == 0) {
+            sent++;
+            continue;
+        }
+        if (answer == -FI_EAGAIN)
+            answer = driven(over);
+        if (answer == -FI_EAGAIN && seconds() - begun > SECONDS)
+            answer = -FI_ETIMEDOUT;
+        if (answer > 0)
+            completed += (size_t)answer;
+        else if (answer != -FI_EAGAIN)
+            return failed(over, list[sent < count ? sent : count - 1].kind, answer);
+    }
+    return true;
+}
+
+/* Lays an access into its buffers, and gives its posting. An add of 16 bits is to that quarter of the word, in which bit 16 is at byte 2, and
+ * only so much comes back. */
+static posting laid(nolthewyr_fabric *over, const nolthewyr_access *access, size_t place)
+{
+    uint64_t at = over->words.base + (access->node - 1) * sizeof(uint64_t), quarter = access->value > 1 ? 2 : 0;
+    bool adds = access->kind == NOLTHEWYR_ACCESS_ADD;
+    over->buffers->words[place].value = adds ? 1 : access->value;
+    over->buffers->words[place].expected = access->expected;
+    over->buffers->words[place].found = 0;
+    return (posting){.kind = (enum kind)access->kind, .place = place, .at = adds ? at + quarter : at};
+}
+
+/* What came back of an access. */
+static uint64_t found_by(const nolthewyr_fabric *over, const nolthewyr_access *access, size_t place)
+{
+    uint64_t found = over->buffers->words[place].found;
+    return access->kind == NOLTHEWYR_ACCESS_ADD ? found * access->value : found;
+}
+
+/* Makes as many accesses as may be under way at a time, in one round trip. */
+static bool made_together(nolthewyr_fabric *over, nolthewyr_access *list, size_t count)
+{
+    posting postings[NOLTHEWYR_MOST_AHEAD];
+    for (size_t place = 0; place < count; place++)
+        postings[place] = laid(over, &list[place], place);
+    if (over->broken || !made(over, postings, count))
+        return false;
+    for (size_t place = 0; place < count; place++)
+        list[place].found = found_by(over, &list[place], place);
+    return true;
+}
+
+bool nolthewyr_fabric_execute(nolthewyr_transport *transport, nolthewyr_access *list, size_t count)
+{
+    for (size_t from = 0; from < count; from += transport->together) {
+        size_t left = count - from;
+        if (!made_together((nolthewyr_fabric *)transport, list + from, left < transport->together ? left : transport->together))
+            return false;
+    }
+    return true;
+}
+
+/* The posting of the units [first + from, first + count), or of as many of them as go in one. */
+static posting chunk_of(const nolthewyr_fabric *over, enum kind kind, uint64_t first, uint64_t from, uint64_t count)
+{
+    uint64_t size = count - from < over->chunk ? count - from : over->chunk;
+    return (posting){.kind = kind, .at = over->units.base + (first + from) * sizeof(uint64_t), .size = size * sizeof(uint64_t)};
+}
+
+bool nolthewyr_fabric_read(nolthewyr_transport *transport, uint64_t first, uint64_t count, uint64_t *units)
+{
+    nolthewyr_fabric *over = (nolthewyr_fabric *)transport;
+    for (uint64_t from = 0; from < count; from += over->chunk) {
+        posting post = chunk_of(over, READ_UNITS, first, from, count);
+        if (over->broken || !made(over, &post, 1))
+            return false;
+        memcpy(units + from, over->buffers->units, post.size);
+    }
+    return true;
+}
+
+bool nolthewyr_fabric_write(nolthewyr_transport *transport, uint64_t first, uint64_t count, const uint64_t *units)
+{
+    nolthewyr_fabric *over = (nolthewyr_fabric *)transport;
+    for (uint64_t from = 0; from < count; from += over->chunk) {
+        posting post = chunk_of(over, WRITE_UNITS, first, from, count);
+        memcpy(over->buffers->units, units + from, post.size);
+        if (over->broken || !made(over, &post, 1))
+            return false;
+    }
+    return true;
+}
