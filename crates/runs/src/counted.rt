@@ -23,7 +23,8 @@ fn same(o: Operation, p: Operation) -> bool
         & (o.value == p.value)
 }
 
-// An operation that was posted counts if it is the client's next step and is accepted: number 0 and the client after it; else 1, and the client as it was.
+// An operation that was posted counts if it is the client's next step and is accepted: number 0 and the client after it; else 1, and the client as it was. The completion tests the client, so that its operation
+// needs no test of its own.
 fn one_counted(
     client: Client,
     settings: Settings,
@@ -33,16 +34,19 @@ fn one_counted(
 ) -> Stepped
     ensures { λ d. ⌜ d ≡ oneCounted settings clock client posted found ⌝ }
 {
-    if same(client.operation(settings, clock), posted) {
-        let stepped = client.completed(settings, clock, found);
-        if stepped.number == 0 {
-            return stepped;
-        }
-    }
-    Stepped {
+    let stepped = client.completed(settings, clock, found);
+    let left = Stepped {
         number: 1,
         next: client,
+    };
+    if stepped.number != 0 {
+        return left;
     }
+    let own = client.record;
+    if same(own.operation(settings, clock), posted) {
+        return stepped;
+    }
+    left
 }
 
 // One operation after another, up to the first that does not count. There is one at least, and `count` of them have a word.

@@ -10,13 +10,16 @@ use lib.ListN.{length, getD, drop, drop-of-length-le}
 use lib.Seq.{drop-cons}
 use borrow.Author.Tests.{eq-eqb, ne-eqb}
 use Rattle.base.specs.rules.Choice.{choose}
-use Rattle.base.specs.laws.ChoiceLaws.{by-lt}
+use Rattle.base.specs.laws.ChoiceLaws.{by-lt, by-eq}
+use Rattle.base.specs.laws.TestLaws.{second-false}
 use Rattle.lock.specs.declared.Client.{Client}
 use Rattle.lock.specs.declared.Operation.{Operation}
 use Rattle.lock.specs.declared.Settings.{Settings}
 use Rattle.lock.specs.declared.Stepped.{Stepped}
 use Rattle.lock.specs.rules.Calls.{firstCause}
-use Rattle.lock.specs.rules.Operations.{postTests, operationAnswer, completedAnswer}
+use Rattle.lock.specs.rules.Steps.{touched, access}
+use Rattle.lock.specs.rules.Operations.{operationAt, postTests, operationAnswer, completedAnswer}
+use Rattle.lock.specs.laws.OperationLaws.{operation-found, completed-refused}
 use Rattle.runs.specs.declared.CompletedAll.{CompletedAll}
 use Rattle.runs.specs.rules.Ahead.{same, Counted, nothingMore, along, aheadOf, firstNumber, completedAllAnswer}
 use Rattle.runs.specs.laws.Standing.{noOperation}
@@ -36,23 +39,26 @@ module _ (s : Settings) (t : ℕ) (c : Client) (o : Operation) (w : ℕ) where
   abbrev left : Stepped
   left = record { number = 1; next = c }
 
-  -- as the code tests it
-  pub not-same : same (operationAnswer s c t) o ≡ false → left ≡ oneCounted s t c o w
+  -- as the code tests it: the completion first
+  pub not-taken : (completedAnswer s c t w .number ≡ 0 → ⊥) → left ≡ oneCounted s t c o w
   unfolding oneCounted choose
-  not-same e = sym (ap (λ (b : Bool). choose (b && eqb (completedAnswer s c t w .number) 0) taken left) e)
+  not-taken d = sym (ap (λ (b : Bool). choose b taken left) (second-false (same (operationAnswer s c t) o) _ (ne-eqb _ 0 d)))
 
-  module _ (e : same (operationAnswer s c t) o ≡ true) where
-    by-number : choose (eqb (completedAnswer s c t w .number) 0) taken left ≡ oneCounted s t c o w
+  module _ (z : completedAnswer s c t w .number ≡ 0) where
+    -- the tests of the client were passed
+    pub passed : firstCause (postTests s c t) ≡ 0
+    passed = by-eq (firstCause (postTests s c t)) 0 (λ e. e) (λ d. absurd (d (ap (λ (x : Stepped). x .number) (completed-refused s c t _ refl w d) ∙ z)))
+
+    pub its-operation : operationAt (touched s (c .«record») t) (access s (c .«record») t) ≡ operationAnswer s c t
+    its-operation = operation-found s c t _ refl passed
+
+    pub is-taken : same (operationAnswer s c t) o ≡ true → taken ≡ oneCounted s t c o w
     unfolding oneCounted choose
-    by-number = sym (ap (λ (b : Bool). choose (b && eqb (completedAnswer s c t w .number) 0) taken left) e)
+    is-taken e = sym (λ i. choose (e i && eq-eqb _ 0 z i) taken left)
 
-    pub not-taken : (completedAnswer s c t w .number ≡ 0 → ⊥) → left ≡ oneCounted s t c o w
-    unfolding choose
-    not-taken d = sym (ap (λ (b : Bool). choose b taken left) (ne-eqb _ 0 d)) ∙ by-number
-
-    pub is-taken : completedAnswer s c t w .number ≡ 0 → taken ≡ oneCounted s t c o w
-    unfolding choose
-    is-taken z = sym (ap (λ (b : Bool). choose b taken left) (eq-eqb _ 0 z)) ∙ by-number
+    pub not-same : same (operationAnswer s c t) o ≡ false → left ≡ oneCounted s t c o w
+    unfolding oneCounted choose
+    not-same e = sym (ap (λ (b : Bool). choose (b && eqb (completedAnswer s c t w .number) 0) taken left) e)
 
   module _ (os : List Operation) (ws : List ℕ) where
     abbrev onward : Counted
