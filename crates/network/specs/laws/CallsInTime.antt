@@ -3,13 +3,13 @@ use mathlib.Core.Path.{_≡_, refl, sym, ap, subst, _∙_}
 use mathlib.Core.Logic.{_≢_, _⊎_, inl, inr, ⊎-elim}
 use mathlib.Core.Bool.{Bool, true, false, _&&_, _||_}
 use mathlib.Core.List.{List, [], _∷_, _++_, map}
-use Prim.Native.Nat.{ℕ, _+_, _≤_, _<_, max}
+use Prim.Native.Nat.{ℕ, _+_, _≤_, _<_}
 use native.Mathlib.Omega.{arith}
 use borrow.Author.Tests.{leb-true, eqb-true}
 use lib.Dec.{eqb, leb}
 use Rattle.base.specs.rules.Choice.{choose}
 use Rattle.base.specs.laws.ChoiceLaws.{on-choose}
-use Rattle.base.specs.laws.TestLaws.{by-test, both-true, second-false}
+use Rattle.base.specs.laws.TestLaws.{test-true, test-false, by-test, both-true, second-false}
 use Rattle.lock.specs.declared.Client.{Client}
 use Rattle.lock.specs.declared.Operation.{Operation}
 use Rattle.lock.specs.declared.Record.{Record}
@@ -118,23 +118,37 @@ module _ (s : Settings) (clocks : ℕ → ℕ → ℕ) (net : Network) (kept : K
         later-below s q (rd .active .window) (rd .active .cover) (q .current) some (rd .active .exists)
 
     -- the clock: as read, or late in any case
-    by-claim : (u ≡ clocks c (readingOf (clientOn net c) m n)) ⊎ (((q .phase ≡ 5) ⊎ (q .phase ≡ 6)) × LateAt s q u)
-    unfolding completing choose
-    by-claim =
-        by-test (claims r)
-        (λ a. by-test (outOfPatience s r (clocks c n))
-        (λ out. let late : u ≡ max (clocks c m) (r .t1 + s .wait) = is ∙ (λ i. choose (a i) (choose (out i) (max (clocks c m) (r .t1 + s .wait)) (clocks c n)) (clocks c m)) in
+    abbrev Read : ℕ → Type 0
+    Read t = (t ≡ clocks c (readingOf (clientOn net c) m n)) ⊎ (((q .phase ≡ 5) ⊎ (q .phase ≡ 6)) × LateAt s q t)
+
+    -- where the list claims its clock is read after it, else before
+    read-after : claims r ≡ true → clocks c n ≡ clocks c (readingOf (clientOn net c) m n)
+    unfolding choose
+    read-after a = ap (λ (x : Bool). clocks c (choose x n m)) (sym a)
+
+    read-before : claims r ≡ false → clocks c m ≡ clocks c (readingOf (clientOn net c) m n)
+    unfolding choose
+    read-before a = ap (λ (x : Bool). clocks c (choose x n m)) (sym a)
+
+    late : claims r ≡ true → outOfPatience s r (clocks c n) ≡ true → (t : ℕ) → r .t1 + s .wait ≤ t → LateAt s q t
+    late a out t b =
         let claiming : claims q ≡ true = alike .claiming ∙ a in
-        inr (claims-phase q claiming, (omega (arith, late, alike .kept a .0), later-piece claiming (omega (arith, alike .kept a .1, out-of-patience s r (clocks c n) out .later)))))
-        (λ out. inl (is ∙ (λ i. choose (a i) (choose (out i) (max (clocks c m) (r .t1 + s .wait)) (clocks c n)) (clocks c m)) ∙ ap (λ (x : Bool). clocks c (choose x n m)) (sym a))))
-        (λ a. inl (is ∙ ap (λ (x : Bool). choose x (choose (outOfPatience s r (clocks c n)) (max (clocks c m) (r .t1 + s .wait)) (clocks c n)) (clocks c m)) a ∙ ap (λ (x : Bool). clocks c (choose x n m)) (sym a)))
+        (omega (arith, b, alike .kept a .0), later-piece claiming (omega (arith, alike .kept a .1, out-of-patience s r (clocks c n) out .later)))
+
+    by-claim : Read u
+    unfolding completing
+    by-claim =
+        subst Read (sym is)
+        (on-choose Read (claims r) _ _
+        (λ a. let yes = test-true (claims r) a in
+        on-choose Read (outOfPatience s r (clocks c n)) _ _ (λ out. inr (claims-phase q (alike .claiming ∙ yes), late yes (test-true _ out) _ (omega arith))) (λ _. inl (read-after yes)))
+        (λ a. inl (read-before (test-false (claims r) a))))
 
     carried-read : ReadOne s clocks p q (step c u) (record { touch = at; reading = readingOf (clientOn net c) m n })
     unfolding clientOf choose
     carried-read = record {
       onward = b;
-      clock = λ d t f. subst (λ (x : ℕ). (t ≡ clocks x (readingOf (clientOn net c) m n)) ⊎ (((q .phase ≡ 5) ⊎ (q .phase ≡ 6)) × LateAt s q t)) (ap clientOf f)
-          (subst (λ (x : ℕ). (x ≡ clocks c (readingOf (clientOn net c) m n)) ⊎ (((q .phase ≡ 5) ⊎ (q .phase ≡ 6)) × LateAt s q x)) (ap clockOf f) by-claim);
+      clock = λ d t f. subst (λ (x : ℕ). (t ≡ clocks x (readingOf (clientOn net c) m n)) ⊎ (((q .phase ≡ 5) ⊎ (q .phase ≡ 6)) × LateAt s q t)) (ap clientOf f) (subst Read (ap clockOf f) by-claim);
       read-first = λ z. let a : claims r ≡ false = sym (alike .claiming) ∙ phase-early q z in omega (arith, ap (λ (x : Bool). choose x n m) a, first);
       touched-first = λ z. let a : claims r ≡ true = sym (alike .claiming) ∙ phase-claims q z in omega (arith, ap (λ (x : Bool). choose x n m) a, last);
     }
