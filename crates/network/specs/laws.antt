@@ -8,7 +8,6 @@ pub mod Counted
 pub mod InTimeLaws
 pub mod Leading
 pub mod OnState
-pub mod OperationLists
 pub mod ReadOnce
 pub mod SameOperation
 pub mod Shown

@@ -49,7 +49,7 @@ fn one_counted(
     left
 }
 
-// One operation after another, up to the first that does not count. There is one at least, and `count` of them have a word.
+// One operation after another, up to the first that does not count. There is one at least, and `count` of them have a word. The first is the client's next step in any case, and may be refused by 9.
 pub fn counted_along(
     client: Client,
     settings: Settings,
@@ -60,16 +60,23 @@ pub fn counted_along(
     requires { ⌜ (0 < count) × (count ≡ min (length (now found)) (length (aheadOf settings client clock))) ⌝ }
     ensures { λ a. ⌜ a ≡ completedAllAnswer settings client clock (now (found .entry)) ⌝ }
 {
-    let own = client.record;
     let first = client.completed(settings, clock, found[0]);
-    let mut after = client;
-    let mut i = 0;
+    if first.number != 0 {
+        return CompletedAll {
+            number: first.number,
+            counted: 0,
+            next: client,
+        };
+    }
+    let mut after = first.next;
+    let mut i = 1;
     while i < count {
+        let own = client.record;
         let posted = operation_ahead(own, settings, i as u64);
         let one = one_counted(after, settings, clock, posted, found[i]);
         if one.number != 0 {
             return CompletedAll {
-                number: first.number,
+                number: 0,
                 counted: i as u64,
                 next: after,
             };
@@ -78,7 +85,7 @@ pub fn counted_along(
         i = i + 1;
     }
     CompletedAll {
-        number: first.number,
+        number: 0,
         counted: i as u64,
         next: after,
     }

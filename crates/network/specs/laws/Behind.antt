@@ -26,7 +26,7 @@ use Rattle.lock.specs.laws.Pieces.{grip-before, grip-current, grip-after, notic
 use Rattle.lock.specs.laws.Ready.{Ready}
 use Rattle.runs.specs.rules.Ahead.{standing, walk, givesBack, aheadIn}
 use Rattle.network.specs.rules.Clocks.{claims}
-use Rattle.network.specs.laws.OperationLists.{Leads, Reads, none-some, rest-same, reads-rest, nothing-behind, joined, past-place}
+use Rattle.runs.specs.laws.OperationLists.{Leads, Reads, none-some, rest-same, reads-rest, nothing-behind, joined, past-place}
 use Rattle.network.specs.laws.Leading.{Onward, Behind, reads-climb, reads-check, read-behind, claim-behind, notify-behind}
 
 -- 10: what more pieces would add stands behind

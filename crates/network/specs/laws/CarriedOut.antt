@@ -20,14 +20,14 @@ use Rattle.lock.specs.rules.Calls.{firstCause}
 use Rattle.lock.specs.rules.Steps.{completed, moved}
 use Rattle.lock.specs.rules.Operations.{postTests, operationAnswer, completedAnswer}
 use Rattle.lock.specs.laws.OperationLaws.{completed-taken}
+use Rattle.runs.specs.laws.FirstDue.{not-empty, first-due, same-itself, same-equal}
 use Rattle.runs.specs.rules.Ahead.{aheadOf, same, Counted, nothingMore, oneMore, along}
 use Rattle.network.specs.rules.Clocks.{claims}
 use Rattle.runs.specs.laws.AlongLaws.{no-words}
 use Rattle.network.specs.laws.Counted.{due, after, along-one, along-on, along-stopped}
 use Rattle.network.specs.laws.Leading.{Alike}
-use Rattle.network.specs.laws.OperationLists.{Leads, Reads, joined}
-use Rattle.network.specs.laws.SameOperation.{same-itself, same-equal}
-use Rattle.network.specs.laws.Underway.{not-empty, first-due, then, read-unclaimed}
+use Rattle.runs.specs.laws.OperationLists.{Leads, Reads, joined}
+use Rattle.network.specs.laws.Underway.{then, read-unclaimed}
 
 reads-front : (os rest : List Operation) → Reads (os ++ rest) → Reads os
 unfolding Reads

@@ -1,4 +1,4 @@
--- Laws of the lists that are posted together: the first of a list is the client's next step; and what stands behind a claim or a notice leads on: it is again what the client would post next. Assumes nothing.
+-- Laws of the lists that are posted together: what stands behind a claim or a notice leads on: it is again what the client would post next. Assumes nothing.
 use mathlib.Core.Path.{_≡_, refl, sym, ap, subst, _∙_}
 use mathlib.Core.Logic.{_⊎_, inl, inr}
 use mathlib.Core.Bool.{Bool, true, false, _&&_, _||_}
@@ -24,7 +24,7 @@ use Rattle.lock.specs.laws.Phases.{on-phase, at-notify}
 use Rattle.lock.specs.laws.Ready.{Ready}
 use Rattle.runs.specs.rules.Ahead.{standing, walk, givesBack, aheadIn}
 use Rattle.network.specs.rules.Clocks.{claims}
-use Rattle.network.specs.laws.OperationLists.{Leads, Reads, none-some, first-same, reads-mapped, nothing-behind, by-place, past-place}
+use Rattle.runs.specs.laws.OperationLists.{Leads, Reads, none-some, first-same, reads-mapped, nothing-behind, by-place, past-place}
 
 module _ (s : Settings) (r : Record) where
   -- ---- climb and check read
@@ -36,40 +36,6 @@ module _ (s : Settings) (r : Record) where
   pub reads-check : (i : ℕ) → Reads (walk s r check i)
   unfolding walk standing accessIn operationAt
   reads-check i = reads-mapped (standing s r check) (λ _. refl) (row (listLength s r check - i) i)
-
-  -- ---- the first of a list is the record's own operation
-
-  abbrev First : Phase → Type 0
-  First p = (o : Operation) (l : List Operation) → aheadIn s r p ≡ o ∷ l → o ≡ operationAt (touchedIn s r p) (accessIn s r p)
-
-  walk-first : (p : Phase) (o : Operation) (l : List Operation) → walk s r p (r .place) ≡ o ∷ l → o ≡ operationAt (touchedIn s r p) (accessIn s r p)
-  unfolding walk standing
-  walk-first p o l e = by-place (standing s r p) (listLength s r p) (r .place) o l e .0
-
-  back-first : (count : ℕ) (o : Operation) (l : List Operation) → givesBack count s r ≡ o ∷ l → r .place < listLength s r returning → o ≡ operationAt (touchedIn s r returning) (accessIn s r returning)
-  unfolding givesBack walk standing row
-  back-first zero o l e b = absurd (none-some o l e)
-  back-first (suc count) o l e b =
-      let k : listLength s r returning - r .place ≡ suc (listLength s r returning - suc (r .place)) = omega arith in
-      let behind = choose (eqb (gripOf r (suc (r .giving))) 0) [] (givesBack count s (withPlace 0 (withGiving (suc (r .giving)) r))) in
-      sym (first-same _ _ _ _ (ap (λ (x : ℕ). map (standing s r returning) (row x (r .place)) ++ behind) (sym k) ∙ e))
-
-  pub own-first : (last : ℕ) → Ready s r last → First (phaseOf (r .phase))
-  unfolding aheadIn standing touchedIn accessIn claimAccess listLength pieceAt pieces
-  own-first last rd =
-      on-phase (r .phase) First
-      (λ e o l q. absurd (none-some o l q))
-      (λ e o l q. sym (first-same _ _ _ _ q))
-      (λ e o l q. sym (first-same _ _ _ _ q))
-      (λ e o l q. walk-first climb o l q)
-      (λ e o l q. sym (first-same _ _ _ _ q))
-      (λ e o l q. sym (first-same _ _ _ _ q))
-      (λ e o l q. walk-first notify o l q)
-      (λ e o l q. absurd (none-some o l q))
-      (λ e o l q. walk-first check o l q)
-      (λ e o l q. absurd (none-some o l q))
-      (λ e o l q. back-first (length (pieces r)) o l q (omega (arith, rd .active .returning e)))
-      (λ e o l q. absurd (none-some o l q))
 
   -- ---- what stands behind it
 

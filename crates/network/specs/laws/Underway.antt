@@ -25,56 +25,12 @@ use Rattle.lock.specs.laws.PatienceLaws.{own-touched}
 use Rattle.lock.specs.laws.Phases.{at-idle, at-claim, at-notify}
 use Rattle.lock.specs.laws.Ready.{Ready, ready}
 use Rattle.lock.specs.laws.SettledLaws.{settled}
+use Rattle.runs.specs.laws.FirstDue.{NotEmpty, ahead-is, is-ready}
 use Rattle.runs.specs.rules.Ahead.{aheadIn, aheadOf}
 use Rattle.network.specs.rules.Clocks.{claims}
 use Rattle.network.specs.laws.Behind.{behind}
-use Rattle.network.specs.laws.Leading.{Alike, own-first}
-use Rattle.network.specs.laws.OperationLists.{Leads, Reads, none-some}
-
--- ---- a list that is not empty
-
-module _ (s : Settings) (c : Client) (u : ℕ) where
-  abbrev r : Record
-  r = c .«record»
-
-  abbrev own : List Operation
-  own = aheadIn s r (phaseOf (r .phase))
-
-  -- what it shows
-  pub record NotEmpty (o : Operation) (l : List Operation) : Type 0 where
-    pub passed : firstCause (postTests s c u) ≡ 0
-    pub patient : outOfPatience s r u ≡ false
-    pub listed : own ≡ o ∷ l
-
-  pub not-empty : (o : Operation) (l : List Operation) → aheadOf s c u ≡ o ∷ l → NotEmpty o l
-  unfolding aheadOf choose
-  not-empty o l e =
-      by-test (eqb (firstCause (postTests s c u)) 0)
-      (λ a. by-test (outOfPatience s r u)
-      (λ b. absurd (none-some o l ((λ i. choose (sym a i) (choose (sym b i) [] own) []) ∙ e)))
-      (λ b. record { passed = eqb-true _ 0 a; patient = b; listed = (λ i. choose (sym a i) (choose (sym b i) [] own) []) ∙ e }))
-      (λ a. absurd (none-some o l ((λ i. choose (sym a i) (choose (outOfPatience s r u) [] own) []) ∙ e)))
-
-  pub ahead-is : firstCause (postTests s c u) ≡ 0 → outOfPatience s r u ≡ false → aheadOf s c u ≡ own
-  unfolding aheadOf choose
-  ahead-is a b = λ i. choose (eq-eqb _ 0 a i) (choose (b i) [] own) []
-
-  module _ (o : Operation) (l : List Operation) (v : NotEmpty o l) where
-    awake : r .phase ≢ 0
-    unfolding aheadIn
-    awake e = none-some o l (ap (aheadIn s r) (sym (at-idle (r .phase) e)) ∙ v .listed)
-
-    is-ready : Ready s r (c .clock)
-    is-ready =
-        let t = post-tested s c u _ refl in
-        ready s r (c .clock) (settled s (t .settings (v .passed))) (t .readable (v .passed)) awake
-
-    -- the first of the list is the client's next step
-    pub first-due : o ≡ operationAnswer s c u
-    first-due =
-        own-first s r (c .clock) is-ready o l (v .listed)
-        ∙ ap₂ operationAt (sym (own-touched s r u (v .patient))) (sym (patient-access s r u (v .patient)))
-        ∙ operation-found s c u _ refl (v .passed)
+use Rattle.network.specs.laws.Leading.{Alike}
+use Rattle.runs.specs.laws.OperationLists.{Leads, Reads, none-some}
 
 module _ (s : Settings) (c : Client) (u : ℕ) (o : Operation) (l : List Operation) (v : NotEmpty s c u o l) where
   abbrev of : Record

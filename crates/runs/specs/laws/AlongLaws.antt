@@ -1,5 +1,5 @@
 -- Laws of what counts of operations posted together, as a loop finds it one after another. Assumes nothing.
-use mathlib.Core.Path.{_≡_, refl, sym, ap, ap₂, _∙_}
+use mathlib.Core.Path.{_≡_, refl, sym, ap, ap₂, subst, _∙_}
 use mathlib.Core.Bool.{Bool, true, false, _&&_}
 use mathlib.Core.List.{List, [], _∷_}
 use Prim.Native.Nat.{ℕ, suc, _+_, _≤_, _<_, min}
@@ -22,6 +22,7 @@ use Rattle.lock.specs.rules.Operations.{operationAt, postTests, operationAnswer
 use Rattle.lock.specs.laws.OperationLaws.{operation-found, completed-refused}
 use Rattle.runs.specs.declared.CompletedAll.{CompletedAll}
 use Rattle.runs.specs.rules.Ahead.{same, Counted, nothingMore, along, aheadOf, firstNumber, completedAllAnswer}
+use Rattle.runs.specs.laws.FirstDue.{same-itself, not-empty, first-due}
 use Rattle.runs.specs.laws.Standing.{noOperation}
 
 -- whether an operation that was posted counts, and the client after it: number 0, or 1 and the client as it was
@@ -166,3 +167,25 @@ module _ (s : Settings) (c : Client) (t : ℕ) (ws : List ℕ) where
   pub none-counted : (n : ℕ) → min (length ws) (length all) ≡ 0 → n ≡ firstCause (postTests s c t) → record { number = n; counted = 0; next = c } ≡ completedAllAnswer s c t ws
   unfolding completedAllAnswer
   none-counted n b e = ap₂ answer (e ∙ first-caused all ws b) (sym (ends s t whole all ws c 0 starts (omega arith)))
+
+  -- the first is the client's next step in any case
+  first-is : 0 < length all → same (operationAnswer s c t) (getD all 0 noOperation) ≡ true
+  first-is b =
+      let o = getD all 0 noOperation in
+      let l = drop 1 all in
+      let due = first-due s c t o l (not-empty s c t o l (drop-cons all 0 noOperation b)) in
+      subst (λ (p : Operation). same p o ≡ true) due (same-itself o)
+
+  abbrev found : ℕ
+  found = getD ws 0 0
+
+  pub begins : 0 < min (length ws) (length all) → completedAnswer s c t found .number ≡ 0 → SoFar s t whole all ws (completedAnswer s c t found .next) 1
+  begins b z =
+      let o = getD all 0 noOperation in
+      let one = is-taken s t c o found z (first-is (omega arith)) in
+      subst (λ (x : Stepped). SoFar s t whole all ws (x .next) 1) (sym one) (goes-on s t whole all ws c 0 starts (omega arith) (omega arith) (sym (ap (λ (x : Stepped). x .number) one)))
+
+  pub first-refused : 0 < min (length ws) (length all) → (completedAnswer s c t found .number ≡ 0 → ⊥) → whole ≡ record { count = 0; next = c }
+  first-refused b d =
+      let o = getD all 0 noOperation in
+      stops s t whole all ws c 0 starts (omega arith) (omega arith) (λ z. omega (arith, z, ap (λ (x : Stepped). x .number) (not-taken s t c o found d)))
