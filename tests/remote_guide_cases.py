@@ -4,9 +4,10 @@ import re
 
 from compare import NAMES, case
 from library import ROOT
-from model import calls, tree, word
+from model import ahead, calls, operations, tree, word
 from model.fresh import Sparse
 from model.record import IDLE_CLIENT, Settings
+from remote_trips import ALL, ONE, windows_of
 
 GUIDE = (ROOT / "docs" / "REMOTE.md").read_text()
 LONGEST = 2 ** 32 - 1
@@ -20,6 +21,8 @@ TABLE_OF_VERBS = {
 NAMES["boundaries of fields in docs/REMOTE.md"] = (), ("mask",)
 NAMES["add in docs/REMOTE.md"] = ("place in the table",), ("value",)
 NAMES["round trips in docs/REMOTE.md"] = ("levels", "distance"), ("from t1 to the last notice",)
+NAMES["round trips of a window in docs/REMOTE.md"] = ("levels", "distance", "most in a list", "window"), ("to take it", "to give it back")
+NAMES["round trips of a claim by lists in docs/REMOTE.md"] = ("levels", "distance", "window"), ("from t1 to the last notice",)
 NAMES["rate in docs/REMOTE.md"] = ("parts in a million",), ("by the formula", "the least wait", "the formula is enough")
 
 
@@ -60,6 +63,79 @@ def round_trips():
             yield case("round trips in docs/REMOTE.md", [levels, distance], trips_of_a_claim(levels, distance)), said
 
 
+class Alone:
+    """A client alone in the tree, which posts no more than so many operations together. Its clock goes on in its wait alone: it is never late."""
+
+    def __init__(self, settings, most):
+        self.settings, self.most, self.clock = settings, most, 1
+        self.words, self.client = Sparse(tree.node_count(settings.levels), {}), IDLE_CLIENT
+
+    def found(self, posted):
+        """Carries out an operation, and gives the word as it was."""
+        before = self.words[posted.node - 1]
+        self.words[posted.node - 1] = operations.applied(posted, before)
+        return before
+
+    def step(self):
+        """How many round trips it takes: none in the wait, else one."""
+        if self.client.record.phase == 7:
+            self.clock += self.settings.wait
+            self.client = operations.completed(self.settings, self.client, self.clock, 0).client
+            return 0
+        posted = ahead.operations_ahead(self.settings, self.client, self.clock, self.most).operations
+        found = [self.found(each) for each in posted]
+        self.client = ahead.completed_all(self.settings, self.client, self.clock, found).client
+        return 1
+
+    def until(self, *phases):
+        trips = 0
+        while self.client.record.phase not in phases:
+            trips += self.step()
+        return trips
+
+    def request(self, window):
+        self.client = operations.own_request(self.settings, self.client, *window).client
+
+    def taken_and_given_back(self, window):
+        self.request(window)
+        taken = self.until(9)
+        self.client = operations.own_release(self.settings, self.client).client
+        return taken, self.until(0)
+
+
+def alone(levels, distance, most):
+    return Alone(Settings(levels, distance, 1, LONGEST), most)
+
+
+def columns_of_windows():
+    """Of each column of the table of round trips the levels, distances and the most in a list for which it stands; CITRON's is not the model's."""
+    [head] = re.findall(r"^\| window \| CITRON \| lists, at every H and m \| one operation at a time: (.*) \|$", GUIDE, re.MULTILINE)
+    said = [tuple(map(int, re.fullmatch(r"H (\d+), m (\d)", cell).groups())) for cell in head.split(" | ")]
+    return [([(levels, distance) for levels in tree.LEVELS for distance in tree.DISTANCES], ALL), *(([one], ONE) for one in said)]
+
+
+def window_trips():
+    """By lists at every height and distance, and one at a time as the columns say."""
+    columns = columns_of_windows()
+    for place, name in enumerate(windows_of(max(tree.LEVELS))):
+        for (trees, most), cell in zip(columns, row("What a run posts", name)[1:], strict=True):
+            for levels, distance in trees:
+                if window := windows_of(levels).get(name):
+                    asked = "round trips of a window in docs/REMOTE.md", [levels, distance, most, place]
+                    yield case(*asked, alone(levels, distance, most).taken_and_given_back(window)), tuple(map(int, cell.split(" + ")))
+
+
+def claim_trips():
+    """By lists, from the one in which the parent is read, with which a client alone begins, to the last notice."""
+    [said] = re.findall(r"\*\*(\d) round trips at a leaf\*\* .*? and \*\*(\d) at an inner node\*\*", GUIDE)
+    for place, (name, number) in enumerate(zip(("leaf", "inner node"), said)):
+        for levels in tree.LEVELS:
+            for distance in tree.DISTANCES:
+                one = alone(levels, distance, ALL)
+                one.request(windows_of(levels)[name])
+                yield case("round trips of a claim by lists in docs/REMOTE.md", [levels, distance, place], one.until(7, 9)), int(number)
+
+
 def taken_for_in_time(parts, wait):
     """Whether a clock that is slow by so many parts in a million may find a claim in time though another's wait may be over, which it is from
     10,000/10,001 of the wait on. Moments and ticks are rounded down, so that of these moments one may not have gone by, and a tick not be shown."""
@@ -91,5 +167,7 @@ def rates():
 SUITES = {
     "docs/REMOTE.md, what the verbs add": verbs,
     "docs/REMOTE.md, round trips of a claim": round_trips,
+    "docs/REMOTE.md, round trips of a claim by lists": claim_trips,
+    "docs/REMOTE.md, round trips of a window": window_trips,
     "docs/REMOTE.md, how short T may be": rates,
 }
