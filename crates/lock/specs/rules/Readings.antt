@@ -39,8 +39,8 @@ LateAt s r t = (r .t1 + s .wait ≤ t) × (currentPiece r ≡ 1 → ⊥)
 
 -- of the accepted step at place i, `touch i` is the moment at which its word was touched (of a step that touches none, the moment of the step), and `reading i` that at which
 -- its clock was read. The clocks matter in four phases: 3, where at the parent, place 0, t1 is noted, and 6, where a claim may be late; 5, where t0 is noted, and 7, where the wait ends. (In a later
--- piece the clock also says, before a word is touched, whether patience has run out: a run that reads its clock after the touch completes by one at which it has not.) Of a clock by which a claim is late in any
--- case nothing is asked: that claim is given back
+-- piece the clock also says, before a word is touched, whether patience has run out: a run that reads its clock after the touch completes by one at which it has not.) Of the pace of a clock by which a claim is
+-- late in any case nothing is asked: that claim never comes to be held
 pub record ReadApart (s : Settings) (st : State) (ks : List Call) (touch reading : ℕ → ℕ) : Type 0 where
   -- a history has the steps in the order in which they touched the words
   pub never-back : (i j c d t u : ℕ) → i < j → StepAt (events s st ks) i c t → StepAt (events s st ks) j d u → touch i ≤ touch j

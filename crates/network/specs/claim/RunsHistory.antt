@@ -17,11 +17,11 @@ use Rattle.lock.specs.claim.Parts.{partsOf}
 use Rattle.lock.specs.claim.Start.{opening-invariant}
 use Rattle.lock.specs.claim.Demand3.{records-apart, read-apart-holding, records-clean}
 use Rattle.network.specs.rules.Clocks.{TrueClock, InTime}
-use Rattle.network.specs.rules.Network.{Network, clientOn, started, Act, act, acts, callsOf, historyOf, HoldsOwn, IdleOwn}
+use Rattle.network.specs.rules.Network.{Network, free, runAt, clientOn, started, Act, act, acts, callsOf, historyOf, HoldsOwn, IdleOwn, shown}
 use Rattle.network.specs.laws.CallsInTime.{acts-read}
 use Rattle.network.specs.laws.InTimeLaws.{momentsIn, started-read}
 use Rattle.network.specs.laws.ReadOnce.{Moments, momentsAt, EachRead, read-apart}
-use Rattle.network.specs.laws.Shown.{shown, shown-free, shown-started, shown-held, started-counts}
+use Rattle.network.specs.laws.Shown.{shown-free, shown-started, shown-held, started-counts}
 use Rattle.network.specs.laws.ActLaws.{Kept, act-kept, act-shown, started-fair}
 
 run-on : (s : Settings) (st : State) (ks js : List Call) → run s st (ks ++ js) ≡ run s (run s st ks) js
@@ -62,6 +62,10 @@ module _ (s : Settings) (lent : State) (e : opening s lent .number ≡ 0) (happe
 
   client-in : (c : ℕ) → clientAt (shown s net) c ≡ clientAt (run s st history) c
   client-in c = ap (λ (x : State). clientAt x c) is-history
+
+  -- of a run with nothing in flight it is the client that the run itself has
+  pub client-of-history : (c : ℕ) → runAt net c .flight ≡ free → clientOn net c ≡ clientAt (run s st history) c
+  client-of-history c e = sym (shown-free s net c e) ∙ client-in c
 
   record-in : (c : ℕ) → clientOn net c .«record» .phase ≡ 9 → recordAt (run s st history) c ≡ clientOn net c .«record»
   record-in c h = sym (ap (λ (v : Client). v .«record») (client-in c)) ∙ shown-held s net c h

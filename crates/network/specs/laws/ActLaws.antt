@@ -25,11 +25,11 @@ use Rattle.lock.specs.claim.Invariant.{Invariant}
 use Rattle.table.specs.laws.CauseLaws.{table-client}
 use Rattle.table.specs.laws.CallLaws.{table-refuses}
 use Rattle.runs.specs.rules.Ahead.{aheadOf, Counted, completedAllAnswer}
-use Rattle.network.specs.rules.Network.{Flight, free, flying, Run, Network, runAt, clientOn, withRun, started, Act, own, post, carry, complete, touchesNone, ownNext, ownCalls, sameList, asks, posts, between, carries, completes, act, askedBy, counts, carriedBy, callsOf}
+use Rattle.network.specs.rules.Network.{Flight, free, flying, Run, Network, runAt, clientOn, withRun, started, Act, own, post, carry, complete, touchesNone, ownNext, ownCalls, sameList, asks, posts, between, carries, completes, act, askedBy, counts, carriedBy, callsOf, seenBy, shown}
 use Rattle.network.specs.laws.CarriedOut.{Underway, begun}
 use Rattle.runs.specs.laws.AlongLaws.{no-words}
 use Rattle.network.specs.laws.SameOperation.{lists-equal}
-use Rattle.network.specs.laws.Shown.{seenBy, shown, set-past, shown-free, shown-flying, shown-with, written-count}
+use Rattle.network.specs.laws.Shown.{set-past, shown-free, shown-flying, shown-with, written-count}
 use Rattle.network.specs.laws.CarryLaws.{outcome, out-shown}
 use Rattle.network.specs.laws.OnState.{request-same, release-same, cancel-same, unchanged, quiet, carried, passed, inside, count}
 use Rattle.base.specs.laws.Sum.{on-set}

@@ -27,13 +27,12 @@ use Rattle.lock.specs.claim.Invariant.{Invariant}
 use Rattle.lock.specs.claim.Keeping.{run-keeps}
 use Rattle.lock.specs.claim.Parts.{partsOf, record-at}
 use Rattle.network.specs.rules.Clocks.{claims, completing, OwnRead, ClocksRead, momentAfter, InTime}
-use Rattle.network.specs.rules.Network.{Flight, free, flying, Network, runAt, clientOn, Act, own, post, carry, complete, ownCalls, touchesNone, between, act, askedBy, counts, carriedBy, callsOf, historyOf}
+use Rattle.network.specs.rules.Network.{Flight, free, flying, Network, runAt, clientOn, Act, own, post, carry, complete, ownCalls, touchesNone, between, act, askedBy, counts, carriedBy, callsOf, historyOf, shown}
 use Rattle.network.specs.laws.ActLaws.{Fair, Kept, act-kept, act-shown}
 use Rattle.network.specs.laws.CarryLaws.{outcome, is-seen, counting-counts, dropped-counts}
 use Rattle.network.specs.laws.CarriedOut.{Underway, Counting}
 use Rattle.network.specs.laws.Leading.{Alike}
 use Rattle.network.specs.laws.ReadOnce.{Moments, ReadOne, EachRead, each-earlier}
-use Rattle.network.specs.laws.Shown.{shown}
 use Rattle.network.specs.laws.InTimeLaws.{readingOf, momentsBy, momentsOf, momentsIn, ReadFlight, AllRead, act-read}
 
 -- ---- whether a record claims

@@ -31,9 +31,9 @@ use Rattle.lock.specs.claim.Readable.{invariant-readable}
 use Rattle.lock.specs.claim.Invariant.{Invariant}
 use Rattle.lock.specs.laws.OperationLaws.{kind-leaves, operation-found, cause-0}
 use Rattle.runs.specs.rules.Ahead.{completedAllAnswer}
-use Rattle.network.specs.rules.Network.{Flight, free, flying, Run, Network, runAt, clientOn, withRun, counts}
+use Rattle.network.specs.rules.Network.{Flight, free, flying, Run, Network, runAt, clientOn, withRun, counts, seenBy, seen, shown}
 use Rattle.network.specs.laws.CarriedOut.{seenAfter, Underway, sofar, Counting, Dropped, carried-out}
-use Rattle.network.specs.laws.Shown.{seenBy, seen, shown, shown-flying, shown-with}
+use Rattle.network.specs.laws.Shown.{shown-flying, shown-with}
 use Rattle.network.specs.laws.StepByOperation.{node-at, written-same}
 use Rattle.network.specs.laws.OnState.{unchanged, carried, passed, inside}
 

@@ -21,8 +21,8 @@ use Rattle.table.specs.laws.Causes.{tableCause}
 use Rattle.table.specs.laws.CauseLaws.{both-none, table-client, table-passed}
 use Rattle.table.specs.laws.CallLaws.{set-same, table-refuses, table-takes}
 use Rattle.network.specs.rules.ByOperation.{byOperation}
-use Rattle.network.specs.rules.Network.{Network, counts}
-use Rattle.network.specs.laws.Shown.{seen, shown, set-past}
+use Rattle.network.specs.rules.Network.{Network, counts, seen, shown}
+use Rattle.network.specs.laws.Shown.{set-past}
 use Rattle.network.specs.laws.StepByOperation.{step-by-operation}
 
 -- ---- the calls that touch no word, by value and on lent words

@@ -1,4 +1,4 @@
--- A network as the history sees it: each run's client as it is when the operations that were carried out are completed. Assumes nothing.
+-- Laws of a network as the history sees it. Assumes nothing.
 use mathlib.Core.Path.{_≡_, refl, ap, ap₂, _∙_}
 use lib.Dec.{eqb}
 use mathlib.Core.List.{List, [], _∷_, map}
@@ -19,17 +19,7 @@ use Rattle.lock.specs.rules.Operations.{postTests}
 use Rattle.lock.specs.rules.Table.{State, clientAt, openingNumber, opened, opening}
 use Rattle.lock.specs.laws.Phases.{at-held}
 use Rattle.runs.specs.rules.Ahead.{aheadIn, aheadOf, along, completedAllAnswer}
-use Rattle.network.specs.rules.Network.{Flight, free, flying, Run, Network, runAt, clientOn, withRun, started}
-
-unfoldable pub seenBy : Settings → Client → Flight → Client
-seenBy s c free = c
-seenBy s c (flying u m n os found) = completedAllAnswer s c u found .next
-
-unfoldable pub seen : Settings → Run → Client
-seen s x = seenBy s (x .client) (x .flight)
-
-abbrev pub shown : Settings → Network → State
-shown s net = record { words = net .words; clients = map (seen s) (net .runs) }
+use Rattle.network.specs.rules.Network.{Flight, free, flying, Run, Network, runAt, clientOn, withRun, started, seenBy, seen, shown}
 
 -- ---- lists
 

@@ -87,7 +87,8 @@ unfoldable pub asks : Settings → Network → Call → Flight → Network
 asks s net k free = withRun net (net .words) (clientOf k) (ownNext s (clientOn net (clientOf k)) k) free
 asks s net k (flying u m n os found) = net
 
--- the run may complete by any clock by which it would post that list
+-- the run may complete by any clock by which it would post that list; where it would post another by it, it does not post now (Clocks.antt has the clock that runs take, and laws/Completing.antt when it is
+-- one of these). A swap of the whole word that is tried for an operation and fails changes no word, and what was read behind it is forgotten: that is no act, and what went out before it is a list of less room
 unfoldable pub posts : Settings → Network → (c room clock completing before after : ℕ) → Flight → Network
 posts s net c room t u m n free =
     let os = aheadOf s (clientOn net c) t in
@@ -146,6 +147,18 @@ callsOf s net (complete c) = []
 unfoldable pub historyOf : Settings → Network → List Act → List Call
 historyOf s net [] = []
 historyOf s net (a ∷ later) = callsOf s net a ++ historyOf s (act s net a) later
+
+-- ---- a network as the history sees it: each run's client as it is when the operations that were carried out are completed
+
+unfoldable pub seenBy : Settings → Client → Flight → Client
+seenBy s c free = c
+seenBy s c (flying u m n os found) = completedAllAnswer s c u found .next
+
+unfoldable pub seen : Settings → Run → Client
+seen s x = seenBy s (x .client) (x .flight)
+
+abbrev pub shown : Settings → Network → State
+shown s net = record { words = net .words; clients = map (seen s) (net .runs) }
 
 -- ---- what a run itself knows
 
