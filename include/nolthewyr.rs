@@ -151,7 +151,7 @@ pub fn operations_ahead(client: Client, settings: Settings, clock: u64, operatio
 }
 
 /// How many of the operations that were posted together count, by the words that they found, and the client after those. Reads that do not
-/// count are dropped.
+/// count are dropped. In a list begun in phase 5, 6 or 10 all count; if fewer do, a word was damaged, and they must not be posted again.
 pub fn completed_all(client: Client, settings: Settings, clock: u64, found: &[u64]) -> Result<(usize, Client), Cause> {
     // The slice gives what the proof assumes: a length that is true, and nobody who writes the words meanwhile.
     let answer = unsafe { nolthewyr_completed_all(client, settings, clock, found.as_ptr(), found.len()) };

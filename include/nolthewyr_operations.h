@@ -73,14 +73,24 @@ nolthewyr_client_answer nolthewyr_completed(nolthewyr_client client, nolthewyr_s
 /* Which operations can be posted together now, in this order: those that come next whatever the words found are, and reads that come next if
  * all before them find nobody in the way. Never a write that a word found could forbid. Fills the lent list, of `room` operations, and leaves
  * what is behind the last one as it was. They must be carried out in the order of the list, and others' operations may come between. Where no
- * word is touched now there is none: such a step is completed by nolthewyr_completed. Tests as nolthewyr_operation does. */
+ * word is touched now there is none: such a step is completed by nolthewyr_completed. Tests as nolthewyr_operation does.
+ *
+ * A list of a later piece (`current` over 0) in which the parent may be read, in phases 1, 2 and 4, and in 3 at place 0, is posted only if
+ * clock + T < taken + P, with T the wait and P the patience. Else nothing is posted until patience has run out, by which the window is given back. */
 nolthewyr_ahead_answer nolthewyr_operations_ahead(nolthewyr_client client, nolthewyr_settings settings, uint64_t clock,
                                                   nolthewyr_operation_answer *operations, size_t room);
 
 /* The client after those of its operations that were posted together and found these words, in the order of the list; they may be fewer than
- * the list has. At the first that turns another way, what was read behind it does not count: it is posted again when it comes next. One clock
- * completes all: for a list that was begun in phase 5 or 6 it is read after the last has come back, for every other before the first is
- * posted. Tests as nolthewyr_completed does, by 9 only where the first word found is refused by it. */
+ * the list has. At the first that turns another way, what was read behind it does not count: it is posted again when it comes next. Tests as
+ * nolthewyr_completed does, by 9 only where the first word found is refused by it.
+ *
+ * One clock completes all. For a list begun in phase 5 or 6 it is read after the last has come back, for every other before the first is posted.
+ * If by that later reading the patience of a later piece is over (current > 0 and clock - taken >= P), none of what was posted is due by it:
+ * number 0 with counted 0 says so, and the words stay changed with nobody to give them back. Then the clock is the later of the one before posting
+ * and t1 + T, by both of which patience is not over, since the list that noted t1 was posted as above.
+ *
+ * In a list begun in phase 5, 6 or 10 all count. If fewer do, a word was damaged (9, at a word that is not the first): all were carried out, and
+ * must not be posted again. */
 nolthewyr_completed_all_answer nolthewyr_completed_all(nolthewyr_client client, nolthewyr_settings settings, uint64_t clock,
                                                        const uint64_t *found, size_t found_count);
 

@@ -36,7 +36,8 @@ typedef struct nolthewyr_run_counts {
     uint64_t late;            /* asked for again, because a claim took too long for the wait */
     uint64_t out_of_patience; /* asked for again, because the second piece was not to be had within the patience */
     uint64_t operations;      /* on words */
-    uint64_t swaps_again;     /* compare-and-swaps that found another word than the last one seen */
+    uint64_t swaps_again;     /* compare-and-swaps that found another word than the last one seen: tried again, but for a leaf's claim that found
+                               * its bits taken */
     uint64_t round_trips;     /* lists of accesses to words that were sent to the server, each of which was awaited once */
 } nolthewyr_run_counts;
 
@@ -45,7 +46,8 @@ typedef struct nolthewyr_run_lists {
     uint64_t most;    /* operations in one list; 1 where the provider keeps no order, so that each is awaited before the next is posted */
     uint64_t added;   /* operations made by an add of 16 bits, as notices are; 0 where the provider has none, and swaps take its place */
     uint64_t flipped; /* those made by a flip of bits that are known before, as claims of inner nodes and returns are; likewise */
-    uint64_t dropped; /* reads that did not count, because a word found ahead of them turned the run another way */
+    uint64_t dropped; /* reads that did not count, because a word found ahead of them turned the run another way, or because they went out behind
+                       * a compare-and-swap that has to be tried again */
 } nolthewyr_run_lists;
 
 typedef struct nolthewyr_run nolthewyr_run;

@@ -169,7 +169,7 @@ def operations_ahead(client, settings, clock, room=MOST_AHEAD):
 
 def completed_all(client, settings, clock, found):
     """How many of the operations that were posted together count, by the words that they found, and the client after those. Reads that do not count
-    are dropped."""
+    are dropped. In a list begun in phase 5, 6 or 10 all count; if fewer do, a word was damaged, and they must not be posted again."""
     lent = (c_uint64 * len(found))(*map(fitting, found))
     answer = accepted_answer(library().nolthewyr_completed_all(client, settings, fitting(clock), lent, len(lent)))
     return answer.counted, answer.next

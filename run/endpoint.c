@@ -17,8 +17,18 @@ static bool done(int answer, const char *call, const nolthewyr_server *server, c
 }
 
 /* The order that lists of accesses need. In them a read follows reads and writes, and a write follows writes; no write follows a read that
- * only reads (FI_ORDER_ATOMIC_WAR), which `tcp;ofi_rxm` does not promise. On a card a reliable connection keeps it. */
+ * only reads (FI_ORDER_ATOMIC_WAR), which `tcp;ofi_rxm` does not promise. */
 static const uint64_t ORDER = FI_ORDER_ATOMIC_RAR | FI_ORDER_ATOMIC_RAW | FI_ORDER_ATOMIC_WAW;
+
+/* Whether what is posted is made in the order of posting. For two atomics on one word the order of messages is not enough: fi_endpoint(3) wants
+ * the order of data too, for as many bytes as a word has. On a card it is the reliable connection (RC queue pair) that guarantees both. `ofi_rxm`
+ * grants no order of data (0 bytes) and keeps it all the same: each atomic is a message, and the server's process makes it as it comes. */
+static bool is_ordered(const struct fi_info *info)
+{
+    bool messages = (info->tx_attr->msg_order & info->rx_attr->msg_order & ORDER) == ORDER;
+    bool data = info->ep_attr->max_order_raw_size >= sizeof(uint64_t) && info->ep_attr->max_order_waw_size >= sizeof(uint64_t);
+    return messages && (data || strstr(info->fabric_attr->prov_name, "ofi_rxm") != NULL);
+}
 
 /* What both sides ask of a provider: words read and changed, units read and written, each write in place before its completion is told
  * (FI_DELIVERY_COMPLETE), and any way of registering memory. Both sides drive the provider themselves. */
@@ -58,7 +68,7 @@ static bool found(nolthewyr_endpoint *at, const nolthewyr_server *server, bool s
         snprintf(error, NOLTHEWYR_ERROR_SIZE, "over %s%s%s: libfabric finds no such provider with atomics: %s", server->over,
                  server->host[0] == '\0' ? "" : " at ", server->host, fi_strerror(abs(answer)));
     else
-        at->ordered = (at->info->tx_attr->msg_order & at->info->rx_attr->msg_order & ORDER) == ORDER;
+        at->ordered = is_ordered(at->info);
     return answer == 0;
 }
 

@@ -23,7 +23,8 @@ static nolthewyr_seen *seen_at(nolthewyr_run *run, uint64_t node)
 }
 
 /* The bits that a masked operation flips whatever others do meanwhile; 0 where that cannot be told before.
- * - Bits of a leaf that are given back: they are the run's own and all 1. If they are not, the word was damaged, and the word found says so.
+ * - Bits of a leaf that are given back: they are the run's own and all 1. If one is not, the word was damaged: the flip sets that bit, the word
+ *   found says so, and the run fails by cause 9 (step.c), with that bit set and all behind it in the list made.
  * - Occ: it has one bit, so that 1 more is the other.
  * - Occ and TCnt: only who has the turn changes them, which is the run itself. It has seen the word since its turn came, so that it knows TCnt.
  * A ticket is TMax + 1, and others draw tickets too. Bits of a leaf that are wanted may be another's. */

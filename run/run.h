@@ -17,7 +17,7 @@ enum { NOLTHEWYR_MOST_LEVELS = 12, NOLTHEWYR_LOOK_FIRST = 1000, NOLTHEWYR_LOOK_M
 /* The last word that a run saw at a node. */
 typedef struct nolthewyr_seen {
     uint64_t node, word;
-    bool whole; /* false if it saw none, or a part of one alone */
+    bool whole; /* false if it saw none, or a part of one alone: then no flip goes by it */
 } nolthewyr_seen;
 
 struct nolthewyr_run {
@@ -31,8 +31,10 @@ struct nolthewyr_run {
     nolthewyr_operation_answer operations[NOLTHEWYR_MOST_AHEAD];
     nolthewyr_access accesses[NOLTHEWYR_MOST_AHEAD];
     uint64_t found[NOLTHEWYR_MOST_AHEAD];
-    /* The first guesses of masked operations. Any guess is right, since the swap compares; a good one saves a round trip. Two a level, the later
-     * first, since of each level a piece changes one node at most, its own or one that it notifies. */
+    /* The words from which masked operations begin. For a swap any guess is right, since it compares; a good one saves a round trip. A flip does not
+     * compare: of Occ and TCnt together it goes by a word that is whole and was seen since the run's turn came, when nobody else changes the two. So
+     * it must hold that a word is whole here only if it was seen whole, and that the turn's own read is noted. Two a level, the later first, since of
+     * each level a piece changes one node at most, its own or one that it notifies. */
     nolthewyr_seen seen[NOLTHEWYR_MOST_LEVELS][2];
     uint64_t look_limit; /* the next pause between two looks is below this */
     uint64_t deadline;   /* the clock at which a take gives up, UINT64_MAX for none */

@@ -82,17 +82,34 @@ static size_t due(nolthewyr_run *run, uint64_t clock)
     return run->operations[0].kind != NOLTHEWYR_OPERATION_NONE;
 }
 
-/* Completes so many operations that were made, or the step that touches no word. What was read ahead and does not count is dropped. */
+/* Whether a list that begins in this phase has no read ahead: each operation is the next step whatever is found before it. */
+static bool all_count(uint64_t phase)
+{
+    return phase == NOLTHEWYR_PHASE_CLAIM || phase == NOLTHEWYR_PHASE_NOTIFY || phase == NOLTHEWYR_PHASE_RETURNING;
+}
+
+/* Completes a list. What was read ahead and does not count is dropped. Where all count, fewer do only if a leaf found a bit clear that it gives
+ * back: cause 9, which is told by its number of the first word alone. What was posted behind that word was made too, and must not be posted
+ * again: the run fails. */
+static nolthewyr_client_answer completed_list(nolthewyr_run *run, uint64_t clock, size_t made)
+{
+    bool all = all_count(run->client.record.phase);
+    nolthewyr_completed_all_answer answer = nolthewyr_completed_all(run->client, run->settings, clock, run->found, made);
+    size_t dropped = all ? 0 : made - answer.counted;
+    if (all && answer.number == NOLTHEWYR_CAUSE_ACCEPTED && answer.counted < made)
+        answer.number = NOLTHEWYR_CAUSE_CLEAR_BIT;
+    run->counts.operations += made - dropped;
+    run->lists.dropped += dropped;
+    return (nolthewyr_client_answer){.number = answer.number, .next = answer.next};
+}
+
+/* Completes so many operations that were made, or the step that touches no word. */
 static nolthewyr_client_answer completed(nolthewyr_run *run, uint64_t clock, size_t made)
 {
-    nolthewyr_completed_all_answer answer;
+    if (made > 1)
+        return completed_list(run, clock, made);
     run->counts.operations += made;
-    if (made < 2)
-        return nolthewyr_completed(run->client, run->settings, clock, run->found[0]);
-    answer = nolthewyr_completed_all(run->client, run->settings, clock, run->found, made);
-    run->counts.operations -= made - answer.counted;
-    run->lists.dropped += made - answer.counted;
-    return (nolthewyr_client_answer){.number = answer.number, .next = answer.next};
+    return nolthewyr_completed(run->client, run->settings, clock, made == 1 ? run->found[0] : 0);
 }
 
 /* Pauses if the step found others in the way: the record is as it was, or a leaf's claim begins anew. The pauses grow until the piece

@@ -37,7 +37,9 @@ typedef struct nolthewyr_access {
 /* A function that fails says why in `error`. Who calls sees to it that nodes and units are there. */
 typedef struct nolthewyr_transport nolthewyr_transport;
 struct nolthewyr_transport {
-    /* Makes the accesses in the order of the list, none before the one ahead of it is made, and returns when all are. */
+    /* Makes the accesses in the order of the list, and returns when all are made. No list of a run has a write behind a read whose order matters, so
+     * that a transport need not keep that order (FI_ORDER_ATOMIC_WAR is not asked for): of reads behind reads and of all that is behind a write it
+     * does. A swap, an add and a flip are writes here, though they give back what they found. */
     bool (*execute)(nolthewyr_transport *transport, nolthewyr_access *list, size_t count);
     /* What is written is in place before the call returns: the accesses after it may let another run in. */
     bool (*read_units)(nolthewyr_transport *transport, uint64_t first, uint64_t count, uint64_t *units);
