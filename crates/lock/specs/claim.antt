@@ -21,6 +21,7 @@ pub mod LeafWords
 pub mod Moments
 pub mod MomentsKept
 pub mod NoWord
+pub mod Noted
 pub mod Notifying
 pub mod OnItsWay
 pub mod OneClock

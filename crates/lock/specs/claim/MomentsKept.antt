@@ -23,7 +23,8 @@ use Rattle.lock.specs.claim.Timed.{Checked}
 use Rattle.lock.specs.claim.Onward.{Unclaimed, unclaimed-returning, unclaimed-first}
 use Rattle.lock.specs.claim.Invariant.{Invariant}
 use Rattle.lock.specs.claim.NoWord.{requested-unclaimed}
-use Rattle.lock.specs.claim.Moments.{Unasked, Timing, timing-refused, timing-unclaimed, timing-stepped}
+use Rattle.lock.specs.claim.Moments.{timing-refused, timing-unclaimed, timing-stepped}
+use Rattle.lock.specs.claim.Noted.{Unasked, Timing}
 use Rattle.lock.specs.claim.Keeping.{stepped, stepped-by, call-keeps}
 
 cancelled-unclaimed : (r : Record) → Unclaimed (cancelled r)

@@ -25,7 +25,7 @@ use Rattle.lock.specs.claim.Parts.{partsOf, records-fresh}
 use Rattle.lock.specs.claim.Timed.{Timed}
 use Rattle.lock.specs.claim.Onward.{Unclaimed, unclaimed-first}
 use Rattle.lock.specs.claim.Invariant.{Invariant}
-use Rattle.lock.specs.claim.Moments.{Noted, Timing, timed-none}
+use Rattle.lock.specs.claim.Noted.{Noted, Timing, timed-none}
 use Rattle.lock.specs.claim.Forward.{Empty, empty-owns, empty-unit, empty-notice, fresh-empty}
 
 zero-words : (count n : ℕ) → wordAt (replicate count 0) n ≡ 0

@@ -2,10 +2,9 @@
 use mathlib.Core.Path.{_≡_, refl, sym, subst}
 use mathlib.Core.Logic.{_⊎_, inl, inr, ⊎-elim}
 use mathlib.Core.Bool.{not}
-use Prim.Native.Nat.{ℕ, suc, _+_, _-_, _*_, _≤_, _<_}
+use Prim.Native.Nat.{ℕ, suc, _+_, _≤_, _<_}
 use native.Mathlib.Omega.{arith}
-use borrow.Author.Tests.{ltb-true, not-false}
-use lib.Dec.{T, eqb, ltb, eqb→eq}
+use lib.Dec.{eqb, ltb, eqb→eq}
 use lib.ListN.{length}
 use Rattle.base.specs.laws.ChoiceLaws.{on-choose}
 use Rattle.base.specs.laws.TestLaws.{test-false}
@@ -16,6 +15,7 @@ use Rattle.lock.specs.declared.Record.{Record}
 use Rattle.lock.specs.declared.Settings.{Settings}
 use Rattle.lock.specs.rules.Records.{Phase, claim, currentPiece, isLeaf, isRoot, pieces, pieceAt, toPhase, withNotices}
 use Rattle.lock.specs.rules.Steps.{wanted, startPhase, begin, firstNoted, taken, bitsClaimed, occClaimed, late, allNotified, noticeGiven, moved}
+use Rattle.lock.specs.laws.LateLaws.{not-late}
 use Rattle.lock.specs.laws.Phases.{at-claim, at-notify}
 use Rattle.lock.specs.laws.Rows.{claimPiece, movedIn, on-moved}
 
@@ -43,17 +43,14 @@ module _ (s : Settings) (r : Record) (now : ℕ) where
       (λ _ a _. absurd (omega (arith, a))) (λ _ a _. absurd (omega (arith, a)))
 
   notified-on : r .phase ≡ 6 → ClaimOn (noticeGiven s r now)
-  unfolding noticeGiven allNotified taken firstNoted late
+  unfolding noticeGiven allNotified taken firstNoted
   notified-on e =
       let p = withNotices (suc (r .place)) r in
       on-choose ClaimOn (ltb (suc (r .place)) (length (notifyList (s .distance) (currentPiece r)))) _ _ (λ _ _ _. (refl, λ f. absurd (omega (arith, f, e))))
-      (λ _. on-choose ClaimOn (not (ltb (10001 * (now - r .t1)) (9999 * s .wait))) _ _ (λ _ _ b. absurd (omega (arith, b)))
+      (λ _. on-choose ClaimOn (late s p now) _ _ (λ _ _ b. absurd (omega (arith, b)))
       (λ t. on-choose ClaimOn (isLeaf s (currentPiece p)) _ _
       (λ _. on-choose ClaimOn (ltb (suc (p .current)) (length (pieces p))) _ _ (λ _. begun-off _ (suc (p .current))) (λ _. on-choose (λ (q : Record). ClaimOn (toPhase 9 q)) (eqb (p .current) 0) _ _ (λ _ _ b. absurd (omega (arith, b))) (λ _ _ b. absurd (omega (arith, b)))))
-      (λ _ _ _. (refl, λ _. inr (e, omega (arith, in-time t))))))
-    where
-      in-time : T (not (not (ltb (10001 * (now - r .t1)) (9999 * s .wait)))) → 10001 * (now - r .t1) < 9999 * s .wait
-      in-time t = ltb-true _ _ (not-false (ltb (10001 * (now - r .t1)) (9999 * s .wait)) (test-false (not (ltb (10001 * (now - r .t1)) (9999 * s .wait))) t))
+      (λ _ _ _. (refl, λ _. inr (e, omega (arith, not-late s p now (test-false (late s p now) t)))))))
 
   pub claim-on : (w : ℕ) → (r .phase ≡ 5) ⊎ (r .phase ≡ 6) → ClaimOn (moved s r w now .next)
   unfolding movedIn
