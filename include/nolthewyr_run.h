@@ -56,6 +56,21 @@ typedef struct nolthewyr_run nolthewyr_run;
  * Refused too if the patience is not over the wait, since a window of two pieces might then never be taken. */
 nolthewyr_run *nolthewyr_run_open(const char *file, char *error, size_t error_size);
 
+/* The same, and for how many nanoseconds the run goes on without an answer of the server, while it opens and in every call from then on; 0 is for
+ * ever. nolthewyr_run_open has NOLTHEWYR_RUN_ANSWER_WITHIN. Over shared memory no answer is waited for. */
+#define NOLTHEWYR_RUN_ANSWER_WITHIN UINT64_C(10000000000)
+nolthewyr_run *nolthewyr_run_open_within(const char *file, uint64_t answer_within, char *error, size_t error_size);
+
+/* What a run has to say while a call goes on. */
+enum nolthewyr_run_told {
+    NOLTHEWYR_RUN_WAITS = 0,     /* a take has waited for a second: for what. Once in a take */
+    NOLTHEWYR_RUN_CANNOT_END = 1 /* a take that gives up stands in a line for a second and cannot leave it before its turn comes. Once in a take */
+};
+typedef void nolthewyr_run_teller(void *context, int told, const char *text);
+
+/* From now on the run tells it to this function, inside the call and in its thread; NULL for nobody, as it is at first. */
+void nolthewyr_run_tell(nolthewyr_run *run, nolthewyr_run_teller *teller, void *context);
+
 /* The settings that the server's file has. */
 nolthewyr_settings nolthewyr_run_settings(const nolthewyr_run *run);
 

@@ -6,6 +6,7 @@
 #include <errno.h>
 #include <signal.h>
 #include <stdlib.h>
+#include <string.h>
 
 /* The signals that were ignored when the program was started. */
 static sigset_t ignored;
@@ -28,12 +29,33 @@ void nolthewyr_on_signal(int signal, void (*action)(int))
     sigaction(signal, &after, NULL);
 }
 
-bool nolthewyr_number(const char *text, uint64_t *number)
+/* The number with which a text begins, and in `behind` what follows it. False if there is none. */
+static bool begins_with(const char *text, uint64_t *number, char **behind)
 {
-    char *end;
     if (!isdigit((unsigned char)text[0]))
         return false;
     errno = 0;
-    *number = strtoull(text, &end, 10);
-    return errno == 0 && *end == '\0';
+    *number = strtoull(text, behind, 10);
+    return errno == 0;
+}
+
+bool nolthewyr_number(const char *text, uint64_t *number)
+{
+    char *behind;
+    return begins_with(text, number, &behind) && *behind == '\0';
+}
+
+bool nolthewyr_duration(const char *text, uint64_t *nanoseconds)
+{
+    static const struct { const char *name; uint64_t nanoseconds; } units[] = {{"", 1}, {"ns", 1}, {"us", 1000}, {"ms", 1000000}, {"s", 1000000000}};
+    char *behind;
+    uint64_t number;
+    if (!begins_with(text, &number, &behind))
+        return false;
+    for (size_t i = 0; i < sizeof units / sizeof *units; i++)
+        if (strcmp(behind, units[i].name) == 0 && number <= UINT64_MAX / units[i].nanoseconds) {
+            *nanoseconds = number * units[i].nanoseconds;
+            return true;
+        }
+    return false;
 }

@@ -2,6 +2,7 @@
 
 #include "rangerun.h"
 
+#include <getopt.h>
 #include <signal.h>
 #include <stdio.h>
 #include <stdlib.h>
@@ -18,6 +19,11 @@ static const struct { const char *name; int (*run)(const char *file, int argc, c
 /* The run that a signal cancels, NULL for none: a signal may come at any time. */
 static _Atomic(nolthewyr_run *) signalled_run;
 static volatile sig_atomic_t signalled;
+
+/* What the common options say. No answer comes within less than LEAST_ANSWER nanoseconds: who says a number so small means another unit. */
+enum { LEAST_ANSWER = 1000000 };
+static uint64_t answer_within = NOLTHEWYR_RUN_ANSWER_WITHIN;
+static bool verbose;
 
 static const char usage[] =
     "usage: rangerun FILE hold [--limit NS] LEFT RIGHT COMMAND...\n"
@@ -37,10 +43,17 @@ int nolthewyr_failed(const nolthewyr_run *run, int status)
     return status;
 }
 
+bool nolthewyr_common_set(int option)
+{
+    if (option == 'v')
+        return verbose = true;
+    return option == 'A' && nolthewyr_duration(optarg, &answer_within) && (answer_within == 0 || answer_within >= LEAST_ANSWER);
+}
+
 nolthewyr_run *nolthewyr_opened(const char *file)
 {
     char error[400];
-    nolthewyr_run *run = nolthewyr_run_open(file, error, sizeof error);
+    nolthewyr_run *run = nolthewyr_run_open_within(file, answer_within, error, sizeof error);
     if (run == NULL)
         fprintf(stderr, "rangerun: %s\n", error);
     return run;

@@ -3,6 +3,8 @@
 #ifndef NOLTHEWYR_RANGERUN_H
 #define NOLTHEWYR_RANGERUN_H
 
+#include <stdbool.h>
+
 #include "nolthewyr_run.h"
 
 /* As schedule(1) has them, but for `hold`, which gives the command's own; its failures are numbered as env(1) and timeout(1) have them. */
@@ -14,7 +16,13 @@ int nolthewyr_hold(const char *file, int argc, char **argv);
 int nolthewyr_try(const char *file, int argc, char **argv);
 int nolthewyr_tree(const char *file, int argc, char **argv);
 
-/* Opens a run; if it cannot, says why on standard error and gives NULL. */
+/* Options that every command has beside its own, as getopt_long(3) takes them, with `v` among the short ones: how long the run goes on without
+ * an answer of the server, and that it says for what it waits. The options that are not a command's own go to nolthewyr_common_set, which gives
+ * false if they are none of these either. */
+#define NOLTHEWYR_COMMON_OPTIONS {"answer-within", required_argument, NULL, 'A'}, {"verbose", no_argument, NULL, 'v'}
+bool nolthewyr_common_set(int option);
+
+/* Opens a run as the common options say; if it cannot, says why on standard error and gives NULL. */
 nolthewyr_run *nolthewyr_opened(const char *file);
 
 /* Closes a run, which no signal cancels from then on. */

@@ -102,13 +102,13 @@ static int held_for(nolthewyr_run *run, uint64_t left, uint64_t right, uint64_t 
 
 int nolthewyr_hold(const char *file, int argc, char **argv)
 {
-    static const struct option options[] = {{"limit", required_argument, NULL, 'l'}, {0}};
+    static const struct option options[] = {{"limit", required_argument, NULL, 'l'}, NOLTHEWYR_COMMON_OPTIONS, {0}};
     uint64_t limit = 0, left, right;
     int option;
     opterr = 0;
-    while ((option = getopt_long(argc, argv, "+:", options, NULL)) != -1)
-        if (option != 'l' || !nolthewyr_number(optarg, &limit))
-            return nolthewyr_wrong_line("hold: not an option, or no number behind it: ", argv[optind - 1]);
+    while ((option = getopt_long(argc, argv, "+:v", options, NULL)) != -1)
+        if (!(option == 'l' ? nolthewyr_duration(optarg, &limit) : nolthewyr_common_set(option)))
+            return nolthewyr_wrong_line("hold: no such option, or no time behind it: ", argv[optind - 1]);
     if (argc - optind < 3)
         return nolthewyr_wrong_line("hold: two edges and a command are to be named", "");
     if (!nolthewyr_number(argv[optind], &left))

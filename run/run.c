@@ -38,8 +38,9 @@ nolthewyr_run *nolthewyr_run_over(nolthewyr_transport *transport, nolthewyr_sett
     return run;
 }
 
-static nolthewyr_run *opened(const char *file, char *error)
+static nolthewyr_run *opened(const char *file, uint64_t answer_within, char *error)
 {
+    (void)answer_within;
     nolthewyr_server server;
     if (!nolthewyr_server_read(&server, file, error) || !nolthewyr_server_settled(server.settings, error))
         return NULL;
@@ -51,13 +52,24 @@ static nolthewyr_run *opened(const char *file, char *error)
     return run;
 }
 
-nolthewyr_run *nolthewyr_run_open(const char *file, char *error, size_t error_size)
+nolthewyr_run *nolthewyr_run_open_within(const char *file, uint64_t answer_within, char *error, size_t error_size)
 {
     char reason[NOLTHEWYR_ERROR_SIZE] = "";
-    nolthewyr_run *run = opened(file, reason);
+    nolthewyr_run *run = opened(file, answer_within, reason);
     if (error_size > 0)
         snprintf(error, error_size, "%s", reason);
     return run;
+}
+
+nolthewyr_run *nolthewyr_run_open(const char *file, char *error, size_t error_size)
+{
+    return nolthewyr_run_open_within(file, NOLTHEWYR_RUN_ANSWER_WITHIN, error, error_size);
+}
+
+void nolthewyr_run_tell(nolthewyr_run *run, nolthewyr_run_teller *teller, void *context)
+{
+    run->teller = teller;
+    run->context = context;
 }
 
 nolthewyr_settings nolthewyr_run_settings(const nolthewyr_run *run)

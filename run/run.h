@@ -39,6 +39,8 @@ struct nolthewyr_run {
     uint64_t look_limit; /* the next pause between two looks is below this */
     uint64_t deadline;   /* the clock at which a take gives up, UINT64_MAX for none */
     uint64_t drawn;      /* the last random number */
+    nolthewyr_run_teller *teller; /* who is told what a run has to say, NULL for nobody */
+    void *context;
     atomic_int cancelled;
     bool failed;
     char error[NOLTHEWYR_ERROR_SIZE];
