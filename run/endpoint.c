@@ -50,10 +50,10 @@ static struct fi_info *hints_of(const nolthewyr_server *server, uint64_t order)
 /* Asks libfabric for such a provider that keeps this order. */
 static int asked(nolthewyr_endpoint *at, const nolthewyr_server *server, bool serves, uint64_t order)
 {
-    const char *host = server->host[0] == '\0' ? NULL : server->host;
+    const char *host = server->host[0] == '\0' ? NULL : server->host, *port = serves && server->port[0] != '\0' ? server->port : NULL;
     uint64_t flags = serves && host != NULL ? FI_SOURCE : 0; /* the host is where the endpoint is, and not where it leads to */
     struct fi_info *hints = hints_of(server, order);
-    int answer = hints == NULL ? -FI_ENOMEM : fi_getinfo(FI_VERSION(1, 17), host, NULL, flags, hints, &at->info);
+    int answer = hints == NULL ? -FI_ENOMEM : fi_getinfo(FI_VERSION(1, 17), host, port, flags, hints, &at->info);
     if (hints != NULL)
         fi_freeinfo(hints);
     return answer;

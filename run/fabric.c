@@ -24,9 +24,7 @@ static void close_fabric(nolthewyr_transport *transport)
 static bool server_known(nolthewyr_fabric *over, const nolthewyr_server *server, char *error)
 {
     unsigned char address[NOLTHEWYR_ADDRESS_SIZE] = {0};
-    for (size_t i = 0; i < strlen(server->address) / 2; i++)
-        if (sscanf(server->address + 2 * i, "%2hhx", &address[i]) != 1)
-            break;
+    nolthewyr_address_read(server, address);
     if (fi_av_insert(over->local.addresses, address, 1, &over->server, 0, NULL) == 1)
         return true;
     snprintf(error, NOLTHEWYR_ERROR_SIZE, "over %s: the server's address is not one of this provider: %s", server->over, server->address);
@@ -54,11 +52,21 @@ static bool has_atomics(nolthewyr_fabric *over, const nolthewyr_server *server, 
     return reads && swaps;
 }
 
-/* Reads the root's word: a provider connects only when something is posted, and a server that is gone is to be found out now. */
+/* Whom a message names: the host and its port, where there are such. */
+static void reached_named(nolthewyr_fabric *over, const nolthewyr_server *server)
+{
+    if (server->host[0] == '\0')
+        snprintf(over->reached, sizeof over->reached, "the server over %s", server->over);
+    else
+        snprintf(over->reached, sizeof over->reached, "the server at %s port %s over %s", server->host, server->port, server->over);
+}
+
+/* Reads the identity, before any word: a provider connects only when something is posted, and a server that is gone, or was started anew, is to be
+ * found out now. */
 static bool answers(nolthewyr_fabric *over, char *error)
 {
-    nolthewyr_access root = {.kind = NOLTHEWYR_ACCESS_READ, .node = 1};
-    bool answered = nolthewyr_fabric_execute(&over->transport, &root, 1);
+    bool answered = nolthewyr_fabric_identity_read(over);
+    nolthewyr_connection_found(&over->connection);
     if (!answered)
         snprintf(error, NOLTHEWYR_ERROR_SIZE, "%s", over->transport.error);
     return answered;
@@ -67,8 +75,11 @@ static bool answers(nolthewyr_fabric *over, char *error)
 static bool reached(nolthewyr_fabric *over, const nolthewyr_server *server, char *error)
 {
     over->buffers = calloc(1, sizeof *over->buffers);
+    over->start = server->start;
     over->words = server->words;
     over->units = server->units;
+    reached_named(over, server);
+    nolthewyr_connection_begun(&over->connection, server);
     if (over->buffers == NULL || !nolthewyr_endpoint_open(&over->local, server, false, error) || !has_atomics(over, server, error) ||
         !server_known(over, server, error))
         return false;
@@ -84,7 +95,13 @@ static bool reached(nolthewyr_fabric *over, const nolthewyr_server *server, char
     return answers(over, error);
 }
 
-nolthewyr_transport *nolthewyr_fabric_open(const nolthewyr_server *server, char *error)
+/* An access tells whether there is still a server. */
+static bool served(nolthewyr_transport *transport)
+{
+    return !((nolthewyr_fabric *)transport)->broken;
+}
+
+nolthewyr_transport *nolthewyr_fabric_open(const nolthewyr_server *server, uint64_t answer_within, char *error)
 {
     nolthewyr_fabric *over = calloc(1, sizeof *over);
     snprintf(error, NOLTHEWYR_ERROR_SIZE, "no memory for a run");
@@ -92,7 +109,9 @@ nolthewyr_transport *nolthewyr_fabric_open(const nolthewyr_server *server, char 
         return NULL;
     /* Between machines CLOCK_MONOTONIC may be made faster or slower than it is allowed to be, by time synchronisation (docs/LINKING.md). */
     over->transport = (nolthewyr_transport){.execute = nolthewyr_fabric_execute, .read_units = nolthewyr_fabric_read,
-                                            .write_units = nolthewyr_fabric_write, .close = close_fabric, .clock = CLOCK_MONOTONIC_RAW};
+                                            .write_units = nolthewyr_fabric_write, .served = served,
+                                            .announce = nolthewyr_fabric_announce, .close = close_fabric, .clock = CLOCK_MONOTONIC_RAW};
+    over->answer_within = answer_within;
     if (reached(over, server, error))
         return &over->transport;
     close_fabric(&over->transport);

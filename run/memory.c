@@ -4,6 +4,7 @@
 
 #include <errno.h>
 #include <fcntl.h>
+#include <linux/futex.h>
 #include <stdatomic.h>
 #include <stdio.h>
 #include <stdlib.h>
@@ -12,8 +13,11 @@
 #include <sys/stat.h>
 #include <unistd.h>
 
+#include "memory_head.h"
+
 typedef struct memory {
     nolthewyr_transport transport;
+    nolthewyr_memory_head *head;
     _Atomic uint64_t *words;
     _Atomic uint64_t *units;
     size_t size;
@@ -77,42 +81,55 @@ static bool write_units(nolthewyr_transport *transport, uint64_t first, uint64_t
 static void close_memory(nolthewyr_transport *transport)
 {
     memory *over = (memory *)transport;
-    munmap((void *)over->words, over->size);
+    munmap(over->head, over->size);
     free(over);
 }
 
-/* The shared memory in this address space, MAP_FAILED if it has another size or cannot be had. */
-static void *mapped(int opened, const nolthewyr_server *server, size_t size, char *error)
+/* The kernel takes the server's thread out of the head when it dies. */
+static bool served(nolthewyr_transport *transport)
 {
+    memory *over = (memory *)transport;
+    if (atomic_load_explicit(&over->head->server, memory_order_relaxed) & FUTEX_TID_MASK)
+        return true;
+    transport->gone = true;
+    snprintf(transport->error, NOLTHEWYR_ERROR_SIZE, "the server has ended or died, and its words and units with it");
+    return false;
+}
+
+static bool unreached(const nolthewyr_server *server, const char *why, char *error)
+{
+    snprintf(error, NOLTHEWYR_ERROR_SIZE, "shared memory %s: %s", server->memory, why);
+    return false;
+}
+
+/* Maps the memory: as much as the identity in its head says, which is read first. */
+static bool mapped(memory *over, int opened, const nolthewyr_server *server, char *error)
+{
+    nolthewyr_identity *identity = &over->transport.identity;
     struct stat found;
-    bool seen = fstat(opened, &found) == 0;
-    if (seen && (size_t)found.st_size != size) {
-        snprintf(error, NOLTHEWYR_ERROR_SIZE, "shared memory %s has %lld bytes, and a tree of %d levels and its units have %zu",
-                 server->memory, (long long)found.st_size, (int)server->settings.levels, size);
-        return MAP_FAILED;
-    }
-    void *at = seen ? mmap(NULL, size, PROT_READ | PROT_WRITE, MAP_SHARED, opened, 0) : MAP_FAILED;
+    if (pread(opened, identity, sizeof *identity, 0) != (ssize_t)sizeof *identity || fstat(opened, &found) != 0)
+        return unreached(server, "it has no head of a server", error);
+    uint64_t words = nolthewyr_word_count(identity->settings.levels);
+    over->size = NOLTHEWYR_HEAD_SIZE + (words + identity->units) * sizeof(uint64_t);
+    if (words == 0 || identity->units != nolthewyr_unit_count(identity->settings.levels) || (uint64_t)found.st_size != over->size)
+        return unreached(server, "it is not as long as its head says", error);
+    char *at = mmap(NULL, over->size, PROT_READ | PROT_WRITE, MAP_SHARED, opened, 0);
     if (at == MAP_FAILED)
-        snprintf(error, NOLTHEWYR_ERROR_SIZE, "shared memory %s: %s", server->memory, strerror(errno));
-    return at;
+        return unreached(server, strerror(errno), error);
+    over->head = (nolthewyr_memory_head *)at;
+    over->words = (_Atomic uint64_t *)(at + NOLTHEWYR_HEAD_SIZE);
+    over->units = over->words + words;
+    return true;
 }
 
 static bool reached(memory *over, const nolthewyr_server *server, char *error)
 {
-    uint64_t words = nolthewyr_word_count(server->settings.levels), units = nolthewyr_unit_count(server->settings.levels);
     int opened = shm_open(server->memory, O_RDWR, 0);
-    if (opened < 0) {
-        snprintf(error, NOLTHEWYR_ERROR_SIZE, "shared memory %s: %s", server->memory, strerror(errno));
-        return false;
-    }
-    over->size = (words + units) * sizeof(uint64_t);
-    void *at = mapped(opened, server, over->size, error);
+    if (opened < 0)
+        return unreached(server, errno == ENOENT ? "it is gone: the server has ended, or is on another machine" : strerror(errno), error);
+    bool done = mapped(over, opened, server, error);
     close(opened);
-    if (at == MAP_FAILED)
-        return false;
-    over->words = at;
-    over->units = over->words + words;
-    return true;
+    return done;
 }
 
 nolthewyr_transport *nolthewyr_memory_open(const nolthewyr_server *server, char *error)
@@ -123,8 +140,8 @@ nolthewyr_transport *nolthewyr_memory_open(const nolthewyr_server *server, char 
         return NULL;
     }
     /* One machine has one CLOCK_MONOTONIC. */
-    over->transport = (nolthewyr_transport){.execute = execute, .read_units = read_units, .write_units = write_units, .close = close_memory,
-                                            .clock = CLOCK_MONOTONIC, .together = NOLTHEWYR_MOST_AHEAD, .adds = true, .flips = true};
+    over->transport = (nolthewyr_transport){.execute = execute, .read_units = read_units, .write_units = write_units, .served = served,
+                                            .close = close_memory, .clock = CLOCK_MONOTONIC, .together = NOLTHEWYR_MOST_AHEAD, .adds = true, .flips = true};
     if (reached(over, server, error))
         return &over->transport;
     free(over);

@@ -4,8 +4,9 @@
 
 #include <stdio.h>
 
-nolthewyr_transport *nolthewyr_fabric_open(const nolthewyr_server *server, char *error)
+nolthewyr_transport *nolthewyr_fabric_open(const nolthewyr_server *server, uint64_t answer_within, char *error)
 {
+    (void)answer_within;
     snprintf(error, NOLTHEWYR_ERROR_SIZE, "over %s: built without libfabric, only runs over memory are here", server->over);
     return NULL;
 }

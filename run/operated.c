@@ -5,7 +5,6 @@
 
 #include "run.h"
 
-#include <stdio.h>
 
 /* In an inner word Occ has bit 62, TCnt bits 47 to 61, TMax bits 32 to 46, DCnt bits 16 to 31 and DMax bits 0 to 15 (document 01, "The tree"). */
 static const uint64_t OCC = 0x4000000000000000, OCC_AND_TCNT = 0x7fff800000000000, DCNT_ONE = 0x10000, DMAX_ONE = 1;
@@ -138,8 +137,7 @@ bool nolthewyr_run_operated(nolthewyr_run *run, size_t count, size_t *made)
     size_t posted = accesses_found(run, count);
     run->counts.round_trips++;
     if (!run->transport->execute(run->transport, run->accesses, posted)) {
-        run->failed = true;
-        snprintf(run->error, sizeof run->error, "%s", run->transport->error);
+        nolthewyr_run_failed(run);
         return false;
     }
     *made = taken_in(run, posted);

@@ -6,7 +6,7 @@
 
 /* In nanoseconds. A sleep ends later than asked, by about SLEEP_OVER, so the end of a rest is spent looking at the clock: who yields the
  * processor instead may have it back only milliseconds later. No sleep is over SLEEP_MOST, so that a cancel from another thread is
- * seen. */
+ * seen, and the end of a server. */
 enum { SLEEP_OVER = 10000, SLEEP_MOST = 10000000 };
 
 /* The fences keep the reading at its place among the accesses to words: a processor would else be free to make a later read first. */
@@ -39,7 +39,8 @@ static void sleep_for_part(uint64_t left)
 
 void nolthewyr_run_rest(const nolthewyr_run *run, uint64_t until)
 {
-    for (uint64_t now = nolthewyr_run_clock(run); now < until && !nolthewyr_run_gives_up(run); now = nolthewyr_run_clock(run))
+    nolthewyr_transport *over = run->transport;
+    for (uint64_t now = nolthewyr_run_clock(run); now < until && !nolthewyr_run_gives_up(run) && over->served(over); now = nolthewyr_run_clock(run))
         if (until - now > 2 * SLEEP_OVER)
             sleep_for_part(until - now);
 }

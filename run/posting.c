@@ -11,11 +11,12 @@
 #include <stdio.h>
 #include <string.h>
 
-/* A server that answers nothing for so many seconds is taken to be gone. So many completions are looked for at once. */
-enum { SECONDS = 10, LOOKED_FOR = 16 };
+/* So many completions are looked for at once; and whether there still is a connection every so many nanoseconds without an answer. */
+enum { LOOKED_FOR = 16, LOOK_AFTER = 100000000, BILLION = 1000000000 };
 
-/* What is posted: an access to a word, whose kinds stand first and as transport.h has them, or a chunk of units. */
-enum kind { READ_WORD, SWAP_WORD, ADD_TO_WORD, FLIP_BITS, READ_UNITS, WRITE_UNITS };
+/* What is posted: an access to a word, whose kinds stand first and as transport.h has them, a chunk of units, the identity, or a line of the
+ * server's log. */
+enum kind { READ_WORD, SWAP_WORD, ADD_TO_WORD, FLIP_BITS, READ_UNITS, WRITE_UNITS, READ_IDENTITY, SAY };
 
 typedef struct posting {
     enum kind kind;
@@ -26,11 +27,24 @@ typedef struct posting {
 
 static bool failed(nolthewyr_fabric *over, enum kind kind, ssize_t answer)
 {
-    static const char *const names[] = {"the read of a word", "the swap of a word",  "the add to a word",
-                                        "the flip of bits",   "the read of units", "the write of units"};
+    static const char *const names[] = {"the read of a word", "the swap of a word", "the add to a word",          "the flip of bits",
+                                        "the read of units",  "the write of units", "the read of its identity", "a line for its log"};
+    char *error = over->transport.error;
+    int number = (int)(answer < 0 ? -answer : answer);
     over->broken = true;
-    snprintf(over->transport.error, NOLTHEWYR_ERROR_SIZE, "over %s: %s: %s", over->local.info->fabric_attr->prov_name, names[kind],
-             answer == -FI_ETIMEDOUT ? "the server does not answer" : fi_strerror((int)(answer < 0 ? -answer : answer)));
+    if (number == FI_ETIMEDOUT)
+        snprintf(error, NOLTHEWYR_ERROR_SIZE, "%s has not answered %s for %.3g s", over->reached, names[kind], (double)over->answer_within / BILLION);
+    else if (number == FI_EACCES || number == FI_ENOKEY)
+        snprintf(error, NOLTHEWYR_ERROR_SIZE, "%s does not know the keys of the file: it was started anew, or the file is not as it wrote it: take its file",
+                 over->reached);
+    else if (number == FI_ENOTCONN || number == FI_ECANCELED || number == FI_ECONNRESET)
+        snprintf(error, NOLTHEWYR_ERROR_SIZE, "%s has broken off the connection, or the network has (%s: %s)", over->reached, names[kind],
+                 fi_strerror(number));
+    else if (kind == READ_IDENTITY)
+        snprintf(error, NOLTHEWYR_ERROR_SIZE, "%s cannot be reached: %s", over->reached, fi_strerror(number));
+    else
+        snprintf(error, NOLTHEWYR_ERROR_SIZE, "%s: %s: %s", over->reached, names[kind], fi_strerror(number));
+    over->transport.gone = number == FI_EACCES || number == FI_ENOKEY;
     return false;
 }
 
@@ -59,6 +73,10 @@ static ssize_t posted(nolthewyr_fabric *over, posting post)
         return fetching(over, post, FI_UINT64, FI_BXOR);
     case READ_UNITS:
         return fi_read(from, room->units, post.size, local, over->server, post.at, over->units.key, NULL);
+    case READ_IDENTITY:
+        return fi_read(from, room->units, post.size, local, over->server, post.at, over->start.key, NULL);
+    case SAY:
+        return fi_send(from, room->said, post.size, local, over->server, NULL);
     default:
         return fi_write(from, room->units, post.size, local, over->server, post.at, over->units.key, NULL);
     }
@@ -78,18 +96,32 @@ static ssize_t driven(nolthewyr_fabric *over)
     return answer;
 }
 
-static time_t seconds(void)
+static uint64_t nanoseconds(void)
 {
     struct timespec now;
     clock_gettime(CLOCK_MONOTONIC, &now);
-    return now.tv_sec;
+    return (uint64_t)now.tv_sec * BILLION + (uint64_t)now.tv_nsec;
+}
+
+/* Whether no answer is waited for any more: it was for as long as it may be, or the connection is gone, at which is looked now and then. Gives the
+ * error, or FI_EAGAIN. */
+static ssize_t still_awaited(const nolthewyr_fabric *over, uint64_t begun, uint64_t *looked)
+{
+    uint64_t now = nanoseconds();
+    if (over->answer_within > 0 && now - begun > over->answer_within)
+        return -FI_ETIMEDOUT;
+    if (now - *looked < LOOK_AFTER)
+        return -FI_EAGAIN;
+    *looked = now;
+    int lost = nolthewyr_connection_lost(&over->connection);
+    return lost != 0 ? -lost : -FI_EAGAIN;
 }
 
 /* Posts all in their order, and waits until all are completed. Which was completed does not matter: nothing else is under way. */
 static bool made(nolthewyr_fabric *over, const posting *list, size_t count)
 {
     size_t sent = 0, completed = 0;
-    time_t begun = seconds();
+    uint64_t begun = nanoseconds(), looked = begun;
     while (completed < count) {
         ssize_t answer = sent < count ? posted(over, list[sent]) : -FI_EAGAIN;
         if (answer == 0) {
@@ -98,8 +130,8 @@ static bool made(nolthewyr_fabric *over, const posting *list, size_t count)
         }
         if (answer == -FI_EAGAIN)
             answer = driven(over);
-        if (answer == -FI_EAGAIN && seconds() - begun > SECONDS)
-            answer = -FI_ETIMEDOUT;
+        if (answer == -FI_EAGAIN)
+            answer = still_awaited(over, begun, &looked);
         if (answer > 0)
             completed += (size_t)answer;
         else if (answer != -FI_EAGAIN)
@@ -179,4 +211,24 @@ bool nolthewyr_fabric_write(nolthewyr_transport *transport, uint64_t first, uint
             return false;
     }
     return true;
+}
+
+bool nolthewyr_fabric_identity_read(nolthewyr_fabric *over)
+{
+    posting post = {.kind = READ_IDENTITY, .at = over->start.base, .size = sizeof over->transport.identity};
+    if (!made(over, &post, 1))
+        return false;
+    memcpy(&over->transport.identity, over->buffers->units, sizeof over->transport.identity);
+    return true;
+}
+
+/* A server that was started anew has answered, and is told. One that cannot be told does not answer, which the next access finds. */
+void nolthewyr_fabric_announce(nolthewyr_transport *transport, const char *text)
+{
+    nolthewyr_fabric *over = (nolthewyr_fabric *)transport;
+    posting post = {.kind = SAY, .size = NOLTHEWYR_SAID_SIZE};
+    if (over->broken && !over->transport.gone)
+        return;
+    snprintf(over->buffers->said, NOLTHEWYR_SAID_SIZE, "%s", text);
+    made(over, &post, 1);
 }

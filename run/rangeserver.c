@@ -1,5 +1,6 @@
 /* rangeserver: a memory server. It makes the words and units, writes a file that says how they are reached, and serves until a signal. */
 
+#include <fcntl.h>
 #include <getopt.h>
 #include <stdio.h>
 #include <stdlib.h>
@@ -7,6 +8,7 @@
 #include <unistd.h>
 
 #include "arguments.h"
+#include "file_locks.h"
 #include "serving.h"
 
 /* As schedule(1) has them. */
@@ -21,7 +23,14 @@ static void end_serving(int signal)
 }
 
 static const char usage[] =
-    "usage: rangeserver --levels H --distance M --wait NS --patience NS --over memory|PROVIDER [--address HOST] FILE\n";
+    "usage: rangeserver --levels H --distance M --wait TIME --patience TIME --over memory|PROVIDER [--address HOST] [--port PORT]\n"
+    "            [--anyway] [--quiet] FILE\n";
+
+/* What is asked of this start: the server, whether it starts although runs of the start before may still hold, and whether it logs nothing. */
+typedef struct start {
+    nolthewyr_server server;
+    bool anyway, quiet;
+} start;
 
 static int wrong_line(const char *reason, const char *text)
 {
@@ -37,41 +46,56 @@ static int failed(const char *reason)
 
 static const struct option options[] = {
     {"levels", required_argument, NULL, 'l'}, {"distance", required_argument, NULL, 'd'}, {"wait", required_argument, NULL, 'w'},
-    {"patience", required_argument, NULL, 'p'}, {"over", required_argument, NULL, 'o'}, {"address", required_argument, NULL, 'a'}, {0},
+    {"patience", required_argument, NULL, 'p'}, {"over", required_argument, NULL, 'o'}, {"address", required_argument, NULL, 'a'},
+    {"port", required_argument, NULL, 'P'}, {"anyway", no_argument, NULL, 'y'}, {"quiet", no_argument, NULL, 'q'}, {0},
 };
 
-static bool option_set(nolthewyr_server *server, int option)
+static bool text_set(char *text)
 {
-    char *text = option == 'o' ? server->over : server->host;
+    return snprintf(text, NOLTHEWYR_NAME_SIZE, "%s", optarg) < NOLTHEWYR_NAME_SIZE && text[0] != '\0';
+}
+
+static bool option_set(start *asked, int option)
+{
+    nolthewyr_server *server = &asked->server;
+    uint64_t port;
     switch (option) {
     case 'l':
-        return nolthewyr_number(optarg, &server->settings.levels);
+        return nolthewyr_number(optarg, &server->identity.settings.levels);
     case 'd':
-        return nolthewyr_number(optarg, &server->settings.distance);
+        return nolthewyr_number(optarg, &server->identity.settings.distance);
     case 'w':
-        return nolthewyr_number(optarg, &server->settings.wait);
+        return nolthewyr_duration(optarg, &server->identity.settings.wait);
     case 'p':
-        return nolthewyr_number(optarg, &server->settings.patience);
+        return nolthewyr_duration(optarg, &server->identity.settings.patience);
+    case 'P':
+        return nolthewyr_number(optarg, &port) && port > 0 && port < 65536 && text_set(server->port);
+    case 'y':
+        return asked->anyway = true;
+    case 'q':
+        return asked->quiet = true;
     default:
-        return snprintf(text, NOLTHEWYR_NAME_SIZE, "%s", optarg) < NOLTHEWYR_NAME_SIZE && text[0] != '\0';
+        return text_set(option == 'o' ? server->over : server->host);
     }
 }
 
-/* Sets the server as the arguments say, and gives 0, or says what is wrong. A setting that is left out is 0, which no test accepts. */
-static int arguments_read(nolthewyr_server *server, int argc, char **argv)
+/* Sets what the arguments say, and gives 0, or says what is wrong. A setting that is left out is 0, which no test accepts. */
+static int arguments_read(start *asked, int argc, char **argv)
 {
+    nolthewyr_server *server = &asked->server;
     int option;
     char error[NOLTHEWYR_ERROR_SIZE];
     opterr = 0;
     while ((option = getopt_long(argc, argv, ":", options, NULL)) != -1)
         if (option == '?' || option == ':')
             return wrong_line(option == '?' ? "no such option: " : "nothing said after ", argv[optind - 1]);
-        else if (!option_set(server, option))
-            return wrong_line("not a number, or too long: ", optarg);
+        else if (!option_set(asked, option))
+            return wrong_line("not a number, a time or a port, or too long: ", optarg);
     if (server->over[0] == '\0')
         return wrong_line("--over is not said", "");
-    if (!nolthewyr_server_settled(server->settings, error))
+    if (!nolthewyr_server_settled(server->identity.settings, error))
         return wrong_line(error, "");
+    server->identity.units = nolthewyr_unit_count(server->identity.settings.levels);
     return optind + 1 == argc ? 0 : wrong_line("one FILE is to be named", "");
 }
 
@@ -89,19 +113,46 @@ static sigset_t signals_blocked(void)
     return before;
 }
 
-/* Whether the file may be written: it is not there, or a server that died has left it. It is then removed, with what that server had of
- * shared memory. It is read before it is locked: when a process closes a file, its lock goes. */
-static bool room_made(const char *file, char *error)
+/* Reads what a server left. It is read before it is locked: when a process closes a file, its lock goes. */
+static bool left_read(nolthewyr_server *left, const char *file, char *error)
+{
+    int opened = open(file, O_RDONLY | O_CLOEXEC);
+    bool read = opened >= 0 && nolthewyr_server_read(left, opened, file, error);
+    if (opened >= 0)
+        close(opened);
+    return read || (opened >= 0 && left->version[0] != '\0');
+}
+
+/* Whether no run of the start before is still there, or this start goes on all the same, and says what that risks. */
+static bool runs_ended(int locked, const char *file, bool anyway, char *error)
+{
+    char who[NOLTHEWYR_ERROR_SIZE];
+    if (nolthewyr_runs_kept_out(locked, who))
+        return true;
+    if (anyway)
+        fprintf(stderr, "rangeserver: %s: --anyway: runs of the start before are still there: %.400s. Until they have ended, a window that one of them"
+                " holds may be taken by another run, and a command under `rangerun hold` run beside another\n", file, who);
+    else
+        snprintf(error, NOLTHEWYR_ERROR_SIZE, "%s: runs of the start before may still hold windows: %.400s. End them and start again"
+                 " (--anyway starts beside them: then two runs may hold one window)", file, who);
+    return anyway;
+}
+
+/* Whether the file may be written: it is not there, or a server that ended or died has left it. It is then removed, with what that server had of
+ * shared memory. */
+static bool room_made(const char *file, bool anyway, char *error)
 {
     nolthewyr_server left;
     if (access(file, F_OK) != 0)
         return true;
-    nolthewyr_server_read(&left, file, error);
+    bool read = left_read(&left, file, error);
     int locked = nolthewyr_server_left(file, error);
     if (locked < 0)
         return false;
-    if (left.version[0] == '\0')
-        snprintf(error, NOLTHEWYR_ERROR_SIZE, "%s: it is there, and no server has written it", file);
+    if (!read)
+        snprintf(error, NOLTHEWYR_ERROR_SIZE, "%s: it is there, and no server has written it: name another file, or remove it", file);
+    else if (!runs_ended(locked, file, anyway, error))
+        return false;
     else if (!nolthewyr_memory_removed(left.memory))
         snprintf(error, NOLTHEWYR_ERROR_SIZE, "%s: a copy of the file of a server that still serves shared memory %s", file, left.memory);
     else if (!nolthewyr_server_remove(locked, file))
@@ -111,29 +162,49 @@ static bool room_made(const char *file, char *error)
     return false;
 }
 
+/* Removes the file, unless runs are still there: by it the next start sees them. */
+static void file_ended(int written, const char *file)
+{
+    char who[NOLTHEWYR_ERROR_SIZE];
+    if (nolthewyr_runs_kept_out(written, who))
+        nolthewyr_server_remove(written, file);
+    else
+        fprintf(stderr, "rangeserver: %s: it stays, since runs are still there, which fail at their next access: %.400s\n", file, who);
+}
+
+static const nolthewyr_serving *begun(start *asked, const char *file, int *written, char *error)
+{
+    nolthewyr_server *server = &asked->server;
+    const nolthewyr_serving *serving = nolthewyr_server_over_memory(server) ? &nolthewyr_memory_serving : &nolthewyr_fabric_serving;
+    snprintf(error, NOLTHEWYR_ERROR_SIZE, "this machine gives no random numbers");
+    if (!nolthewyr_start_drawn(&server->identity) || !room_made(file, asked->anyway, error) || !serving->begin(server, error))
+        return NULL;
+    *written = nolthewyr_server_write(server, file, error);
+    if (*written >= 0)
+        return serving;
+    serving->end(server);
+    return NULL;
+}
+
 int main(int argc, char **argv)
 {
-    nolthewyr_server server = {.version = NOLTHEWYR_VERSION};
+    start asked = {.server = {.version = NOLTHEWYR_VERSION, .identity = {.layout = NOLTHEWYR_LAYOUT}}};
     char error[NOLTHEWYR_ERROR_SIZE];
+    int written;
     if (argc == 2 && strcmp(argv[1], "--help") == 0)
         return printf("%s", usage) < 0;
-    int wrong = arguments_read(&server, argc, argv);
+    int wrong = arguments_read(&asked, argc, argv);
     if (wrong != 0)
         return wrong;
     const char *file = argv[optind];
-    const nolthewyr_serving *serving = nolthewyr_server_over_memory(&server) ? &nolthewyr_memory_serving : &nolthewyr_fabric_serving;
     sigset_t waiting = signals_blocked();
-    if (!room_made(file, error) || !serving->begin(&server, error))
+    const nolthewyr_serving *serving = begun(&asked, file, &written, error);
+    if (serving == NULL)
         return failed(error);
-    int written = nolthewyr_server_write(&server, file, error);
-    if (written < 0) {
-        serving->end(&server);
-        return failed(error);
-    }
     printf("serving %s\n", file);
     fflush(stdout);
-    serving->serve(&ended, &waiting);
-    nolthewyr_server_remove(written, file);
-    serving->end(&server);
+    serving->serve(&ended, &waiting, asked.quiet);
+    serving->end(&asked.server);
+    file_ended(written, file);
     return EXIT_SUCCESS;
 }

@@ -9,6 +9,8 @@
 #include <string.h>
 #include <unistd.h>
 
+#include "file_locks.h"
+
 /* The pauses between two requests for a window are below the wait at first, and below MOST_WAITS waits at last. */
 enum { MOST_WAITS = 16 };
 
@@ -34,21 +36,52 @@ nolthewyr_run *nolthewyr_run_over(nolthewyr_transport *transport, nolthewyr_sett
     run->settings = settings;
     run->lists.most = transport->together;
     run->look_limit = NOLTHEWYR_LOOK_FIRST;
+    run->present = -1;
     run->drawn = (nolthewyr_run_clock(run) << 20 | (uint64_t)getpid()) | 1; /* runs that begin together draw other numbers */
     return run;
 }
 
+/* Whether the server is the one that wrote the file: its identity is the file's, and its words and units are under the file's keys. */
+static bool is_server_of(nolthewyr_transport *transport, const nolthewyr_server *server, const char *file, char *error)
+{
+    nolthewyr_access root = {.kind = NOLTHEWYR_ACCESS_READ, .node = 1};
+    uint64_t unit;
+    if (!nolthewyr_identity_same(&server->identity, &transport->identity, file, error))
+        return false;
+    if (transport->execute(transport, &root, 1) && transport->read_units(transport, 0, 1, &unit) && transport->served(transport))
+        return true;
+    snprintf(error, NOLTHEWYR_ERROR_SIZE, "%s: %.700s", file, transport->error);
+    return false;
+}
+
+static nolthewyr_transport *reached(const nolthewyr_server *server, const char *file, uint64_t answer_within, char *error)
+{
+    bool over_memory = nolthewyr_server_over_memory(server);
+    nolthewyr_transport *transport = over_memory ? nolthewyr_memory_open(server, error) : nolthewyr_fabric_open(server, answer_within, error);
+    if (transport == NULL)
+        return NULL;
+    bool is_server = is_server_of(transport, server, file, error);
+    nolthewyr_run_announced(transport, is_server ? "opened" : "refused", is_server ? "" : error);
+    if (is_server)
+        return transport;
+    transport->close(transport);
+    return NULL;
+}
+
 static nolthewyr_run *opened(const char *file, uint64_t answer_within, char *error)
 {
-    (void)answer_within;
     nolthewyr_server server;
-    if (!nolthewyr_server_read(&server, file, error) || !nolthewyr_server_settled(server.settings, error))
+    nolthewyr_run *run = NULL;
+    int present = nolthewyr_joined(&server, file, error);
+    if (present < 0)
         return NULL;
-    bool over_memory = nolthewyr_server_over_memory(&server);
-    nolthewyr_transport *transport = over_memory ? nolthewyr_memory_open(&server, error) : nolthewyr_fabric_open(&server, error);
-    nolthewyr_run *run = transport == NULL ? NULL : nolthewyr_run_over(transport, server.settings, error);
-    if (transport != NULL && run == NULL)
+    nolthewyr_transport *transport = nolthewyr_server_settled(server.identity.settings, error) ? reached(&server, file, answer_within, error) : NULL;
+    if (transport != NULL && (run = nolthewyr_run_over(transport, server.identity.settings, error)) == NULL)
         transport->close(transport);
+    if (run == NULL)
+        nolthewyr_parted(present);
+    else
+        run->present = present;
     return run;
 }
 
@@ -111,7 +144,9 @@ static bool attempted(nolthewyr_run *run)
         bool gives_up = nolthewyr_run_gives_up(run);
         if (gives_up && !nolthewyr_run_accepted(run, nolthewyr_own_cancel(*client, run->settings), "the cancel"))
             return false;
-        if (!gives_up && !nolthewyr_run_step(run))
+        if (gives_up)
+            nolthewyr_run_comes_on(run); /* what it waits for from now on is another thing */
+        else if (!nolthewyr_run_step(run))
             return false;
     }
     run->counts.windows += client->record.phase == NOLTHEWYR_PHASE_HELD;
@@ -129,7 +164,7 @@ static int asked(nolthewyr_run *run, uint64_t left, uint64_t right)
         if (!nolthewyr_run_accepted(run, answer, "the request") || !attempted(run))
             return NOLTHEWYR_RUN_FAILED;
         if (run->client.record.phase == NOLTHEWYR_PHASE_HELD)
-            return NOLTHEWYR_RUN_DONE;
+            return nolthewyr_run_served(run) ? NOLTHEWYR_RUN_DONE : NOLTHEWYR_RUN_FAILED;
         nolthewyr_run_pause(run, &limit, MOST_WAITS * run->settings.wait);
     }
     bool cancelled = atomic_exchange(&run->cancelled, 0);
@@ -146,6 +181,8 @@ int nolthewyr_run_take(nolthewyr_run *run, uint64_t left, uint64_t right, uint64
                        run->client.record.right);
     if (left >= right || right > units)
         return refused(run, "[%" PRIu64 ", %" PRIu64 ") is no window of the units 0 to %" PRIu64, left, right, units - 1);
+    run->takes_since = now;
+    run->told[NOLTHEWYR_RUN_WAITS] = run->told[NOLTHEWYR_RUN_CANNOT_END] = false;
     run->deadline = limit == 0 || limit > UINT64_MAX - now ? UINT64_MAX : now + limit;
     return asked(run, left, right);
 }
@@ -154,10 +191,10 @@ int nolthewyr_run_give_back(nolthewyr_run *run)
 {
     if (run->failed || run->client.record.phase != NOLTHEWYR_PHASE_HELD)
         return refused(run, "no window is held");
-    bool done = nolthewyr_run_accepted(run, nolthewyr_own_release(run->client, run->settings), "the release");
+    bool done = nolthewyr_run_served(run) && nolthewyr_run_accepted(run, nolthewyr_own_release(run->client, run->settings), "the release");
     while (done && run->client.record.phase != NOLTHEWYR_PHASE_IDLE)
         done = nolthewyr_run_step(run);
-    return done ? NOLTHEWYR_RUN_DONE : NOLTHEWYR_RUN_FAILED;
+    return done && nolthewyr_run_served(run) ? NOLTHEWYR_RUN_DONE : NOLTHEWYR_RUN_FAILED;
 }
 
 /* Whether all these units are the run's now. */
@@ -170,11 +207,9 @@ static bool held(const nolthewyr_run *run, uint64_t first, uint64_t count)
 
 static int transferred(nolthewyr_run *run, bool done)
 {
-    if (done)
-        return NOLTHEWYR_RUN_DONE;
-    run->failed = true;
-    snprintf(run->error, sizeof run->error, "%s", run->transport->error);
-    return NOLTHEWYR_RUN_FAILED;
+    if (!done)
+        nolthewyr_run_failed(run);
+    return done && nolthewyr_run_served(run) ? NOLTHEWYR_RUN_DONE : NOLTHEWYR_RUN_FAILED;
 }
 
 int nolthewyr_run_read(nolthewyr_run *run, uint64_t first, uint64_t count, uint64_t *units)
@@ -195,6 +230,9 @@ void nolthewyr_run_close(nolthewyr_run *run)
 {
     if (!run->failed && run->client.record.phase == NOLTHEWYR_PHASE_HELD)
         nolthewyr_run_give_back(run);
+    nolthewyr_run_announced(run->transport, "closed", run->failed ? run->error : "");
     run->transport->close(run->transport);
+    if (run->present >= 0)
+        nolthewyr_parted(run->present);
     free(run);
 }

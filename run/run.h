@@ -11,8 +11,8 @@
 /* Inside the library alone. */
 #pragma GCC visibility push(hidden)
 
-/* The most levels of a tree; and the limits of a pause between two looks at a word that another must change first, in nanoseconds. */
-enum { NOLTHEWYR_MOST_LEVELS = 12, NOLTHEWYR_LOOK_FIRST = 1000, NOLTHEWYR_LOOK_MOST = 1000000 };
+/* The most levels of a tree; and below how many nanoseconds the first pause is between two looks at a word that another must change first. */
+enum { NOLTHEWYR_MOST_LEVELS = 12, NOLTHEWYR_LOOK_FIRST = 1000 };
 
 /* The last word that a run saw at a node. */
 typedef struct nolthewyr_seen {
@@ -36,11 +36,15 @@ struct nolthewyr_run {
      * it must hold that a word is whole here only if it was seen whole, and that the turn's own read is noted. Two a level, the later first, since of
      * each level a piece changes one node at most, its own or one that it notifies. */
     nolthewyr_seen seen[NOLTHEWYR_MOST_LEVELS][2];
-    uint64_t look_limit; /* the next pause between two looks is below this */
+    uint64_t look_limit;  /* the next pause between two looks is below this */
+    uint64_t waits_since; /* the clock at which it first found others in the way of what it does now, 0 if they are not */
+    uint64_t takes_since; /* the clock at which the take began */
     uint64_t deadline;   /* the clock at which a take gives up, UINT64_MAX for none */
     uint64_t drawn;      /* the last random number */
     nolthewyr_run_teller *teller; /* who is told what a run has to say, NULL for nobody */
     void *context;
+    bool told[2]; /* what it has told in this take */
+    int present;  /* the server's file, open and locked for as long as the run is there; -1 if it has none */
     atomic_int cancelled;
     bool failed;
     char error[NOLTHEWYR_ERROR_SIZE];
@@ -52,11 +56,27 @@ uint64_t nolthewyr_run_clock(const nolthewyr_run *run);
 /* Whether a take is to give up: it was cancelled, or its limit is over. What is being given back is given back in any case. */
 bool nolthewyr_run_gives_up(const nolthewyr_run *run);
 
-/* Lets others have the processor until the clock shows `until`, or the take gives up. */
+/* Lets others have the processor until the clock shows `until`, the take gives up, or there is no server any more. */
 void nolthewyr_run_rest(const nolthewyr_run *run, uint64_t until);
 
 /* Rests for a random time below the limit, then doubles it, up to `most`. */
 void nolthewyr_run_pause(nolthewyr_run *run, uint64_t *limit, uint64_t most);
+
+/* Others are in the way: tells of it what is to be told, and pauses before the next look. The pauses grow until it comes on. */
+void nolthewyr_run_looks_again(nolthewyr_run *run);
+void nolthewyr_run_comes_on(nolthewyr_run *run);
+
+/* The first and the last unit of a node. */
+void nolthewyr_node_units(uint64_t levels, uint64_t node, uint64_t *first, uint64_t *last);
+
+/* The transport has failed, and so has the run: its error says what, where, in which phase of which window, and what may stay taken. */
+void nolthewyr_run_failed(nolthewyr_run *run);
+
+/* Whether there still is a server, as far as it is known. If not, the run has failed. */
+bool nolthewyr_run_served(nolthewyr_run *run);
+
+/* Has the server's log say what becomes of a run: the process, and why if there is something to say. */
+void nolthewyr_run_announced(nolthewyr_transport *transport, const char *what, const char *why);
 
 /* Makes one step: finds the operations that are due, makes them on their words, completes them. Rests where the phase waits for a time, and
  * pauses if others are in the way; makes none if the take gives up while it rests, or if another's operation came before its swap. False if

@@ -10,19 +10,27 @@
 #include <sys/stat.h>
 #include <unistd.h>
 
-enum { LINE_SIZE = 400 };
+#include "file_locks.h"
+
+enum { LINE_SIZE = 400, FILE_SIZE = 4096 };
 
 #define COUNT(list) (sizeof(list) / sizeof *(list))
 #define AT(field) offsetof(nolthewyr_server, field)
 
+/* In the order of the file. Those from the first key on stand in the file of a server that is reached over libfabric. */
 static const struct { const char *name; size_t at; } numbers[] = {
-    {"levels", AT(settings.levels)}, {"distance", AT(settings.distance)}, {"wait", AT(settings.wait)}, {"patience", AT(settings.patience)},
-    {"words-key", AT(words.key)}, {"words-base", AT(words.base)}, {"units-key", AT(units.key)}, {"units-base", AT(units.base)},
+    {"layout", AT(identity.layout)}, {"levels", AT(identity.settings.levels)}, {"distance", AT(identity.settings.distance)},
+    {"wait", AT(identity.settings.wait)}, {"patience", AT(identity.settings.patience)}, {"units", AT(identity.units)},
+    {"start-key", AT(start.key)}, {"start-base", AT(start.base)}, {"words-key", AT(words.key)}, {"words-base", AT(words.base)},
+    {"units-key", AT(units.key)}, {"units-base", AT(units.base)},
 };
+enum { OF_ALL_SERVERS = 6 };
 
+/* A text that is empty is not written. */
 static const struct { const char *name; size_t at, size; } texts[] = {
-    {"version", AT(version), NOLTHEWYR_NAME_SIZE}, {"over", AT(over), NOLTHEWYR_NAME_SIZE}, {"memory", AT(memory), NOLTHEWYR_NAME_SIZE},
-    {"host", AT(host), NOLTHEWYR_NAME_SIZE}, {"address", AT(address), 2 * NOLTHEWYR_ADDRESS_SIZE + 1},
+    {"version", AT(version), NOLTHEWYR_NAME_SIZE}, {"start", AT(identity.start), NOLTHEWYR_START_SIZE}, {"over", AT(over), NOLTHEWYR_NAME_SIZE},
+    {"memory", AT(memory), NOLTHEWYR_NAME_SIZE}, {"host", AT(host), NOLTHEWYR_NAME_SIZE}, {"port", AT(port), NOLTHEWYR_NAME_SIZE},
+    {"address", AT(address), 2 * NOLTHEWYR_ADDRESS_SIZE + 1},
 };
 
 uint64_t nolthewyr_unit_count(uint64_t levels)
@@ -35,10 +43,11 @@ bool nolthewyr_server_over_memory(const nolthewyr_server *server)
     return strcmp(server->over, "memory") == 0;
 }
 
-/* Whether it serves on this machine, where the lock of its file can be seen. */
-static bool here(const nolthewyr_server *server)
+void nolthewyr_address_read(const nolthewyr_server *server, unsigned char *bytes)
 {
-    return nolthewyr_server_over_memory(server) || server->host[0] == '\0' || strcmp(server->host, "127.0.0.1") == 0;
+    for (size_t i = 0; i < strlen(server->address) / 2; i++)
+        if (sscanf(server->address + 2 * i, "%2hhx", &bytes[i]) != 1)
+            break;
 }
 
 static bool number_set(nolthewyr_server *server, const char *name, const char *value)
@@ -82,22 +91,35 @@ static bool same_series(const char *a, const char *b)
     return end != NULL && strncmp(a, b, (size_t)(end - a) + 1) == 0;
 }
 
-bool nolthewyr_server_read(nolthewyr_server *server, const char *file, char *error)
+/* Reads what there is, past no lock: a process that closes a file loses its locks of it. Gives how many bytes, or -1; a file without any says so
+ * too. */
+static ssize_t text_read(char *text, int opened, const char *file, char *error)
 {
+    ssize_t size = pread(opened, text, FILE_SIZE, 0);
+    if (size < 0)
+        snprintf(error, NOLTHEWYR_ERROR_SIZE, "%s: %s", file, strerror(errno));
+    if (size == 0)
+        snprintf(error, NOLTHEWYR_ERROR_SIZE, "%s: it is empty: no server has written it, or its copy is not whole", file);
+    return size;
+}
+
+bool nolthewyr_server_read(nolthewyr_server *server, int opened, const char *file, char *error)
+{
+    char text[FILE_SIZE];
     memset(server, 0, sizeof *server);
-    FILE *from = fopen(file, "r");
-    if (from == NULL) {
-        snprintf(error, NOLTHEWYR_ERROR_SIZE, "%s: %s: no server has written it, or it has ended", file, strerror(errno));
+    ssize_t size = text_read(text, opened, file, error);
+    FILE *from = size > 0 ? fmemopen(text, (size_t)size, "r") : NULL;
+    if (from == NULL)
         return false;
-    }
     int wrong = lines_read(server, from);
     fclose(from);
     if (wrong > 0)
-        snprintf(error, NOLTHEWYR_ERROR_SIZE, "%s: line %d: not what rangeserver writes", file, wrong);
+        snprintf(error, NOLTHEWYR_ERROR_SIZE, "%s: line %d: not what rangeserver %s writes", file, wrong, NOLTHEWYR_VERSION);
     else if (!same_series(NOLTHEWYR_VERSION, server->version))
         snprintf(error, NOLTHEWYR_ERROR_SIZE, "%s: the server has version '%s', and this is %s", file, server->version, NOLTHEWYR_VERSION);
-    else if (here(server) && nolthewyr_server_process(file) == 0)
-        snprintf(error, NOLTHEWYR_ERROR_SIZE, "%s: the server that wrote it has died", file);
+    else if (server->identity.start[0] == '\0')
+        snprintf(error, NOLTHEWYR_ERROR_SIZE, "%s: no start stands in it, by which the server is known: take the file of a server of version %s",
+                 file, NOLTHEWYR_VERSION);
     else
         return true;
     return false;
@@ -105,31 +127,25 @@ bool nolthewyr_server_read(nolthewyr_server *server, const char *file, char *err
 
 static void lines_written(const nolthewyr_server *server, FILE *to)
 {
-    const nolthewyr_settings *settings = &server->settings;
-    fprintf(to, "version %s\nlevels %" PRIu64 "\ndistance %" PRIu64 "\nwait %" PRIu64 "\npatience %" PRIu64 "\nover %s\n", server->version,
-            settings->levels, settings->distance, settings->wait, settings->patience, server->over);
-    if (nolthewyr_server_over_memory(server)) {
-        fprintf(to, "memory %s\n", server->memory);
-        return;
+    size_t count = nolthewyr_server_over_memory(server) ? OF_ALL_SERVERS : COUNT(numbers);
+    for (size_t i = 0; i < COUNT(texts); i++) {
+        const char *text = (const char *)server + texts[i].at;
+        if (text[0] != '\0')
+            fprintf(to, "%s %s\n", texts[i].name, text);
     }
-    if (server->host[0] != '\0')
-        fprintf(to, "host %s\n", server->host);
-    fprintf(to, "address %s\nwords-key %" PRIu64 "\nwords-base %" PRIu64 "\nunits-key %" PRIu64 "\nunits-base %" PRIu64 "\n",
-            server->address, server->words.key, server->words.base, server->units.key, server->units.base);
-}
-
-static bool locked(int opened)
-{
-    struct flock lock = {.l_type = F_WRLCK, .l_whence = SEEK_SET};
-    return fcntl(opened, F_SETLK, &lock) == 0;
+    for (size_t i = 0; i < count; i++) {
+        uint64_t number;
+        memcpy(&number, (const char *)server + numbers[i].at, sizeof number);
+        fprintf(to, "%s %" PRIu64 "\n", numbers[i].name, number);
+    }
 }
 
 /* A new file for this user alone: who can read it can write the table. What a process of the same number has left there is removed. */
 static FILE *created(const char *file)
 {
     unlink(file);
-    int opened = open(file, O_WRONLY | O_CREAT | O_EXCL | O_CLOEXEC, 0600);
-    return opened < 0 ? NULL : fdopen(opened, "w");
+    int opened = open(file, O_RDWR | O_CREAT | O_EXCL | O_CLOEXEC, 0600);
+    return opened < 0 ? NULL : fdopen(opened, "r+");
 }
 
 int nolthewyr_server_write(const nolthewyr_server *server, const char *file, char *error)
@@ -142,7 +158,7 @@ int nolthewyr_server_write(const nolthewyr_server *server, const char *file, cha
     else if ((to = created(whole)) != NULL) {
         lines_written(server, to);
         /* A link, unlike a rename, fails where another server has written its file meanwhile. */
-        linked = fflush(to) == 0 && locked(fileno(to)) && link(whole, file) == 0;
+        linked = fflush(to) == 0 && nolthewyr_locked_by_server(fileno(to)) && link(whole, file) == 0;
     }
     if (!linked)
         snprintf(error, NOLTHEWYR_ERROR_SIZE, "%s: %s", file, strerror(errno));
@@ -150,46 +166,6 @@ int nolthewyr_server_write(const nolthewyr_server *server, const char *file, cha
         unlink(whole);
     /* `to` stays open: with it the lock would go. */
     return linked ? fileno(to) : -1;
-}
-
-/* Whether the open file is the one that has this name now. */
-static bool has_name(int opened, const char *file)
-{
-    struct stat one, other;
-    return fstat(opened, &one) == 0 && stat(file, &other) == 0 && one.st_dev == other.st_dev && one.st_ino == other.st_ino;
-}
-
-int nolthewyr_server_left(const char *file, char *error)
-{
-    long process = nolthewyr_server_process(file);
-    int opened = open(file, O_RDWR | O_CLOEXEC);
-    if (process != 0)
-        snprintf(error, NOLTHEWYR_ERROR_SIZE, "%s: process %ld serves it", file, process);
-    else if (opened < 0)
-        snprintf(error, NOLTHEWYR_ERROR_SIZE, "%s: %s", file, strerror(errno));
-    else if (!locked(opened) || !has_name(opened, file))
-        snprintf(error, NOLTHEWYR_ERROR_SIZE, "%s: another server is being started or ended on it", file);
-    else
-        return opened;
-    if (opened >= 0)
-        close(opened);
-    return -1;
-}
-
-bool nolthewyr_server_remove(int opened, const char *file)
-{
-    return has_name(opened, file) && unlink(file) == 0;
-}
-
-long nolthewyr_server_process(const char *file)
-{
-    struct flock lock = {.l_type = F_RDLCK, .l_whence = SEEK_SET};
-    int opened = open(file, O_RDONLY | O_CLOEXEC);
-    if (opened < 0)
-        return 0;
-    bool locked = fcntl(opened, F_GETLK, &lock) == 0 && lock.l_type != F_UNLCK;
-    close(opened);
-    return locked ? (long)lock.l_pid : 0;
 }
 
 bool nolthewyr_server_settled(nolthewyr_settings settings, char *error)

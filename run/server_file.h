@@ -1,4 +1,4 @@
-/* The file that a memory server writes: its settings, and how its words and units are reached. A text, one `name value` a line. */
+/* The file that a memory server writes: by what its start is known, and how its words and units are reached. A text, one `name value` a line. */
 
 #ifndef NOLTHEWYR_SERVER_FILE_H
 #define NOLTHEWYR_SERVER_FILE_H
@@ -7,14 +7,14 @@
 #include <stddef.h>
 #include <stdint.h>
 
-#include "nolthewyr.h"
+#include "identity.h"
 
 /* Inside the library alone. */
 #pragma GCC visibility push(hidden)
 
-enum { NOLTHEWYR_ERROR_SIZE = 400, NOLTHEWYR_NAME_SIZE = 64, NOLTHEWYR_ADDRESS_SIZE = 128 };
+enum { NOLTHEWYR_NAME_SIZE = 64, NOLTHEWYR_ADDRESS_SIZE = 128 };
 
-/* Words or units where a card or a provider finds them. */
+/* Words, units or the identity where a card or a provider finds them. */
 typedef struct nolthewyr_region {
     uint64_t key;
     uint64_t base;
@@ -22,11 +22,13 @@ typedef struct nolthewyr_region {
 
 typedef struct nolthewyr_server {
     char version[NOLTHEWYR_NAME_SIZE]; /* the library's: what words mean may change between series */
-    nolthewyr_settings settings;
+    nolthewyr_identity identity;
     char over[NOLTHEWYR_NAME_SIZE];    /* `memory`, or a provider of libfabric */
-    char memory[NOLTHEWYR_NAME_SIZE];  /* the name of the shared memory, with the words first and the units behind them */
+    char memory[NOLTHEWYR_NAME_SIZE];  /* the name of the shared memory */
     char host[NOLTHEWYR_NAME_SIZE];    /* the server's machine; empty where the provider stays on one */
+    char port[NOLTHEWYR_NAME_SIZE];    /* at which it listens; empty where the provider has none, or is to choose one */
     char address[2 * NOLTHEWYR_ADDRESS_SIZE + 1]; /* of the server's endpoint, in hexadecimal digits */
+    nolthewyr_region start; /* the identity */
     nolthewyr_region words;
     nolthewyr_region units;
 } nolthewyr_server;
@@ -39,22 +41,15 @@ bool nolthewyr_server_settled(nolthewyr_settings settings, char *error);
 
 bool nolthewyr_server_over_memory(const nolthewyr_server *server);
 
-/* If one of the next three cannot do it, `error` says why and names the file. */
-bool nolthewyr_server_read(nolthewyr_server *server, const char *file, char *error);
+/* Reads the open file, all of whose lines it must know. If it cannot, `error` says why and names the file. */
+bool nolthewyr_server_read(nolthewyr_server *server, int opened, const char *file, char *error);
 
-/* Writes the file whole, for its user alone, where none is, and keeps it locked while this process lives: so a run can tell a server on its
- * own machine that has died without removing the file. Gives the file, which stays open, or -1. */
+/* The bytes of the server's address, of which there are at most NOLTHEWYR_ADDRESS_SIZE. */
+void nolthewyr_address_read(const nolthewyr_server *server, unsigned char *bytes);
+
+/* Writes the file whole, for its user alone, where none is, and locks it as its server. Gives the file, which stays open, or -1; `error` then
+ * says why. */
 int nolthewyr_server_write(const nolthewyr_server *server, const char *file, char *error);
-
-/* Locks the file that a server left when it died. Only who has a file locked may remove it: so of servers that are started at once none
- * removes another's. Gives the file, which stays open, or -1 if another has it. */
-int nolthewyr_server_left(const char *file, char *error);
-
-/* Removes the file that is open, if it still has this name. */
-bool nolthewyr_server_remove(int opened, const char *file);
-
-/* The process on this machine that serves the file, 0 for none. */
-long nolthewyr_server_process(const char *file);
 
 #pragma GCC visibility pop
 

@@ -8,10 +8,12 @@
 #include "server_file.h"
 
 typedef struct nolthewyr_serving {
-    /* Makes words and units, all zero, and sets in `server` how they are reached. False if it cannot, and `error` says why. */
+    /* Makes words and units, all zero, and sets in `server`, whose identity is there, how they are reached. False if it cannot, and `error` says
+     * why. */
     bool (*begin)(nolthewyr_server *server, char *error);
-    /* Serves until a signal sets `ended`. The signals that do so are blocked but for the set `waiting`, with which it may sleep. */
-    void (*serve)(const volatile sig_atomic_t *ended, const sigset_t *waiting);
+    /* Serves until a signal sets `ended`. The signals that do so are blocked but for the set `waiting`, with which it may sleep. What it sees of runs
+     * goes to standard error, unless it is to be quiet. */
+    void (*serve)(const volatile sig_atomic_t *ended, const sigset_t *waiting, bool quiet);
     void (*end)(const nolthewyr_server *server);
 } nolthewyr_serving;
 

@@ -112,22 +112,24 @@ static nolthewyr_client_answer completed(nolthewyr_run *run, uint64_t clock, siz
     return nolthewyr_completed(run->client, run->settings, clock, made == 1 ? run->found[0] : 0);
 }
 
-/* Pauses if the step found others in the way: the record is as it was, or a leaf's claim begins anew. The pauses grow until the piece
- * comes further than its claim. */
+/* Pauses if the step found others in the way: the record is as it was, or a leaf's claim begins anew. It comes on when the piece comes further
+ * than its claim. */
 static void pause_if_none_came_on(nolthewyr_run *run, const nolthewyr_record *before)
 {
     const nolthewyr_record *after = &run->client.record;
     bool claim_failed = before->phase == NOLTHEWYR_PHASE_CLAIM && after->phase == NOLTHEWYR_PHASE_CLIMB;
     if (claim_failed || memcmp(before, after, sizeof *before) == 0)
-        nolthewyr_run_pause(run, &run->look_limit, NOLTHEWYR_LOOK_MOST);
+        nolthewyr_run_looks_again(run);
     else if (after->phase < NOLTHEWYR_PHASE_CLIMB || after->phase > NOLTHEWYR_PHASE_CLAIM)
-        run->look_limit = NOLTHEWYR_LOOK_FIRST;
+        nolthewyr_run_comes_on(run);
 }
 
 bool nolthewyr_run_step(nolthewyr_run *run)
 {
     const nolthewyr_record record = run->client.record;
     uint64_t before;
+    if (!nolthewyr_run_served(run))
+        return false;
     if (!clock_before(run, &before))
         return true;
     size_t count = due(run, before), made = 0;

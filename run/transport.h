@@ -44,17 +44,25 @@ struct nolthewyr_transport {
     /* What is written is in place before the call returns: the accesses after it may let another run in. */
     bool (*read_units)(nolthewyr_transport *transport, uint64_t first, uint64_t count, uint64_t *units);
     bool (*write_units)(nolthewyr_transport *transport, uint64_t first, uint64_t count, const uint64_t *units);
+    /* Whether the server still serves, as far as this is known without asking it. Accesses to a server that does not are made to words that nobody
+     * else has. */
+    bool (*served)(nolthewyr_transport *transport);
+    /* Has the server's log say what becomes of this run. NULL where the server keeps none. */
+    void (*announce)(nolthewyr_transport *transport, const char *text);
     void (*close)(nolthewyr_transport *transport);
     /* A clock that is true within 1 part in 10,000 among all runs that share the words by this transport. */
     clockid_t clock;
     size_t together; /* how many accesses it has under way at a time: 1 where it does not know that they are made in order */
     bool adds, flips;
+    nolthewyr_identity identity; /* as the server's memory has it */
+    bool gone; /* the server is known to have ended: its words are lost, and nothing stays taken there */
     char error[NOLTHEWYR_ERROR_SIZE];
 };
 
-/* Each gives NULL and says why in `error` if it cannot reach the server. */
+/* Each gives NULL and says why in `error` if it cannot reach the server, or if that does not answer within so many nanoseconds, 0 for ever. Over
+ * shared memory there is nothing to wait for. */
 nolthewyr_transport *nolthewyr_memory_open(const nolthewyr_server *server, char *error);
-nolthewyr_transport *nolthewyr_fabric_open(const nolthewyr_server *server, char *error);
+nolthewyr_transport *nolthewyr_fabric_open(const nolthewyr_server *server, uint64_t answer_within, char *error);
 
 #pragma GCC visibility pop
 

@@ -1,0 +1,147 @@
+/* What a server over libfabric says of its runs. Its connections are the sockets of this process. */
+
+#include "serving_log.h"
+
+#include <ctype.h>
+#include <stdbool.h>
+#include <stdio.h>
+#include <stdlib.h>
+#include <string.h>
+#include <time.h>
+
+#include "sockets.h"
+
+enum { WHO_SIZE = 200, SILENT_SECONDS = 2 };
+
+/* A connected socket, and the run that has named itself over it. */
+typedef struct connection {
+    struct connection *next;
+    int socket;
+    char address[NOLTHEWYR_PEER_SIZE];
+    char who[WHO_SIZE]; /* empty if nobody has */
+    time_t since;
+    bool there, closed, said;
+} connection;
+
+static connection *connections;
+
+static time_t seconds(void)
+{
+    struct timespec now;
+    clock_gettime(CLOCK_MONOTONIC, &now);
+    return now.tv_sec;
+}
+
+static void line_written(const char *address, const char *what, const char *who, const char *why)
+{
+    char moment[32];
+    time_t now = time(NULL);
+    struct tm local;
+    strftime(moment, sizeof moment, "%Y-%m-%dT%H:%M:%S", localtime_r(&now, &local));
+    fprintf(stderr, "rangeserver: %s %s: %s%s%s%s%s\n", moment, address, what, *who ? ": " : "", who, *why ? ": " : "", why);
+}
+
+/* Notes a socket as there, anew if it was not before. */
+static bool connection_noted(void *context, const nolthewyr_socket *socket)
+{
+    connection *at = connections;
+    (void)context;
+    while (at != NULL && (at->socket != socket->number || strcmp(at->address, socket->peer) != 0))
+        at = at->next;
+    if (at == NULL && (at = calloc(1, sizeof *at)) != NULL) {
+        at->socket = socket->number;
+        at->since = seconds();
+        strcpy(at->address, socket->peer);
+        at->next = connections;
+        connections = at;
+    }
+    if (at != NULL)
+        at->there = true;
+    return true;
+}
+
+/* Takes out those that are gone, and says so of each that did not close before. */
+static void gone_taken_out(void)
+{
+    for (connection **at = &connections; *at != NULL;) {
+        connection *here = *at;
+        if (here->there) {
+            at = &here->next;
+            continue;
+        }
+        if (here->who[0] != '\0' && !here->closed)
+            line_written(here->address, "gone without closing", here->who, "if it held a window, that stays taken");
+        else if (here->who[0] == '\0')
+            line_written(here->address, "gone", "", "a connection over which no run has opened");
+        *at = here->next;
+        free(here);
+    }
+}
+
+/* Says once of a connection over which nobody has opened a run for a while that it is there. */
+static void silent_said(void)
+{
+    for (connection *at = connections; at != NULL; at = at->next)
+        if (at->who[0] == '\0' && !at->said && seconds() - at->since >= SILENT_SECONDS) {
+            line_written(at->address, "connected", "", "no run has opened over it so far");
+            at->said = true;
+        }
+}
+
+void nolthewyr_log_looked(void)
+{
+    for (connection *at = connections; at != NULL; at = at->next)
+        at->there = false;
+    nolthewyr_each_socket(connection_noted, NULL);
+    gone_taken_out();
+    silent_said();
+}
+
+/* The connection of the run that has just sent a line: the one that has its name, or for a new name the only one that has none. NULL if that is
+ * not known. */
+static connection *connection_of(const char *who, bool is_new)
+{
+    connection *found = NULL;
+    for (connection *at = connections; at != NULL; at = at->next) {
+        bool fits = is_new ? at->who[0] == '\0' : strcmp(at->who, who) == 0 && !at->closed;
+        if (fits && is_new && found != NULL)
+            return NULL;
+        if (fits)
+            found = at;
+    }
+    return found;
+}
+
+/* Nothing but what can be printed, whoever has sent it. */
+static void made_printable(char *text)
+{
+    for (; *text != '\0'; text++)
+        if (!isprint((unsigned char)*text))
+            *text = '?';
+}
+
+/* The part of a text before ": ", and in `rest` what is behind it. */
+static char *part(char **rest)
+{
+    char *begin = *rest, *end = strstr(begin, ": ");
+    *rest = end == NULL ? begin + strlen(begin) : end + 2;
+    if (end != NULL)
+        *end = '\0';
+    return begin;
+}
+
+void nolthewyr_log_heard(const char *said)
+{
+    char text[1000], *rest = text;
+    snprintf(text, sizeof text, "%s", said);
+    made_printable(text);
+    char *what = part(&rest), *who = part(&rest);
+    bool closes = strcmp(what, "closed") == 0;
+    nolthewyr_log_looked();
+    connection *from = connection_of(who, !closes);
+    line_written(from == NULL ? "a run" : from->address, what, who, rest);
+    if (from == NULL)
+        return;
+    snprintf(from->who, sizeof from->who, "%s", who);
+    from->closed = strcmp(what, "opened") != 0;
+}

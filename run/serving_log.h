@@ -1,0 +1,13 @@
+/* What a server over libfabric says of its runs on standard error: each that opens, closes, is refused or goes without closing, with the address
+ * of its connection where there is one. Addresses are the kernel's; the process and its host are the run's own words. */
+
+#ifndef NOLTHEWYR_SERVING_LOG_H
+#define NOLTHEWYR_SERVING_LOG_H
+
+/* A run has sent a line: `WHAT: WHO`, or `WHAT: WHO: WHY`. */
+void nolthewyr_log_heard(const char *said);
+
+/* Looks which connections have come and gone. It costs some microseconds a connection. */
+void nolthewyr_log_looked(void);
+
+#endif
