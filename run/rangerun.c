@@ -29,7 +29,8 @@ static const char usage[] =
     "usage: rangerun FILE hold [--limit NS] LEFT RIGHT COMMAND...\n"
     "       rangerun FILE try --windows COUNT [--number N] [--seed S] [--within LEFT RIGHT] [--largest UNITS] [--hold NS]\n"
     "            [--ahead COUNT] [--swaps]\n"
-    "       rangerun FILE tree\n";
+    "       rangerun FILE tree\n"
+    "       rangerun --help | --version\n";
 
 int nolthewyr_wrong_line(const char *reason, const char *text)
 {
@@ -67,9 +68,17 @@ static void cancel(int signal)
         nolthewyr_run_cancel(run);
 }
 
+/* Nobody reads any more what the program says: to write fails, and does not end a run that has a part of the tree. Unlike an ignored signal,
+ * one that is caught is not handed down to the command of `hold`. */
+static void pass_over(int signal)
+{
+    (void)signal;
+}
+
 void nolthewyr_cancelled_by_signals(nolthewyr_run *run)
 {
     signalled_run = run;
+    nolthewyr_on_signal(SIGPIPE, pass_over);
     nolthewyr_on_signal(SIGTERM, cancel);
     nolthewyr_on_signal(SIGINT, cancel);
     nolthewyr_on_signal(SIGHUP, cancel);
@@ -88,8 +97,9 @@ int nolthewyr_signalled(void)
 
 int main(int argc, char **argv)
 {
-    if (argc == 2 && strcmp(argv[1], "--help") == 0)
-        return printf("%s", usage) < 0;
+    int described = nolthewyr_described("rangerun", usage, argc, argv);
+    if (described >= 0)
+        return described;
     if (argc < 3)
         return nolthewyr_wrong_line("a FILE and a command are to be named", "");
     for (size_t i = 0; i < COUNT(commands); i++)

@@ -106,9 +106,10 @@ static int windows_tried(nolthewyr_run *run, trial *tried)
     for (uint64_t i = 0; i < tried->windows && answer == NOLTHEWYR_RUN_DONE && nolthewyr_signalled() == 0; i++)
         answer = window_tried(run, tried);
     counts_printed(run, tried->torn, seconds_now() - begun);
+    int status = nolthewyr_written("rangerun", tried->torn > 0 ? NOLTHEWYR_EXIT_FOUND_WRONG : 0);
     if (answer == NOLTHEWYR_RUN_REFUSED || answer == NOLTHEWYR_RUN_FAILED)
         return nolthewyr_failed(run, NOLTHEWYR_EXIT_FAILED);
-    return tried->torn > 0 ? NOLTHEWYR_EXIT_FOUND_WRONG : 0;
+    return status;
 }
 
 static const struct option options[] = {

@@ -21,7 +21,8 @@ static void end_serving(int signal)
 }
 
 static const char usage[] =
-    "usage: rangeserver --levels H --distance M --wait NS --patience NS --over memory|PROVIDER [--address HOST] FILE\n";
+    "usage: rangeserver --levels H --distance M --wait NS --patience NS --over memory|PROVIDER [--address HOST] FILE\n"
+    "       rangeserver --help | --version\n";
 
 static int wrong_line(const char *reason, const char *text)
 {
@@ -80,6 +81,7 @@ static sigset_t signals_blocked(void)
 {
     static const int signals[] = {SIGTERM, SIGINT, SIGHUP};
     sigset_t ending, before;
+    nolthewyr_on_signal(SIGPIPE, SIG_IGN); /* who reads `serving` may be gone: that is said, and the file is removed */
     sigemptyset(&ending);
     for (size_t i = 0; i < sizeof signals / sizeof *signals; i++) {
         sigaddset(&ending, signals[i]);
@@ -115,8 +117,9 @@ int main(int argc, char **argv)
 {
     nolthewyr_server server = {.version = NOLTHEWYR_VERSION};
     char error[NOLTHEWYR_ERROR_SIZE];
-    if (argc == 2 && strcmp(argv[1], "--help") == 0)
-        return printf("%s", usage) < 0;
+    int described = nolthewyr_described("rangeserver", usage, argc, argv);
+    if (described >= 0)
+        return described;
     int wrong = arguments_read(&server, argc, argv);
     if (wrong != 0)
         return wrong;
@@ -131,9 +134,10 @@ int main(int argc, char **argv)
         return failed(error);
     }
     printf("serving %s\n", file);
-    fflush(stdout);
-    serving->serve(&ended, &waiting);
+    int status = nolthewyr_written("rangeserver", EXIT_SUCCESS);
+    if (status == EXIT_SUCCESS)
+        serving->serve(&ended, &waiting);
     nolthewyr_server_remove(written, file);
     serving->end(&server);
-    return EXIT_SUCCESS;
+    return status;
 }
