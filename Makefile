@@ -111,10 +111,10 @@ $(BUILT)/rangerun: $(RANGERUN_PARTS) $(LIBRARY)
 $(BUILT)/rangeserver: $(RANGESERVER_PARTS) $(LIBRARY)
 	$(CC) $(LDFLAGS) -o $@ $^ $(FABRIC_LIBS) $(LDLIBS)
 
-$(SCHEDULE): $(PACKED)
+$(SCHEDULE): $(PACKED) $(HEADERS)
 	rm -rf $@.d
 	mkdir -p $@.d/scheduling $@.d/model
-	cp packaging/__main__.py $@.d
+	sed 's|@VERSION@|$(VERSION)|' packaging/__main__.py > $@.d/__main__.py
 	cp $(SCHEDULING)/*.py $@.d/scheduling
 	cp model/*.py $@.d/model
 	python3 -m zipapp $@.d --python '/usr/bin/env python3' --output $@
