@@ -92,7 +92,7 @@ int main(int argc, char **argv)
     uint64_t left, right;
     if (argc != 4 || !number(argv[2], &left) || !number(argv[3], &right) || left >= right)
         return failed("usage: run FILE LEFT RIGHT, with LEFT below RIGHT");
-    uint64_t *units = calloc(right - left, sizeof *units); /* while the window is held nothing is left to go wrong with it */
+    uint64_t *units = calloc(right - left, sizeof *units); /* before the take: while it holds it lacks nothing */
     if (units == NULL)
         return failed("no memory for so many units: name a smaller window");
     nolthewyr_run *run = nolthewyr_run_open(argv[1], error, sizeof error);
