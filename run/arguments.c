@@ -49,6 +49,17 @@ void nolthewyr_on_signal(int signal, void (*action)(int))
     sigaction(signal, &after, NULL);
 }
 
+static void pass_over(int signal)
+{
+    (void)signal;
+}
+
+/* A signal that is caught is the default again in a command that is started, which one that is ignored is not. */
+void nolthewyr_not_ended_by_pipes(void)
+{
+    nolthewyr_on_signal(SIGPIPE, pass_over);
+}
+
 /* The number with which a text begins, and in `behind` what follows it. False if there is none. */
 static bool begins_with(const char *text, uint64_t *number, char **behind)
 {

@@ -20,6 +20,10 @@ bool nolthewyr_duration(const char *text, uint64_t *nanoseconds);
 /* From now on the signal does this, unless it was ignored when the program was started, as nohup(1) has it: then it stays ignored. */
 void nolthewyr_on_signal(int signal, void (*action)(int));
 
+/* From now on to write into a pipe that nobody reads any more fails, and does not end the program: it may have a part of a tree to give back, or a
+ * file to remove. */
+void nolthewyr_not_ended_by_pipes(void);
+
 /* The status, if all that the program has printed is written to standard output; if not, says why on standard error, and gives
  * NOLTHEWYR_EXIT_FAILED. */
 int nolthewyr_written(const char *program, int status);

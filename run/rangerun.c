@@ -54,6 +54,7 @@ bool nolthewyr_common_set(int option)
 nolthewyr_run *nolthewyr_opened(const char *file)
 {
     char error[400];
+    nolthewyr_not_ended_by_pipes();
     nolthewyr_run *run = nolthewyr_run_open_within(file, answer_within, error, sizeof error);
     if (run == NULL)
         fprintf(stderr, "rangerun: %s\n", error);
@@ -68,17 +69,9 @@ static void cancel(int signal)
         nolthewyr_run_cancel(run);
 }
 
-/* Nobody reads any more what the program says: to write fails, and does not end a run that has a part of the tree. Unlike an ignored signal,
- * one that is caught is not handed down to the command of `hold`. */
-static void pass_over(int signal)
-{
-    (void)signal;
-}
-
 void nolthewyr_cancelled_by_signals(nolthewyr_run *run)
 {
     signalled_run = run;
-    nolthewyr_on_signal(SIGPIPE, pass_over);
     nolthewyr_on_signal(SIGTERM, cancel);
     nolthewyr_on_signal(SIGINT, cancel);
     nolthewyr_on_signal(SIGHUP, cancel);

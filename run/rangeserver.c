@@ -81,7 +81,7 @@ static sigset_t signals_blocked(void)
 {
     static const int signals[] = {SIGTERM, SIGINT, SIGHUP};
     sigset_t ending, before;
-    nolthewyr_on_signal(SIGPIPE, SIG_IGN); /* who reads `serving` may be gone: that is said, and the file is removed */
+    nolthewyr_not_ended_by_pipes();
     sigemptyset(&ending);
     for (size_t i = 0; i < sizeof signals / sizeof *signals; i++) {
         sigaddset(&ending, signals[i]);

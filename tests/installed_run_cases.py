@@ -117,6 +117,7 @@ def declared_functions():
 # What is asked of rangerun, the exit status, and what it says; FILE stands for the server's file.
 ASKED = (
     ("FILE hold 10 20 sh -c", "exit 7", 7, ""),
+    ("FILE hold 10 20 sh -c", "kill -PIPE $$", 141, ""),
     ("FILE hold --limit 1000000000 0 1024", "true", 0, ""),
     ("FILE hold 10 20", "/no/such/command", 127, "/no/such/command: No such file or directory"),
     ("FILE hold 10 20", "/", 126, "/: Permission denied"),
@@ -169,14 +170,14 @@ def versions():
         yield case("program's version", [number], 1), int(run(prefix() / "bin" / program, "--version") == f"{program} {version}\n")
 
 
-# What prints something; FILE stands for a server's file, and NEW for that of a server which is started. The first two have something to give back or
-# to remove, and are not ended by a pipe that nobody reads any more.
+# What prints something; FILE stands for a server's file, and NEW for that of a server which is started. The first three have a run or
+# a server to end, and are not ended by a pipe that nobody reads any more.
 PRINTING = (
-    "rangerun FILE try --windows 3", f"rangeserver {' '.join(SETTINGS)} --over OVER NEW",
-    "rangerun FILE tree", "rangerun --help", "rangerun --version", "rangeserver --help", "rangeserver --version",
+    "rangerun FILE try --windows 3", "rangerun FILE tree", f"rangeserver {' '.join(SETTINGS)} --over OVER NEW",
+    "rangerun --help", "rangerun --version", "rangeserver --help", "rangeserver --version",
 )
 # Where it goes, why it cannot be written there, and of how many of these lines. Without a word it goes into such a pipe.
-OUTPUTS = (">/dev/full", "No space left on device", 7), (">&-", "Bad file descriptor", 7), ("", "Broken pipe", 2)
+OUTPUTS = (">/dev/full", "No space left on device", 7), (">&-", "Bad file descriptor", 7), ("", "Broken pipe", 3)
 
 
 def printed_to(output, words):
