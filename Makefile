@@ -46,10 +46,10 @@ FABRIC_CFLAGS := $(if $(FABRIC),$(shell pkg-config --cflags $(FABRIC)))
 FABRIC_LIBS := $(if $(FABRIC),$(shell pkg-config --libs $(FABRIC)))
 RUN = $(BUILT)/run
 RUN_PARTS = $(addprefix $(RUN)/,run.o step.o operated.o pause.o waiting.o failing.o identity.o server_file.o file_locks.o processes.o memory.o \
-    $(if $(FABRIC),fabric.o posting.o endpoint.o connection.o sockets.o,no_fabric.o))
+    $(if $(FABRIC),fabric.o posting.o endpoint.o host.o connection.o sockets.o,no_fabric.o))
 RANGERUN_PARTS = $(RUN_PARTS) $(addprefix $(RUN)/,rangerun.o rangerun_hold.o rangerun_try.o rangerun_tree.o arguments.o)
 RANGESERVER_PARTS = $(addprefix $(RUN)/,rangeserver.o arguments.o identity.o server_file.o file_locks.o processes.o serve_memory.o \
-    $(if $(FABRIC),serve_fabric.o serving_log.o sockets.o endpoint.o,no_serve_fabric.o))
+    $(if $(FABRIC),serve_fabric.o serving_log.o sockets.o endpoint.o host.o,no_serve_fabric.o))
 RUN_LIBRARY = $(BUILT)/libnolthewyr_run.a
 RUN_SHARED = $(BUILT)/libnolthewyr_run.so
 RUN_PROGRAMS = $(BUILT)/rangeserver $(BUILT)/rangerun
@@ -113,10 +113,10 @@ $(BUILT)/rangerun: $(RANGERUN_PARTS) $(LIBRARY)
 $(BUILT)/rangeserver: $(RANGESERVER_PARTS) $(LIBRARY)
 	$(CC) $(LDFLAGS) -o $@ $^ $(FABRIC_LIBS) $(LDLIBS)
 
-$(SCHEDULE): $(PACKED)
+$(SCHEDULE): $(PACKED) $(HEADERS)
 	rm -rf $@.d
 	mkdir -p $@.d/scheduling $@.d/model
-	cp packaging/__main__.py $@.d
+	sed 's|@VERSION@|$(VERSION)|' packaging/__main__.py > $@.d/__main__.py
 	cp $(SCHEDULING)/*.py $@.d/scheduling
 	cp model/*.py $@.d/model
 	python3 -m zipapp $@.d --python '/usr/bin/env python3' --output $@

@@ -27,7 +27,7 @@ extern "C" {
 
 /* The version of this header. Structs grow between versions: a program goes with a library whose first two numbers are the same, and
  * whose third, which grows with new functions, is not lower if the program calls one of these. */
-#define NOLTHEWYR_VERSION "0.4.3"
+#define NOLTHEWYR_VERSION "0.4.4"
 
 /* Where a client is. It holds its window exactly while its phase is 9. */
 enum nolthewyr_phase {

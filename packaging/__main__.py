@@ -1,4 +1,4 @@
-"""The installed program `schedule`: one file, with the packages `scheduling` and `model` in it."""
+"""The installed program `schedule`: one file, with the packages `scheduling` and `model` in it. The Makefile fills in its version."""
 
 import signal
 import sys
@@ -8,4 +8,4 @@ signal.signal(signal.SIGINT, signal.SIG_DFL)
 
 from scheduling.main import main
 
-sys.exit(main())
+sys.exit(main("@VERSION@"))

@@ -11,7 +11,7 @@ from pathlib import Path
 
 # Structs grow between versions, and functions come with the third number: a library of another series, or of a lower version, is not used.
 SERIES = "0.4"
-LEAST = 3
+LEAST = 4
 FILE = f"libnolthewyr.so.{SERIES}"
 
 Phase = IntEnum("Phase", "IDLE TICKET TURN CLIMB BLOCKED CLAIM NOTIFY WAIT CHECK HELD RETURNING", start=0)

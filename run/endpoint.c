@@ -8,6 +8,8 @@
 #include <stdlib.h>
 #include <string.h>
 
+#include "host.h"
+
 /* Says which call failed and why; gives whether it did not. */
 static bool done(int answer, const char *call, const nolthewyr_server *server, char *error)
 {
@@ -65,7 +67,7 @@ static bool found(nolthewyr_endpoint *at, const nolthewyr_server *server, bool s
     if (answer != 0)
         answer = asked(at, server, serves, FI_ORDER_NONE);
     if (answer != 0)
-        snprintf(error, NOLTHEWYR_ERROR_SIZE, "over %s%s%s: libfabric finds no such provider with atomics: %s", server->over,
+        snprintf(error, NOLTHEWYR_ERROR_SIZE, "over %s%s%s: libfabric finds no such provider with atomics (fi_info(1) lists those that it has): %s", server->over,
                  server->host[0] == '\0' ? "" : " at ", server->host, fi_strerror(abs(answer)));
     else
         at->ordered = is_ordered(at->info);
@@ -103,7 +105,7 @@ static bool joined(nolthewyr_endpoint *at, const nolthewyr_server *server, bool 
 bool nolthewyr_endpoint_open(nolthewyr_endpoint *at, const nolthewyr_server *server, bool serves, char *error)
 {
     memset(at, 0, sizeof *at);
-    if (found(at, server, serves, error) && joined(at, server, serves, error))
+    if (nolthewyr_host_found(server, serves, error) && found(at, server, serves, error) && joined(at, server, serves, error))
         return true;
     nolthewyr_endpoint_close(at);
     return false;

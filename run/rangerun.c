@@ -7,6 +7,7 @@
 #include <stdio.h>
 #include <stdlib.h>
 #include <string.h>
+#include <unistd.h>
 
 #include "arguments.h"
 
@@ -26,10 +27,11 @@ static uint64_t answer_within = NOLTHEWYR_RUN_ANSWER_WITHIN;
 static bool verbose;
 
 static const char usage[] =
-    "usage: rangerun FILE hold [--limit NS] LEFT RIGHT COMMAND...\n"
-    "       rangerun FILE try --windows COUNT [--number N] [--seed S] [--within LEFT RIGHT] [--largest UNITS] [--hold NS]\n"
-    "            [--ahead COUNT] [--swaps]\n"
-    "       rangerun FILE tree\n";
+    "usage: rangerun [-v] [--answer-within TIME] FILE hold [--limit TIME] LEFT RIGHT COMMAND...\n"
+    "       rangerun [-v] [--answer-within TIME] FILE try --windows COUNT [--number N] [--seed S] [--within LEFT RIGHT]\n"
+    "            [--largest UNITS] [--hold TIME] [--ahead COUNT] [--swaps]\n"
+    "       rangerun [-v] [--answer-within TIME] FILE tree\n"
+    "       rangerun --help | --version\n";
 
 int nolthewyr_wrong_line(const char *reason, const char *text)
 {
@@ -50,12 +52,23 @@ bool nolthewyr_common_set(int option)
     return option == 'A' && nolthewyr_duration(optarg, &answer_within) && (answer_within == 0 || answer_within >= LEAST_ANSWER);
 }
 
+/* For what a run waits is for who looks on; that it cannot end is for everybody. */
+static void said(void *context, int told, const char *text)
+{
+    (void)context;
+    if (told == NOLTHEWYR_RUN_CANNOT_END || verbose || isatty(STDERR_FILENO))
+        fprintf(stderr, "rangerun: %s\n", text);
+}
+
 nolthewyr_run *nolthewyr_opened(const char *file)
 {
-    char error[400];
+    char error[1000];
+    nolthewyr_not_ended_by_pipes();
     nolthewyr_run *run = nolthewyr_run_open_within(file, answer_within, error, sizeof error);
     if (run == NULL)
         fprintf(stderr, "rangerun: %s\n", error);
+    else
+        nolthewyr_run_tell(run, said, NULL);
     return run;
 }
 
@@ -86,14 +99,30 @@ int nolthewyr_signalled(void)
     return signalled;
 }
 
+/* Sets the options that stand before FILE, and gives 0, or says what is wrong. */
+static int options_before_file(int argc, char **argv)
+{
+    static const struct option options[] = {NOLTHEWYR_COMMON_OPTIONS, {0}};
+    int option;
+    opterr = 0;
+    while ((option = getopt_long(argc, argv, "+:v", options, NULL)) != -1)
+        if (!nolthewyr_common_set(option))
+            return nolthewyr_wrong_line("no such option, or no time of a millisecond or more behind it: ", argv[optind - 1]);
+    return argc - optind >= 2 ? 0 : nolthewyr_wrong_line("a FILE and a command are to be named", "");
+}
+
 int main(int argc, char **argv)
 {
-    if (argc == 2 && strcmp(argv[1], "--help") == 0)
-        return printf("%s", usage) < 0;
-    if (argc < 3)
-        return nolthewyr_wrong_line("a FILE and a command are to be named", "");
+    int described = nolthewyr_described("rangerun", usage, argc, argv);
+    if (described >= 0)
+        return described;
+    int wrong = options_before_file(argc, argv);
+    if (wrong != 0)
+        return wrong;
+    int at = optind;
+    optind = 0; /* the command's own options begin anew */
     for (size_t i = 0; i < COUNT(commands); i++)
-        if (strcmp(argv[2], commands[i].name) == 0)
-            return commands[i].run(argv[1], argc - 2, argv + 2);
-    return nolthewyr_wrong_line("no such command: ", argv[2]);
+        if (strcmp(argv[at + 1], commands[i].name) == 0)
+            return commands[i].run(argv[at], argc - at - 1, argv + at + 1);
+    return nolthewyr_wrong_line("no such command: ", argv[at + 1]);
 }

@@ -5,10 +5,10 @@
 
 #include <stdbool.h>
 
+#include "arguments.h"
 #include "nolthewyr_run.h"
 
-/* As schedule(1) has them, but for `hold`, which gives the command's own; its failures are numbered as env(1) and timeout(1) have them. */
-enum { NOLTHEWYR_EXIT_FOUND_WRONG = 1, NOLTHEWYR_EXIT_LINE = 2, NOLTHEWYR_EXIT_FAILED = 3 };
+/* `hold` gives the command's exit status; its own failures are numbered as env(1) and timeout(1) have them. */
 enum { NOLTHEWYR_EXIT_LIMIT = 124, NOLTHEWYR_EXIT_HOLD = 125, NOLTHEWYR_EXIT_NOT_RUN = 126, NOLTHEWYR_EXIT_NO_COMMAND = 127 };
 
 /* `argv[0]` is the command's name, and `argv[argc]` is NULL. */

@@ -1,12 +1,13 @@
 /* rangerun FILE tree: whether the tree is clean, as it is when all runs are idle. */
 
+#include <getopt.h>
 #include <inttypes.h>
 #include <stdio.h>
 
 #include "rangerun.h"
 #include "run.h"
 
-enum { AT_ONCE = 64 };
+enum { AT_ONCE = 64, LEAF_UNITS = 64 };
 
 /* An inner word has its fields from bit 63 down: Exp 1 bit, Occ 1, TCnt 15, TMax 15, DCnt 16, DMax 16 (document 01, "The tree"). */
 static bool inner_clean(uint64_t node, uint64_t word)
@@ -15,17 +16,27 @@ static bool inner_clean(uint64_t node, uint64_t word)
     uint64_t tcnt = word >> 47 & 0x7fff, tmax = word >> 32 & 0x7fff, dcnt = word >> 16 & 0xffff, dmax = word & 0xffff;
     if (exp == 0 && occ == 0 && tcnt == tmax && dcnt == dmax)
         return true;
-    printf("node %" PRIu64 ": Exp %" PRIu64 " Occ %" PRIu64 " TCnt %" PRIu64 " TMax %" PRIu64 " DCnt %" PRIu64 " DMax %" PRIu64 "\n", node, exp,
-           occ, tcnt, tmax, dcnt, dmax);
+    printf("node %" PRIu64 ": Exp %" PRIu64 " Occ %" PRIu64 " TCnt %" PRIu64 " TMax %" PRIu64 " DCnt %" PRIu64 " DMax %" PRIu64, node, exp, occ,
+           tcnt, tmax, dcnt, dmax);
     return false;
 }
 
-static bool leaf_clean(uint64_t node, uint64_t first_leaf, uint64_t word)
+static bool leaf_clean(uint64_t node, uint64_t word)
 {
-    uint64_t unit = 64 * (node - first_leaf);
     if (word != 0)
-        printf("node %" PRIu64 ": bits 0x%016" PRIx64 " of the units %" PRIu64 " to %" PRIu64 "\n", node, word, unit, unit + 63);
+        printf("node %" PRIu64 ": bits 0x%016" PRIx64, node, word);
     return word == 0;
+}
+
+/* Whether the word that was read is clean. If not, its node is printed, with what is in the word and which units the node has. */
+static bool word_clean(uint64_t levels, const nolthewyr_access *read)
+{
+    uint64_t first, last;
+    nolthewyr_node_units(levels, read->node, &first, &last);
+    bool clean = last - first >= LEAF_UNITS ? inner_clean(read->node, read->found) : leaf_clean(read->node, read->found);
+    if (!clean)
+        printf(" of the units %" PRIu64 " to %" PRIu64 "\n", first, last);
+    return clean;
 }
 
 /* Reads the words of `count` nodes from `first` on in one list. False if it has failed. */
@@ -36,19 +47,9 @@ static bool words_read(nolthewyr_run *run, nolthewyr_access *list, uint64_t firs
     return run->transport->execute(run->transport, list, count);
 }
 
-/* How many of the words in the list are not clean; each is printed. */
-static uint64_t unclean_in(const nolthewyr_access *list, uint64_t count, uint64_t first_leaf)
-{
-    uint64_t unclean = 0;
-    for (const nolthewyr_access *read = list; read < list + count; read++)
-        unclean += read->node < first_leaf ? !inner_clean(read->node, read->found) : !leaf_clean(read->node, first_leaf, read->found);
-    return unclean;
-}
-
 static int looked_through(nolthewyr_run *run)
 {
-    uint64_t levels = run->settings.levels, nodes = nolthewyr_word_count(levels), leaves = (uint64_t)1 << 2 * (levels - 1);
-    uint64_t first_leaf = nodes - leaves + 1, unclean = 0;
+    uint64_t levels = run->settings.levels, nodes = nolthewyr_word_count(levels), unclean = 0;
     nolthewyr_access list[AT_ONCE];
     for (uint64_t first = 1; first <= nodes; first += AT_ONCE) {
         uint64_t count = nodes - first + 1 < AT_ONCE ? nodes - first + 1 : AT_ONCE;
@@ -56,17 +57,24 @@ static int looked_through(nolthewyr_run *run)
             fprintf(stderr, "rangerun: %s\n", run->transport->error);
             return NOLTHEWYR_EXIT_FAILED;
         }
-        unclean += unclean_in(list, count, first_leaf);
+        for (uint64_t i = 0; i < count; i++)
+            unclean += !word_clean(levels, &list[i]);
     }
     if (unclean == 0)
         puts("clean");
-    return unclean == 0 ? 0 : NOLTHEWYR_EXIT_FOUND_WRONG;
+    return nolthewyr_written("rangerun", unclean == 0 ? 0 : NOLTHEWYR_EXIT_FOUND_WRONG);
 }
 
 int nolthewyr_tree(const char *file, int argc, char **argv)
 {
-    if (argc > 1)
-        return nolthewyr_wrong_line("nothing is to stand behind tree: ", argv[1]);
+    static const struct option options[] = {NOLTHEWYR_COMMON_OPTIONS, {0}};
+    int option;
+    opterr = 0;
+    while ((option = getopt_long(argc, argv, "+:v", options, NULL)) != -1)
+        if (!nolthewyr_common_set(option))
+            return nolthewyr_wrong_line("tree: no such option, or no time behind it: ", argv[optind - 1]);
+    if (optind < argc)
+        return nolthewyr_wrong_line("nothing is to stand behind tree: ", argv[optind]);
     nolthewyr_run *run = nolthewyr_opened(file);
     if (run == NULL)
         return NOLTHEWYR_EXIT_FAILED;

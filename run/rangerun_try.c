@@ -106,15 +106,16 @@ static int windows_tried(nolthewyr_run *run, trial *tried)
     for (uint64_t i = 0; i < tried->windows && answer == NOLTHEWYR_RUN_DONE && nolthewyr_signalled() == 0; i++)
         answer = window_tried(run, tried);
     counts_printed(run, tried->torn, seconds_now() - begun);
+    int status = nolthewyr_written("rangerun", tried->torn > 0 ? NOLTHEWYR_EXIT_FOUND_WRONG : 0);
     if (answer == NOLTHEWYR_RUN_REFUSED || answer == NOLTHEWYR_RUN_FAILED)
         return nolthewyr_failed(run, NOLTHEWYR_EXIT_FAILED);
-    return tried->torn > 0 ? NOLTHEWYR_EXIT_FOUND_WRONG : 0;
+    return status;
 }
 
 static const struct option options[] = {
     {"windows", required_argument, NULL, 'w'}, {"number", required_argument, NULL, 'n'}, {"seed", required_argument, NULL, 's'},
     {"within", required_argument, NULL, 'i'}, {"largest", required_argument, NULL, 'l'}, {"hold", required_argument, NULL, 'h'},
-    {"ahead", required_argument, NULL, 'a'}, {"swaps", no_argument, NULL, 'c'}, {0},
+    {"ahead", required_argument, NULL, 'a'}, {"swaps", no_argument, NULL, 'c'}, NOLTHEWYR_COMMON_OPTIONS, {0},
 };
 
 /* Sets what the option says; `within` has two numbers behind it. */
@@ -130,7 +131,7 @@ static bool option_set(trial *tried, int option, int argc, char **argv)
     case 'l':
         return nolthewyr_number(optarg, &tried->largest) && tried->largest > 0;
     case 'h':
-        return nolthewyr_number(optarg, &tried->hold);
+        return nolthewyr_duration(optarg, &tried->hold);
     case 'a':
         return nolthewyr_number(optarg, &tried->ahead) && tried->ahead > 0;
     case 'c':
@@ -139,7 +140,7 @@ static bool option_set(trial *tried, int option, int argc, char **argv)
         tried->within = true;
         return nolthewyr_number(optarg, &tried->left) && optind < argc && nolthewyr_number(argv[optind++], &tried->right);
     default:
-        return false;
+        return nolthewyr_common_set(option);
     }
 }
 
@@ -148,7 +149,7 @@ static int options_read(trial *tried, int argc, char **argv)
 {
     int option;
     opterr = 0;
-    while ((option = getopt_long(argc, argv, "+:", options, NULL)) != -1)
+    while ((option = getopt_long(argc, argv, "+:v", options, NULL)) != -1)
         if (!option_set(tried, option, argc, argv))
             return nolthewyr_wrong_line("try: no such option, or not the numbers that it has: ", argv[optind - 1]);
     if (optind < argc)

@@ -4,15 +4,15 @@
 #include <getopt.h>
 #include <stdio.h>
 #include <stdlib.h>
-#include <string.h>
+#include <time.h>
 #include <unistd.h>
 
 #include "arguments.h"
 #include "file_locks.h"
 #include "serving.h"
 
-/* As schedule(1) has them. */
-enum { WRONG_LINE = 2, FAILED = 3 };
+/* Runs that see that the server has ended have so many parts of a second to close, of so many nanoseconds each. */
+enum { PARTS = 10, PART = 50000000 };
 
 static volatile sig_atomic_t ended;
 
@@ -24,7 +24,8 @@ static void end_serving(int signal)
 
 static const char usage[] =
     "usage: rangeserver --levels H --distance M --wait TIME --patience TIME --over memory|PROVIDER [--address HOST] [--port PORT]\n"
-    "            [--anyway] [--quiet] FILE\n";
+    "            [--anyway] [--quiet] FILE\n"
+    "       rangeserver --help | --version\n";
 
 /* What is asked of this start: the server, whether it starts although runs of the start before may still hold, and whether it logs nothing. */
 typedef struct start {
@@ -35,13 +36,13 @@ typedef struct start {
 static int wrong_line(const char *reason, const char *text)
 {
     fprintf(stderr, "rangeserver: %s%s\n%s", reason, text, usage);
-    return WRONG_LINE;
+    return NOLTHEWYR_EXIT_LINE;
 }
 
 static int failed(const char *reason)
 {
     fprintf(stderr, "rangeserver: %s\n", reason);
-    return FAILED;
+    return NOLTHEWYR_EXIT_FAILED;
 }
 
 static const struct option options[] = {
@@ -104,6 +105,7 @@ static sigset_t signals_blocked(void)
 {
     static const int signals[] = {SIGTERM, SIGINT, SIGHUP};
     sigset_t ending, before;
+    nolthewyr_not_ended_by_pipes();
     sigemptyset(&ending);
     for (size_t i = 0; i < sizeof signals / sizeof *signals; i++) {
         sigaddset(&ending, signals[i]);
@@ -162,11 +164,16 @@ static bool room_made(const char *file, bool anyway, char *error)
     return false;
 }
 
-/* Removes the file, unless runs are still there: by it the next start sees them. */
+/* Removes the file, unless runs are still there a while after the server has ended: by it the next start sees them. */
 static void file_ended(int written, const char *file)
 {
     char who[NOLTHEWYR_ERROR_SIZE];
-    if (nolthewyr_runs_kept_out(written, who))
+    bool kept_out = nolthewyr_runs_kept_out(written, who);
+    for (int part = 0; part < PARTS && !kept_out; part++) {
+        nanosleep(&(struct timespec){.tv_nsec = PART}, NULL);
+        kept_out = nolthewyr_runs_kept_out(written, who);
+    }
+    if (kept_out)
         nolthewyr_server_remove(written, file);
     else
         fprintf(stderr, "rangeserver: %s: it stays, since runs are still there, which fail at their next access: %.400s\n", file, who);
@@ -190,9 +197,9 @@ int main(int argc, char **argv)
 {
     start asked = {.server = {.version = NOLTHEWYR_VERSION, .identity = {.layout = NOLTHEWYR_LAYOUT}}};
     char error[NOLTHEWYR_ERROR_SIZE];
-    int written;
-    if (argc == 2 && strcmp(argv[1], "--help") == 0)
-        return printf("%s", usage) < 0;
+    int written, described = nolthewyr_described("rangeserver", usage, argc, argv);
+    if (described >= 0)
+        return described;
     int wrong = arguments_read(&asked, argc, argv);
     if (wrong != 0)
         return wrong;
@@ -202,9 +209,10 @@ int main(int argc, char **argv)
     if (serving == NULL)
         return failed(error);
     printf("serving %s\n", file);
-    fflush(stdout);
-    serving->serve(&ended, &waiting, asked.quiet);
+    int status = nolthewyr_written("rangeserver", EXIT_SUCCESS);
+    if (status == EXIT_SUCCESS)
+        serving->serve(&ended, &waiting, asked.quiet);
     serving->end(&asked.server);
     file_ended(written, file);
-    return EXIT_SUCCESS;
+    return status;
 }

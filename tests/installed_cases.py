@@ -9,6 +9,7 @@ from itertools import zip_longest
 from compare import NAMES, case
 from compiled_table import library, nolthewyr
 from example_lines import take_lines, ward_lines
+from installed_forecast_cases import SUITES as FORECAST_SUITES
 from installed_run_cases import SUITES as RUN_SUITES
 from library import ROOT, command
 from name_cases import ENUMERATIONS
@@ -191,9 +192,11 @@ def missing(words, read):
 
 
 def words_of_schedule():
-    """How it is used, by its own help: each command with its options."""
+    """How it is used, by its own help: its options alone, and each command with its options."""
     schedule = prefix() / "bin" / "schedule"
-    for name in re.findall(r"^    (\w+)  +\w", run(schedule, "--help"), re.MULTILINE):
+    said = run(schedule, "--help")
+    yield tuple(sorted(re.findall(r"^  (?:-\w, )?(--\w+)\b", said, re.MULTILINE)))
+    for name in re.findall(r"^    (\w+)  +\w", said, re.MULTILINE):
         options = re.findall(r"^  (-\w|--\w+)\b", run(schedule, name, "--help"), re.MULTILINE)
         yield name, *sorted(set(options) - {"-h"})
 
@@ -202,7 +205,10 @@ def synopsis(read):
     """How schedule is used, by its page."""
     [listed] = re.findall("SYNOPSIS(.*)DESCRIPTION", read)
     for use in listed.split(" schedule ")[1:]:
-        yield use.split()[0], *sorted(re.findall(r"(?<=\[)(-\w|--\w+)\b", use))
+        if use.startswith("--"):
+            yield tuple(sorted(re.findall(r"--\w+", use)))
+        else:
+            yield use.split()[0], *sorted(re.findall(r"(?<=\[)(-\w|--\w+)\b", use))
 
 
 def manual_pages():
@@ -235,4 +241,5 @@ SUITES = {
     "installed, the programs run": programs,
     "installed, the pages have no warning and say what the programs do": manual_pages,
     **RUN_SUITES,
+    **FORECAST_SUITES,
 }

@@ -1,6 +1,7 @@
 """Cases for runs as they are installed: a program built by pkg-config that takes a window, what the library exports, the programs rangeserver and
 rangerun with what they answer when something is wrong, and that their pages say how they are used."""
 
+import os
 import re
 import subprocess
 from contextlib import contextmanager
@@ -13,6 +14,8 @@ NAMES["run's program"] = ("library", "transport"), ("prints what it wrote",)
 NAMES["run's exports"] = ("library",), ("functions", "functions unlike the header's")
 NAMES["run's answer"] = ("transport", "claim"), ("exit status", "says why")
 NAMES["run's page"] = ("page",), ("says how it is used",)
+NAMES["program's version"] = ("program",), ("is the library's",)
+NAMES["output that cannot be written"] = ("transport", "claim", "output"), ("exit status", "says why", "server's file is left")
 
 HEADER = ROOT / "include" / "nolthewyr_run.h"
 SETTINGS = "--levels", "3", "--distance", "2", "--wait", "20000000", "--patience", "60000000"
@@ -67,18 +70,24 @@ def serving(over):
         raise subprocess.SubprocessError(f"rangeserver over {over} has ended with {status}, and has left its file: {file.exists()}")
 
 
-def built(name, *libraries):
-    source, program = place("run.c"), place(name)
-    source.write_text(PROGRAM)
+def built(name, text, *libraries):
+    """The program of a source in C."""
+    source, program = place(f"{name}.c"), place(name)
+    source.write_text(text)
     command(*CHECKED_C, source, *libraries, "-o", program)
     return program
+
+
+def built_shared(name, text):
+    """The same, with the shared libraries as pkg-config says."""
+    return built(name, text, *asked("--cflags", "--libs", package="nolthewyr_run"))
 
 
 def programs_built():
     """A program with the shared libraries, and one with the archives; libfabric itself is shared."""
     archives = "-Wl,-Bstatic", "-lnolthewyr_run", "-lnolthewyr", "-Wl,-Bdynamic"
-    yield built("run-shared", *asked("--cflags", "--libs", package="nolthewyr_run"))
-    yield built("run-archives", *asked("--cflags", "--libs-only-L", package="nolthewyr_run"), *archives, *["-lfabric"] * over_network())
+    yield built_shared("run-shared", PROGRAM)
+    yield built("run-archives", PROGRAM, *asked("--cflags", "--libs-only-L", package="nolthewyr_run"), *archives, *["-lfabric"] * over_network())
 
 
 def windows_taken():
@@ -99,7 +108,7 @@ def exported(*words):
 
 def declared_functions():
     """Both libraries export the functions that the header declares, and no others."""
-    declared = set(re.findall(r"\b(nolthewyr_run_\w+)\([^)]*\);", HEADER.read_text()))
+    declared = set(re.findall(r"^(?!typedef).*\b(nolthewyr_run_\w+)\([^)]*\);", HEADER.read_text(), re.MULTILINE))
     libraries = prefix() / "lib"
     for place_of, names in enumerate((exported(libraries / "libnolthewyr_run.a"), exported("--dynamic", libraries / "libnolthewyr_run.so"))):
         yield case("run's exports", [place_of], (len(declared), 0)), (len(names), len(names ^ declared))
@@ -108,6 +117,7 @@ def declared_functions():
 # What is asked of rangerun, the exit status, and what it says; FILE stands for the server's file.
 ASKED = (
     ("FILE hold 10 20 sh -c", "exit 7", 7, ""),
+    ("FILE hold 10 20 sh -c", "kill -PIPE $$", 141, ""),
     ("FILE hold --limit 1000000000 0 1024", "true", 0, ""),
     ("FILE hold 10 20", "/no/such/command", 127, "/no/such/command: No such file or directory"),
     ("FILE hold 10 20", "/", 126, "/: Permission denied"),
@@ -154,9 +164,50 @@ def pages():
         yield case("run's page", [number], 1), int(usage(program) == synopsis(program))
 
 
+def versions():
+    [version] = asked("--modversion", package="nolthewyr_run")
+    for number, program in enumerate(("rangeserver", "rangerun", "schedule")):
+        yield case("program's version", [number], 1), int(run(prefix() / "bin" / program, "--version") == f"{program} {version}\n")
+
+
+# What prints something; FILE stands for a server's file, and NEW for that of a server which is started. The first three have a run or
+# a server to end, and are not ended by a pipe that nobody reads any more.
+PRINTING = (
+    "rangerun FILE try --windows 3", "rangerun FILE tree", f"rangeserver {' '.join(SETTINGS)} --over OVER NEW",
+    "rangerun --help", "rangerun --version", "rangeserver --help", "rangeserver --version",
+)
+# Where it goes, why it cannot be written there, and of how many of these lines. Without a word it goes into such a pipe.
+OUTPUTS = (">/dev/full", "No space left on device", 7), (">&-", "Bad file descriptor", 7), ("", "Broken pipe", 3)
+
+
+def printed_to(output, words):
+    reading, writing = os.pipe()
+    os.close(reading)
+    started = ["bash", "-c", f'exec env --default-signal=PIPE "$@" {output}', "bash", *words]
+    try:
+        return subprocess.run(started, env=environment(), stdout=writing, stderr=subprocess.PIPE, text=True, timeout=SECONDS)
+    finally:
+        os.close(writing)
+
+
+def unwritten():
+    """A program that cannot print says why, and ends with 3. A server that cannot say that it serves leaves no file."""
+    for number, over in enumerate(transports()):
+        with serving(over) as file:
+            new = file.with_name("new")
+            for place_of, (output, reason, lines) in enumerate(OUTPUTS):
+                for claim, line in enumerate(PRINTING[:lines]):
+                    program, *words = line.replace("FILE", str(file)).replace("OVER", over).replace("NEW", str(new)).split()
+                    ran = printed_to(output, [prefix() / "bin" / program, *words])
+                    says = ran.stderr == f"{program}: standard output: {reason}\n"
+                    yield case("output that cannot be written", [number, claim, place_of], (3, 1, 0)), (ran.returncode, int(says), int(new.exists()))
+
+
 SUITES = {
     "installed, a program takes windows by the library for runs": windows_taken,
     "installed, the library for runs exports what its header declares": declared_functions,
     "installed, rangerun answers as its page says": answers,
     "installed, the pages of rangeserver and rangerun say how they are used": pages,
+    "installed, the programs have the version of the library": versions,
+    "installed, rangeserver and rangerun say that they could not print": unwritten,
 }

@@ -161,13 +161,19 @@ def add_options(of_command):
         of_command["unpack"].add_argument(f"--{name}", type=plain_number, metavar="NUMBER", help=says)
 
 
-def parser(streams):
+def parser(streams, version):
     class Parser(argparse.ArgumentParser):
         def print_help(self, file=None):
             """As the commands do, so that a help that cannot be written is told of."""
             streams.write(self.format_help().encode())
 
+    class Version(argparse.Action):
+        def __call__(self, parser, namespace, values, option_string=None):
+            streams.write(f"schedule {version}\n".encode())
+            parser.exit()
+
     parser = Parser(prog="schedule", description=DESCRIPTION, epilog=STATUS, formatter_class=argparse.RawDescriptionHelpFormatter)
+    parser.add_argument("--version", action=Version, nargs=0, help="show the version and exit")
     commands, added = parser.add_subparsers(dest="command", metavar="COMMAND", required=True), {}
     for name, (does, says) in COMMANDS.items():
         added[name] = commands.add_parser(name, help=says, description=says[0].upper() + says[1:] + ".", epilog=STATUS)
@@ -190,14 +196,14 @@ def do(streams, options):
     return made.status
 
 
-def main():
+def main(version):
     signal.signal(signal.SIGINT, signal.default_int_handler)
     streams = Streams()
     if sys.version_info < OLDEST_PYTHON:
         streams.say("schedule: Python {}.{} or later is needed".format(*OLDEST_PYTHON))
         return FAILED
     try:
-        return do(streams, parser(streams).parse_args())
+        return do(streams, parser(streams, version).parse_args())
     except Wrong as wrong:
         for message in wrong.messages:
             streams.say(message)
