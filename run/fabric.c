@@ -67,6 +67,7 @@ static bool answers(nolthewyr_fabric *over, char *error)
 {
     bool answered = nolthewyr_fabric_identity_read(over);
     nolthewyr_connection_found(&over->connection);
+    over->transport.own_address = over->connection.own;
     if (!answered)
         snprintf(error, NOLTHEWYR_ERROR_SIZE, "%s", over->transport.error);
     return answered;

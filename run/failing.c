@@ -45,9 +45,11 @@ bool nolthewyr_run_served(nolthewyr_run *run)
 void nolthewyr_run_announced(nolthewyr_transport *transport, const char *what, const char *why)
 {
     char text[NOLTHEWYR_ERROR_SIZE], host[NOLTHEWYR_NAME_SIZE] = "?";
+    const char *address = transport->own_address == NULL ? "" : transport->own_address;
     if (transport->announce == NULL)
         return;
     gethostname(host, sizeof host - 1);
-    snprintf(text, sizeof text, "%s: process %ld (%s) on %s%s%s", what, (long)getpid(), program_invocation_short_name, host, *why ? ": " : "", why);
+    snprintf(text, sizeof text, "%s: %s: process %ld (%s) on %s%s%s", what, address, (long)getpid(), program_invocation_short_name, host,
+             *why ? ": " : "", why);
     transport->announce(transport, text);
 }

@@ -94,6 +94,8 @@ static int arguments_read(start *asked, int argc, char **argv)
             return wrong_line("not a number, a time or a port, or too long: ", optarg);
     if (server->over[0] == '\0')
         return wrong_line("--over is not said", "");
+    if (nolthewyr_server_over_memory(server) && (server->host[0] != '\0' || server->port[0] != '\0'))
+        return wrong_line("memory has neither --address nor --port", "");
     if (!nolthewyr_server_settled(server->identity.settings, error))
         return wrong_line(error, "");
     server->identity.units = nolthewyr_unit_count(server->identity.settings.levels);

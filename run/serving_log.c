@@ -97,19 +97,20 @@ void nolthewyr_log_looked(void)
     silent_said();
 }
 
-/* The connection of the run that has just sent a line: the one that has its name, or for a new name the only one that has none. NULL if that is
- * not known. */
-static connection *connection_of(const char *who, bool is_new)
+/* The connection of the run that has sent a line: the one of that address. Where addresses are translated on the way, or not known, it is the one
+ * that has its name, and for a new name the only one that has none. NULL if that is not known. */
+static connection *connection_of(const char *address, const char *who, bool is_new)
 {
     connection *found = NULL;
+    size_t fitting = 0;
     for (connection *at = connections; at != NULL; at = at->next) {
+        if (strcmp(at->address, address) == 0)
+            return at;
         bool fits = is_new ? at->who[0] == '\0' : strcmp(at->who, who) == 0 && !at->closed;
-        if (fits && is_new && found != NULL)
-            return NULL;
-        if (fits)
-            found = at;
+        found = fits ? at : found;
+        fitting += fits;
     }
-    return found;
+    return is_new && fitting > 1 ? NULL : found;
 }
 
 /* Nothing but what can be printed, whoever has sent it. */
@@ -135,10 +136,9 @@ void nolthewyr_log_heard(const char *said)
     char text[1000], *rest = text;
     snprintf(text, sizeof text, "%s", said);
     made_printable(text);
-    char *what = part(&rest), *who = part(&rest);
-    bool closes = strcmp(what, "closed") == 0;
+    char *what = part(&rest), *address = part(&rest), *who = part(&rest);
     nolthewyr_log_looked();
-    connection *from = connection_of(who, !closes);
+    connection *from = connection_of(address, who, strcmp(what, "closed") != 0);
     line_written(from == NULL ? "a run" : from->address, what, who, rest);
     if (from == NULL)
         return;

@@ -4,7 +4,8 @@
 #ifndef NOLTHEWYR_SERVING_LOG_H
 #define NOLTHEWYR_SERVING_LOG_H
 
-/* A run has sent a line: `WHAT: WHO`, or `WHAT: WHO: WHY`. */
+/* A run has sent a line: `WHAT: ADDRESS: WHO`, or `WHAT: ADDRESS: WHO: WHY`. The address is that of its end of the connection, empty if it does not
+ * know it. */
 void nolthewyr_log_heard(const char *said);
 
 /* Looks which connections have come and gone. It costs some microseconds a connection. */

@@ -55,6 +55,7 @@ struct nolthewyr_transport {
     size_t together; /* how many accesses it has under way at a time: 1 where it does not know that they are made in order */
     bool adds, flips;
     nolthewyr_identity identity; /* as the server's memory has it */
+    const char *own_address; /* of its connection, as HOST:PORT; NULL or empty where it is not known */
     bool gone; /* the server is known to have ended: its words are lost, and nothing stays taken there */
     char error[NOLTHEWYR_ERROR_SIZE];
 };

@@ -6,6 +6,7 @@
 #include <stdio.h>
 #include <stdlib.h>
 
+#include "file_locks.h"
 #include "transport.h"
 
 enum { NODES = 4, QUARTER = 0xffff };
@@ -73,8 +74,8 @@ int main(int count, char **arguments)
     nolthewyr_transport *over = NULL;
     uint64_t words[NODES] = {0};
     char error[NOLTHEWYR_ERROR_SIZE] = "usage: order FILE LISTS";
-    if (count == 3 && nolthewyr_server_read(&server, arguments[1], error))
-        over = nolthewyr_server_over_memory(&server) ? nolthewyr_memory_open(&server, error) : nolthewyr_fabric_open(&server, error);
+    if (count == 3 && nolthewyr_joined(&server, arguments[1], error) >= 0)
+        over = nolthewyr_server_over_memory(&server) ? nolthewyr_memory_open(&server, error) : nolthewyr_fabric_open(&server, 0, error);
     if (over == NULL || !over->adds || !over->flips) {
         fprintf(stderr, "order: %s\n", over == NULL ? error : "it has no adds or no flips");
         return 1;

@@ -10,7 +10,7 @@ from compare import NAMES, case
 from library import ROOT, SECONDS
 from model import record as records
 from model.record import Settings
-from remote_runs import build_with_run, memory, serving, taken
+from remote_runs import HEAD, build_with_run, lines_of, memory, serving, taken
 from remote_trips import ALL, ONE, WAIT
 
 SETTINGS = Settings(3, 1, WAIT, 20 * WAIT)
@@ -35,10 +35,9 @@ def program():
 
 def cleared(file, node, bits):
     """Clears bits in the word of a node, past all runs."""
-    [name] = (line.split()[1] for line in file.read_text().splitlines() if line.startswith("memory "))
     word = memory(file)[0][node - 1] & ~bits
-    with Path("/dev/shm", name.lstrip("/")).open("r+b") as opened:
-        opened.seek((node - 1) * 8)
+    with Path("/dev/shm", lines_of(file)["memory"].lstrip("/")).open("r+b") as opened:
+        opened.seek(HEAD + (node - 1) * 8)
         opened.write(word.to_bytes(8, "little"))
 
 

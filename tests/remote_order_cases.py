@@ -20,7 +20,8 @@ TOGETHER = 85
 @lru_cache(maxsize=None)
 def program():
     """Built with those parts of `rangerun` that are the transports, whose names the library keeps to itself."""
-    parts = "server_file", "memory", *(("fabric", "posting", "endpoint") if has_libfabric() else ("no_fabric",))
+    over_network = "fabric", "posting", "endpoint", "host", "connection", "sockets"
+    parts = "identity", "server_file", "file_locks", "processes", "memory", *(over_network if has_libfabric() else ("no_fabric",))
     objects = [made("build/rangerun").parent / "run" / f"{part}.o" for part in parts]
     built = ROOT / "target" / "tests" / "order"
     built.parent.mkdir(parents=True, exist_ok=True)

@@ -22,6 +22,9 @@ PRINTED = (
     "windows", "torn", "late", "out-of-patience", "operations", "added", "flipped", "dropped", "swaps", "together", "round-trips", "seconds",
 )
 
+# The bytes of a server's shared memory ahead of its words.
+HEAD = 4096
+
 # The calls that tests/broken_run.c takes the place of, and what its own are called.
 REPLACED = {"completed": "completed", "completed_all": "completed_all", "operations_ahead": "ahead"}
 
@@ -139,11 +142,16 @@ def unclean(file):
     return process.returncode
 
 
+def lines_of(file):
+    """What a server's file says, by name."""
+    return dict(line.split(maxsplit=1) for line in file.read_text().splitlines())
+
+
 def memory(file):
     """The words and the units of a server over shared memory."""
-    named = dict(line.split(maxsplit=1) for line in file.read_text().splitlines())
+    named = lines_of(file)
     numbers, words = array("Q"), tree.node_count(int(named["levels"]))
-    numbers.frombytes(Path("/dev/shm", named["memory"].lstrip("/")).read_bytes())
+    numbers.frombytes(Path("/dev/shm", named["memory"].lstrip("/")).read_bytes()[HEAD:])
     return numbers[:words], numbers[words:]
 
 
