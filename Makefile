@@ -46,7 +46,8 @@ FABRIC_CFLAGS := $(if $(FABRIC),$(shell pkg-config --cflags $(FABRIC)))
 FABRIC_LIBS := $(if $(FABRIC),$(shell pkg-config --libs $(FABRIC)))
 RUN = $(BUILT)/run
 RUN_PARTS = $(addprefix $(RUN)/,run.o step.o operated.o pause.o server_file.o memory.o $(if $(FABRIC),fabric.o posting.o endpoint.o,no_fabric.o))
-RANGERUN_PARTS = $(RUN_PARTS) $(addprefix $(RUN)/,rangerun.o rangerun_hold.o rangerun_try.o rangerun_tree.o arguments.o)
+RANGERUN_PARTS = $(RUN_PARTS) $(addprefix $(RUN)/,rangerun.o rangerun_hold.o rangerun_serve.o rangerun_held.o rangerun_units.o units.o rangerun_try.o \
+    rangerun_tree.o arguments.o)
 RANGESERVER_PARTS = $(addprefix $(RUN)/,rangeserver.o arguments.o server_file.o serve_memory.o $(if $(FABRIC),serve_fabric.o endpoint.o,no_serve_fabric.o))
 RUN_LIBRARY = $(BUILT)/libnolthewyr_run.a
 RUN_SHARED = $(BUILT)/libnolthewyr_run.so
