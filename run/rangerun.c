@@ -136,5 +136,5 @@ int main(int argc, char **argv)
         if (asked != NULL && strcmp(argv[2], commands[i].name) == 0)
             return asked(argv[1], argc - 2, argv + 2);
     }
-    return nolthewyr_wrong_line(held ? "no such command of a window that is held (a file of that name is ./held): " : "no such command: ", argv[2]);
+    return nolthewyr_wrong_line(held ? "no such command of a window that is held (a file named held is ./held): " : "no such command: ", argv[2]);
 }

@@ -82,7 +82,7 @@ static int answered(int own, nolthewyr_transfer *transfer)
 {
     nolthewyr_held_answer answer;
     if (!all_received(own, &answer, sizeof answer))
-        return failed("the run that held the window has ended before it answered");
+        return failed("hold has not answered: its command has ended, or hold was killed");
     answer.text[sizeof answer.text - 1] = '\0';
     transfer->window.left = answer.first;
     transfer->window.right = answer.first + answer.count;
@@ -106,7 +106,7 @@ static int read_whole(int own, nolthewyr_transfer *transfer)
     if (status == 0)
         status = nolthewyr_units_room(transfer);
     if (status == 0 && !all_received(own, transfer->units, transfer->count * sizeof *transfer->units))
-        status = failed("the run that held the window has ended before all units had come");
+        status = failed("hold has not sent all units: its command has ended, or hold was killed");
     return status;
 }
 
@@ -124,7 +124,7 @@ static int moved(int requests, nolthewyr_transfer *transfer, bool writes)
     if (asks)
         status = writes ? written(pair[0], transfer) : read_whole(pair[0], transfer);
     else if (error == EPIPE)
-        status = failed("the command of hold has ended, and its window is given back");
+        status = failed("hold serves no more calls: its command has ended, or hold was killed");
     else
         status = failed(strerror(error));
     close(pair[0]);

@@ -40,7 +40,7 @@ bool nolthewyr_requests_open(nolthewyr_requests *requests)
     }
     if (requests->of_command >= 0 && handed_on(requests->of_command))
         return true;
-    fprintf(stderr, "rangerun: no socket for the units of the window: %s\n", strerror(errno));
+    fprintf(stderr, "rangerun: no sockets for the calls of the command (see ulimit -n): %s\n", strerror(errno));
     nolthewyr_requests_close(requests);
     return false;
 }

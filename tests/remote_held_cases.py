@@ -184,7 +184,7 @@ def ended():
         with begun(file, folder, "(read _ < go; seq 800 | RUN held write; echo $?) &") as holder:
             holder.wait(SECONDS)
             printed, said = went_on(holder, folder)
-        says = int("the command of hold has ended, and its window is given back" in said)
+        says = int("hold serves no more calls: its command has ended, or hold was killed" in said)
         yield case("call when the command has ended", [], (FAILED, 1, 0, 0)), (int(printed), says, sum(memory(file)[1]), unclean(file))
 
 
