@@ -138,7 +138,8 @@ static int received(int requests, nolthewyr_held_request *asked)
 {
     union { struct cmsghdr head; char room[CMSG_SPACE(sizeof(int))]; } beside = {0};
     struct iovec bytes = {.iov_base = asked, .iov_len = sizeof *asked};
-    struct msghdr message = {.msg_iov = &bytes, .msg_iovlen = 1, .msg_control = &beside, .msg_controllen = sizeof beside};
+    /* Its length, and not its space: there would be room in that for a second descriptor, which nobody would close. */
+    struct msghdr message = {.msg_iov = &bytes, .msg_iovlen = 1, .msg_control = &beside, .msg_controllen = CMSG_LEN(sizeof(int))};
     ssize_t size = recvmsg(requests, &message, MSG_DONTWAIT | MSG_CMSG_CLOEXEC);
     struct cmsghdr *head = size < 0 ? NULL : CMSG_FIRSTHDR(&message);
     int caller = -1;

@@ -30,7 +30,7 @@ NAMES["units refused"] = ("place in the list",), ("exit status", "says why", "by
 NAMES["standard output fails"] = ("place in the list",), ("exit status", "says why", "words not clean")
 NAMES["slow pipe"] = ("reads",), ("goes on still", "exit status of another run", "exit status at last", "units unlike")
 NAMES["window that is not to be had"] = ("reads",), ("exit status at the limit", "at a signal", "units changed")
-NAMES["table saved beside a killed run"] = (), ("status with a lock", "without one", "units unlike those on the server", "units of the killed run missing")
+NAMES["table saved beside a killed run"] = (), ("status with a lock", "without one", "units unlike the server's", "units of the killed run missing")
 
 
 def asked(file, *words, given=b"", **options):
