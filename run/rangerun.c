@@ -13,8 +13,12 @@
 
 #define COUNT(list) (sizeof(list) / sizeof *(list))
 
-static const struct { const char *name; int (*run)(const char *file, int argc, char **argv); } commands[] = {
-    {"hold", nolthewyr_hold}, {"try", nolthewyr_try}, {"tree", nolthewyr_tree},
+typedef int command(const char *file, int argc, char **argv);
+
+/* `held` is what the command does where that stands in place of a file, NULL for nothing. */
+static const struct { const char *name; command *run, *held; } commands[] = {
+    {"hold", nolthewyr_hold, NULL}, {"write", nolthewyr_write, nolthewyr_held_write}, {"read", nolthewyr_read, nolthewyr_held_read},
+    {"try", nolthewyr_try, NULL}, {"tree", nolthewyr_tree, NULL},
 };
 
 /* The run that a signal cancels, NULL for none: a signal may come at any time. */
@@ -28,6 +32,10 @@ static bool verbose;
 
 static const char usage[] =
     "usage: rangerun [-v] [--answer-within TIME] FILE hold [--limit TIME] LEFT RIGHT COMMAND...\n"
+    "       rangerun [-v] [--answer-within TIME] FILE write [--binary] [--limit TIME] [LEFT RIGHT]\n"
+    "       rangerun [-v] [--answer-within TIME] FILE read [--binary] [--unlocked] [--limit TIME] [LEFT RIGHT]\n"
+    "       rangerun held write [--binary] [LEFT RIGHT]\n"
+    "       rangerun held read [--binary] [LEFT RIGHT]\n"
     "       rangerun [-v] [--answer-within TIME] FILE try --windows COUNT [--number N] [--seed S] [--within LEFT RIGHT]\n"
     "            [--largest UNITS] [--hold TIME] [--ahead COUNT] [--swaps]\n"
     "       rangerun [-v] [--answer-within TIME] FILE tree\n"
@@ -52,6 +60,16 @@ bool nolthewyr_common_set(int option)
     return option == 'A' && nolthewyr_duration(optarg, &answer_within) && (answer_within == 0 || answer_within >= LEAST_ANSWER);
 }
 
+int nolthewyr_edges_set(nolthewyr_edges *edges, char **words)
+{
+    edges->said = true;
+    if (!nolthewyr_number(words[0], &edges->left))
+        return nolthewyr_wrong_line("the left edge is not a number: ", words[0]);
+    if (!nolthewyr_number(words[1], &edges->right))
+        return nolthewyr_wrong_line("the right edge is not a number: ", words[1]);
+    return 0;
+}
+
 /* For what a run waits is for who looks on; that it cannot end is for everybody. */
 static void said(void *context, int told, const char *text)
 {
@@ -72,6 +90,16 @@ nolthewyr_run *nolthewyr_opened(const char *file)
     return run;
 }
 
+int nolthewyr_taken(nolthewyr_run *run, nolthewyr_edges window, uint64_t limit, int failed)
+{
+    int answer = nolthewyr_run_take(run, window.left, window.right, limit);
+    if (answer == NOLTHEWYR_RUN_DONE)
+        return 0;
+    if (answer == NOLTHEWYR_RUN_CANCELLED)
+        return 128 + nolthewyr_signalled();
+    return nolthewyr_failed(run, answer == NOLTHEWYR_RUN_LIMIT ? NOLTHEWYR_EXIT_LIMIT : failed);
+}
+
 static void cancel(int signal)
 {
     nolthewyr_run *run = signalled_run;
@@ -80,12 +108,22 @@ static void cancel(int signal)
         nolthewyr_run_cancel(run);
 }
 
+static void on_signals(void (*action)(int))
+{
+    nolthewyr_on_signal(SIGTERM, action);
+    nolthewyr_on_signal(SIGINT, action);
+    nolthewyr_on_signal(SIGHUP, action);
+}
+
 void nolthewyr_cancelled_by_signals(nolthewyr_run *run)
 {
     signalled_run = run;
-    nolthewyr_on_signal(SIGTERM, cancel);
-    nolthewyr_on_signal(SIGINT, cancel);
-    nolthewyr_on_signal(SIGHUP, cancel);
+    on_signals(cancel);
+}
+
+void nolthewyr_ended_by_signals(void)
+{
+    on_signals(SIG_DFL);
 }
 
 void nolthewyr_closed(nolthewyr_run *run)
@@ -119,10 +157,14 @@ int main(int argc, char **argv)
     int wrong = options_before_file(argc, argv);
     if (wrong != 0)
         return wrong;
-    int at = optind;
+    char **words = argv + optind;
+    int count = argc - optind - 1;
+    bool held = strcmp(words[0], "held") == 0;
     optind = 0; /* the command's own options begin anew */
-    for (size_t i = 0; i < COUNT(commands); i++)
-        if (strcmp(argv[at + 1], commands[i].name) == 0)
-            return commands[i].run(argv[at], argc - at - 1, argv + at + 1);
-    return nolthewyr_wrong_line("no such command: ", argv[at + 1]);
+    for (size_t i = 0; i < COUNT(commands); i++) {
+        command *asked = held ? commands[i].held : commands[i].run;
+        if (asked != NULL && strcmp(words[1], commands[i].name) == 0)
+            return asked(words[0], count, words + 1);
+    }
+    return nolthewyr_wrong_line(held ? "no such command of a window that is held (a file named held is ./held): " : "no such command: ", words[1]);
 }

@@ -1,6 +1,7 @@
 /* rangerun FILE hold: runs a command while a window is held. */
 
 #include <errno.h>
+#include <fcntl.h>
 #include <getopt.h>
 #include <signal.h>
 #include <spawn.h>
@@ -9,7 +10,9 @@
 #include <sys/wait.h>
 
 #include "arguments.h"
+#include "held.h"
 #include "rangerun.h"
+#include "run.h"
 
 extern char **environ;
 
@@ -73,8 +76,8 @@ static int status_of_command(void)
     return WIFEXITED(status) ? WEXITSTATUS(status) : 128 + WTERMSIG(status);
 }
 
-/* Runs the command, unless a signal came before it. */
-static int command_run(char **words)
+/* Starts the command, unless a signal came before it. 0, or the exit status if it does not run. */
+static int command_started(char **words)
 {
     sigset_t before = signals_blocked();
     int signal = nolthewyr_signalled(), failed = signal == 0 ? started(words, &before) : 0;
@@ -84,26 +87,53 @@ static int command_run(char **words)
     if (signal != 0)
         return 128 + signal;
     if (failed == 0)
-        return status_of_command();
+        return 0;
     fprintf(stderr, "rangerun: %s: %s\n", words[0], strerror(failed));
     return failed == ENOENT ? NOLTHEWYR_EXIT_NO_COMMAND : NOLTHEWYR_EXIT_NOT_RUN;
 }
 
-static int held_for(nolthewyr_run *run, uint64_t left, uint64_t right, uint64_t limit, char **words)
+/* The command gets the server's file, as locked as the run has it: if the run is killed, a server that is started sees that the command goes on.
+ * When the run ends its lock goes, whoever has the file then. A script's own descriptors have one digit. */
+static void file_handed_on(const nolthewyr_run *run)
 {
-    int answer = nolthewyr_run_take(run, left, right, limit);
-    if (answer == NOLTHEWYR_RUN_CANCELLED)
-        return 128 + nolthewyr_signalled();
-    if (answer != NOLTHEWYR_RUN_DONE)
-        return nolthewyr_failed(run, answer == NOLTHEWYR_RUN_LIMIT ? NOLTHEWYR_EXIT_LIMIT : NOLTHEWYR_EXIT_HOLD);
-    int status = command_run(words);
-    return nolthewyr_run_give_back(run) == NOLTHEWYR_RUN_DONE ? status : nolthewyr_failed(run, NOLTHEWYR_EXIT_HOLD);
+    fcntl(run->present, F_DUPFD, 10);
+}
+
+/* Runs the command, and serves the requests that it makes meanwhile. Gives in `ran` whether it ran. */
+static int command_run(nolthewyr_run *run, char **words, bool *ran)
+{
+    nolthewyr_requests requests;
+    if (!nolthewyr_requests_open(&requests))
+        return NOLTHEWYR_EXIT_HOLD;
+    file_handed_on(run);
+    int status = command_started(words);
+    *ran = status == 0;
+    if (*ran)
+        nolthewyr_requests_serve(&requests, run, (pid_t)command);
+    nolthewyr_requests_close(&requests);
+    return *ran ? status_of_command() : status;
+}
+
+static int held_for(nolthewyr_run *run, nolthewyr_edges window, uint64_t limit, char **words)
+{
+    int status = nolthewyr_taken(run, window, limit, NOLTHEWYR_EXIT_HOLD);
+    if (status != 0)
+        return status;
+    bool ran = false;
+    status = command_run(run, words, &ran);
+    if (nolthewyr_run_give_back(run) == NOLTHEWYR_RUN_DONE)
+        return status;
+    if (ran)
+        fprintf(stderr, "rangerun: the lock may have been lost while %s ran, which ended with %d: see that no other run has written these units\n",
+                words[0], status);
+    return nolthewyr_failed(run, ran ? NOLTHEWYR_EXIT_LOST : NOLTHEWYR_EXIT_HOLD);
 }
 
 int nolthewyr_hold(const char *file, int argc, char **argv)
 {
     static const struct option options[] = {{"limit", required_argument, NULL, 'l'}, NOLTHEWYR_COMMON_OPTIONS, {0}};
-    uint64_t limit = 0, left, right;
+    uint64_t limit = 0;
+    nolthewyr_edges window;
     int option;
     opterr = 0;
     while ((option = getopt_long(argc, argv, "+:v", options, NULL)) != -1)
@@ -111,15 +141,14 @@ int nolthewyr_hold(const char *file, int argc, char **argv)
             return nolthewyr_wrong_line("hold: no such option, or no time behind it: ", argv[optind - 1]);
     if (argc - optind < 3)
         return nolthewyr_wrong_line("hold: two edges and a command are to be named", "");
-    if (!nolthewyr_number(argv[optind], &left))
-        return nolthewyr_wrong_line("hold: the left edge is not a number: ", argv[optind]);
-    if (!nolthewyr_number(argv[optind + 1], &right))
-        return nolthewyr_wrong_line("hold: the right edge is not a number: ", argv[optind + 1]);
+    int wrong = nolthewyr_edges_set(&window, argv + optind);
+    if (wrong != 0)
+        return wrong;
     nolthewyr_run *run = nolthewyr_opened(file);
     if (run == NULL)
         return NOLTHEWYR_EXIT_HOLD;
     nolthewyr_cancelled_by_signals(run);
-    int status = held_for(run, left, right, limit, argv + optind + 2);
+    int status = held_for(run, window, limit, argv + optind + 2);
     nolthewyr_closed(run);
     return status;
 }
