@@ -176,7 +176,8 @@ static void serve(const volatile sig_atomic_t *ended, const sigset_t *waiting, b
     int64_t looked = 0;
     sigprocmask(SIG_SETMASK, waiting, NULL);
     while (!*ended) {
-        driven(quiet);
+        while (driven(quiet))
+            ;
         looks = nolthewyr_endpoint_has_work(&local, looks < LOOKS ? 0 : MILLISECONDS) ? 0 : looks + 1;
         if (!quiet && milliseconds() - looked >= MILLISECONDS) {
             nolthewyr_log_looked();

@@ -20,7 +20,7 @@ typedef struct connection {
     char address[NOLTHEWYR_PEER_SIZE];
     char who[WHO_SIZE]; /* empty if nobody has */
     time_t since;
-    bool there, closed, said;
+    bool there, missed, closed, said; /* missed: it was not there at the last look */
 } connection;
 
 static connection *connections;
@@ -55,17 +55,21 @@ static bool connection_noted(void *context, const nolthewyr_socket *socket)
         at->next = connections;
         connections = at;
     }
-    if (at != NULL)
+    if (at != NULL) {
         at->there = true;
+        at->missed = false;
+    }
     return true;
 }
 
-/* Takes out those that are gone, and says so of each that did not close before. */
+/* Takes out those that are gone, and says so of each that did not close before. The provider may close a socket before the line that came over it
+ * is heard: so it is said at the second look at which a connection is missed, and what was there at the first is heard by then. */
 static void gone_taken_out(void)
 {
     for (connection **at = &connections; *at != NULL;) {
         connection *here = *at;
-        if (here->there) {
+        if (here->there || !here->missed) {
+            here->missed = !here->there;
             at = &here->next;
             continue;
         }
@@ -137,7 +141,7 @@ void nolthewyr_log_heard(const char *said)
     snprintf(text, sizeof text, "%s", said);
     made_printable(text);
     char *what = part(&rest), *address = part(&rest), *who = part(&rest);
-    nolthewyr_log_looked();
+    nolthewyr_each_socket(connection_noted, NULL);
     connection *from = connection_of(address, who, strcmp(what, "closed") != 0);
     line_written(from == NULL ? "a run" : from->address, what, who, rest);
     if (from == NULL)

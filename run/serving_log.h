@@ -8,7 +8,7 @@
  * know it. */
 void nolthewyr_log_heard(const char *said);
 
-/* Looks which connections have come and gone. It costs some microseconds a connection. */
+/* Looks which connections have come and gone, when all lines are heard that have come. It costs some microseconds a connection. */
 void nolthewyr_log_looked(void);
 
 #endif
