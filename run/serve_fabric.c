@@ -30,6 +30,7 @@ enum { START_KEY = 0x6e6f6c74 };
 enum { LINES = 16 };
 
 static nolthewyr_endpoint local;
+static bool has_hosts; /* whether the provider goes between machines */
 static struct fid_mr *start, *words, *units, *heard;
 static char lines[LINES][NOLTHEWYR_SAID_SIZE + 1]; /* with a 0 behind each, whatever comes */
 
@@ -131,6 +132,7 @@ static bool begin(nolthewyr_server *server, char *error)
     uint64_t levels = server->identity.settings.levels;
     if (server->host[0] == '\0' && strcmp(server->over, "shm") != 0)
         strcpy(server->host, "127.0.0.1");
+    has_hosts = server->host[0] != '\0';
     if (!nolthewyr_endpoint_open(&local, server, true, error))
         return false;
     identity = server->identity;
@@ -144,8 +146,8 @@ static bool begin(nolthewyr_server *server, char *error)
 }
 
 /* Drives the provider. What it tells is taken off the queue, an error too, which would else be work that is never done: of the server's own it
- * can only be a line of a run. */
-static void driven(bool quiet)
+ * can only be a line of a run. Gives whether it was one. */
+static bool driven(void)
 {
     struct fi_cq_entry entry = {0};
     struct fi_cq_err_entry error = {0};
@@ -154,11 +156,12 @@ static void driven(bool quiet)
     if (answer == -FI_EAVAIL && fi_cq_readerr(local.completions, &error, 0) == 1)
         line = error.op_context;
     if (line == NULL)
-        return;
-    if (answer == 1 && !quiet)
+        return false;
+    if (answer == 1)
         nolthewyr_log_heard(line);
     memset(line, 0, NOLTHEWYR_SAID_SIZE);
     line_lent(line);
+    return true;
 }
 
 static int64_t nanoseconds(void)
@@ -173,18 +176,21 @@ static int64_t nanoseconds(void)
 static void serve(const volatile sig_atomic_t *ended, const sigset_t *waiting, bool quiet)
 {
     int64_t worked = 0, looked = 0;
+    nolthewyr_log_begun(quiet, has_hosts);
     sigprocmask(SIG_SETMASK, waiting, NULL);
     while (!*ended) {
         int64_t now = nanoseconds();
-        driven(quiet);
+        while (driven())
+            ;
         if (nolthewyr_endpoint_has_work(&local, now - worked < AWAKE ? 0 : MILLISECONDS))
             worked = nanoseconds();
-        if (!quiet && now - looked >= MILLISECONDS * INT64_C(1000000)) {
+        if (now - looked >= MILLISECONDS * INT64_C(1000000)) {
             nolthewyr_log_looked();
             looked = now;
         }
         sched_yield();
     }
+    nolthewyr_log_looked();
 }
 
 const nolthewyr_serving nolthewyr_fabric_serving = {.begin = begin, .serve = serve, .end = end};
