@@ -74,18 +74,36 @@ def run_in_part():
     return ROOT / built
 
 
+def server_line(file, over, settings, *options):
+    """The words by which a server is started."""
+    named = zip(("--levels", "--distance", "--wait", "--patience"), map(str, settings))
+    return [program("rangeserver"), *(text for pair in named for text in pair), "--over", over, *map(str, options), file]
+
+
+def log_of(file):
+    """Where the log of a server is kept, which is what it says on standard error."""
+    return Path(f"{file}.log")
+
+
+def serves(file, over, settings, *options):
+    """A server, when it serves. What it says is put behind what its log has so far."""
+    with log_of(file).open("a") as log:
+        server = subprocess.Popen(server_line(file, over, settings, *options), stdout=subprocess.PIPE, stderr=log, text=True)
+    said = server.stdout.readline()
+    if said != f"serving {file}\n":
+        server.kill()
+        server.wait()
+        raise subprocess.SubprocessError(f"rangeserver over {over} says {said!r} and {log_of(file).read_text()!r}")
+    return server
+
+
 @contextmanager
-def serving(over, settings):
+def serving(over, settings, *options):
     """The file of a server, which serves meanwhile."""
     with TemporaryDirectory() as folder:
         file = Path(folder) / "server"
-        named = zip(("--levels", "--distance", "--wait", "--patience"), map(str, settings))
-        words = [program("rangeserver"), *(text for pair in named for text in pair), "--over", over, file]
-        server = subprocess.Popen(words, stdout=subprocess.PIPE, text=True)
+        server = serves(file, over, settings, *options)
         try:
-            said = server.stdout.readline()
-            if said != f"serving {file}\n":
-                raise subprocess.SubprocessError(f"rangeserver over {over} says {said!r}")
             yield file
         finally:
             server.terminate()
