@@ -87,8 +87,8 @@ void nolthewyr_run_tell(nolthewyr_run *run, nolthewyr_run_teller *teller, void *
 /* The settings that the server's file has. */
 nolthewyr_settings nolthewyr_run_settings(const nolthewyr_run *run);
 
-/* Takes the units [left, right). If others are in the way it pauses between looks, for a random time below a bound: a millisecond at first, after 8
- * milliseconds an eighth of how long it has waited, and never over 50 milliseconds. If it was late or out of patience it asks again after a
+/* Takes the units [left, right). If others are in the way it pauses between looks, for a random time below a bound: a millisecond at first, after 16
+ * milliseconds a sixteenth of how long it has waited, and never over 50 milliseconds. If it was late or out of patience it asks again after a
  * pause. It gives up when `limit` nanoseconds are over, 0 for no limit. Giving up takes longer than the limit where the run stands in a
  * line: a place in a line can be left only when its turn comes. */
 int nolthewyr_run_take(nolthewyr_run *run, uint64_t left, uint64_t right, uint64_t limit);
