@@ -136,11 +136,7 @@ ASKED = (
     ("FILE tree", "", 0, ""),
     ("FILE", "burn", 2, "no such command: burn"),
     ("FILE.gone", "tree", 3, "no server has written it, or it has ended"),
-<<<<<<< HEAD
-    ("/dev/null", "tree", 3, "it is empty: no server has written it, or its copy is not whole"),
-=======
     ("/dev/null", "tree", 3, "it is empty: no server has written it"),
->>>>>>> main
 )
 
 
