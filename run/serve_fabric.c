@@ -3,6 +3,7 @@
 #include "serving.h"
 
 #include <arpa/inet.h>
+#include <fcntl.h>
 #include <netinet/in.h>
 #include <rdma/fi_cm.h>
 #include <rdma/fi_errno.h>
@@ -12,13 +13,14 @@
 #include <string.h>
 #include <sys/mman.h>
 #include <time.h>
+#include <unistd.h>
 
 #include "endpoint.h"
 #include "fabric.h"
 #include "serving_log.h"
 
 /* The server sleeps, for so many milliseconds at most, if it had nothing to do in so many looks: a run that waits for an answer should not
- * wait for the server to wake up. Every so many looks it sees whether a connection has come or gone. */
+ * wait for the server to wake up. */
 enum { MILLISECONDS = 100, LOOKS = 10000 };
 
 /* The identity is under a key that is the same for every server: a run with the file of another start is to read it, and to be told. It is no
@@ -168,6 +170,18 @@ static int64_t milliseconds(void)
     return (int64_t)now.tv_sec * 1000 + now.tv_nsec / 1000000;
 }
 
+/* Whether a file was opened since it was last asked: then the lowest number that is free is another. A connection may come and go between two looks
+ * that are made for the time that went by, and this costs next to nothing. */
+static bool files_opened(void)
+{
+    static int lowest = -1;
+    int before = lowest;
+    lowest = fcntl(STDERR_FILENO, F_DUPFD_CLOEXEC, 0);
+    if (lowest >= 0)
+        close(lowest);
+    return lowest != before;
+}
+
 /* A card carries out what is posted by itself; software does so only while its completion queue is read. A signal that comes just before a
  * sleep is seen after it. */
 static void serve(const volatile sig_atomic_t *ended, const sigset_t *waiting, bool quiet)
@@ -179,7 +193,7 @@ static void serve(const volatile sig_atomic_t *ended, const sigset_t *waiting, b
         while (driven(quiet))
             ;
         looks = nolthewyr_endpoint_has_work(&local, looks < LOOKS ? 0 : MILLISECONDS) ? 0 : looks + 1;
-        if (!quiet && milliseconds() - looked >= MILLISECONDS) {
+        if (!quiet && (files_opened() || milliseconds() - looked >= MILLISECONDS)) {
             nolthewyr_log_looked();
             looked = milliseconds();
         }
