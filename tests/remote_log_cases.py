@@ -1,10 +1,13 @@
 """Cases for what a server over a network says of its runs: each that opens, closes or goes without closing, with the address of its connection;
 on standard error alone, and nothing if it is to be quiet."""
 
+import os
 import re
+import subprocess
 
 from compare import NAMES, case
-from remote_runs import NETWORK, has_libfabric, without_libfabric
+from library import SECONDS
+from remote_runs import NETWORK, has_libfabric, program, without_libfabric
 from remote_servers import Run, asked, awaited, server, until
 
 LINE = re.compile(r"rangeserver: \d{4}-\d\d-\d\dT\d\d:\d\d:\d\d (127\.0\.0\.\d+:\d+): (\S.*?): process (\d+) \(rangerun\) on \S+(: .*)?")
@@ -14,6 +17,7 @@ GONE = ": if it held a window, that stays taken"
 NAMES["log of runs that close"] = (), ("runs that opened", "closed", "at other addresses", "lines that are none of these")
 NAMES["log of a run that is killed"] = ("how it is ended",), ("lines of it", "its last says so", "at another address")
 NAMES["standard output of a server"] = ("quiet",), ("bytes",)
+NAMES["descriptors of the command of hold"] = (), ("own", "sockets", "server's file", "others of the run")
 NAMES["quiet server"] = (), ("status of a run", "bytes on standard error")
 
 
@@ -68,8 +72,25 @@ def quiet():
         yield case("standard output of a server", [1], 0), len(at.process.stdout.read())
 
 
+def command_files():
+    """The command of hold has the descriptors that hold was started with, and of the run only those that are meant for it: the server's file, and
+    the socket of `rangerun held`. With the run's connection it would keep from the server that the run is gone."""
+    reading, writing = os.pipe()
+    with server(NETWORK) as at:
+        line = [program("rangerun"), at.file, "hold", "0", "10", "ls", "-l", "/proc/self/fd"]
+        listed = subprocess.run(line, pass_fds=[reading], capture_output=True, text=True, timeout=SECONDS).stdout
+    os.close(reading)
+    os.close(writing)
+    own = len(re.findall(rf" {reading} -> pipe:", listed))
+    yield case("descriptors of the command of hold", [], (1, 1, 1, 0)), (own, listed.count("socket:"), listed.count(f"{at.file}\n"), listed.count("anon_inode"))
+
+
 def over_network(check):
     return check if has_libfabric() else without_libfabric
 
 
-SUITES = {"what a server says of its runs": over_network(logged), "a server that is to be quiet": over_network(quiet)}
+SUITES = {
+    "what a server says of its runs": over_network(logged),
+    "a server that is to be quiet": over_network(quiet),
+    "what the command of hold has open": over_network(command_files),
+}
