@@ -49,7 +49,7 @@ RUN_PARTS = $(addprefix $(RUN)/,run.o step.o operated.o pause.o waiting.o failin
     $(if $(FABRIC),fabric.o posting.o endpoint.o host.o connection.o sockets.o,no_fabric.o))
 RANGERUN_PARTS = $(RUN_PARTS) $(addprefix $(RUN)/,rangerun.o rangerun_hold.o rangerun_serve.o rangerun_held.o rangerun_units.o units.o rangerun_try.o \
     rangerun_tree.o arguments.o)
-RANGESERVER_PARTS = $(addprefix $(RUN)/,rangeserver.o arguments.o identity.o server_file.o file_locks.o processes.o serve_memory.o \
+RANGESERVER_PARTS = $(addprefix $(RUN)/,rangeserver.o arguments.o identity.o server_file.o file_locks.o processes.o left.o serve_memory.o \
     $(if $(FABRIC),serve_fabric.o serving_log.o sockets.o endpoint.o host.o,no_serve_fabric.o))
 RUN_LIBRARY = $(BUILT)/libnolthewyr_run.a
 RUN_SHARED = $(BUILT)/libnolthewyr_run.so

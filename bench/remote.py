@@ -42,7 +42,7 @@ def server(built, over, levels, distance, wait):
         file = Path(folder) / "server"
         settings = {"--levels": levels, "--distance": distance, "--wait": wait, "--patience": 20 * wait, "--over": over}
         words = [str(word) for pair in settings.items() for word in pair]
-        serving = subprocess.Popen([built / "rangeserver", *words, file], stdout=subprocess.PIPE, text=True)
+        serving = subprocess.Popen([built / "rangeserver", *words, "--quiet", file], stdout=subprocess.PIPE, text=True)
         try:
             if not serving.stdout.readline().startswith("serving"):
                 raise SystemExit(f"rangeserver does not serve over {over}")

@@ -58,9 +58,10 @@ static bool settled(nolthewyr_edges *window, uint64_t units)
 
 static int unlocked_read(nolthewyr_run *run, nolthewyr_transfer *transfer)
 {
-    if (run->transport->read_units(run->transport, transfer->window.left, transfer->count, transfer->units))
+    nolthewyr_transport *over = run->transport;
+    if (over->read_units(over, transfer->window.left, transfer->count, transfer->units) && over->served(over))
         return 0;
-    fprintf(stderr, "rangerun: %s\n", run->transport->error);
+    fprintf(stderr, "rangerun: %s\n", over->error);
     return NOLTHEWYR_EXIT_FAILED;
 }
 

@@ -9,6 +9,7 @@
 
 #include "arguments.h"
 #include "file_locks.h"
+#include "left.h"
 #include "serving.h"
 
 /* Runs that see that the server has ended have so many parts of a second to close, of so many nanoseconds each. */
@@ -127,6 +128,17 @@ static bool left_read(nolthewyr_server *left, const char *file, char *error)
     return read || (opened >= 0 && left->version[0] != '\0');
 }
 
+/* Removes what a server that died has left of itself in /dev/shm. False if it is there and is served. */
+static bool memory_removed(const nolthewyr_server *left)
+{
+    char address[NOLTHEWYR_ADDRESS_SIZE + 1] = "";
+    long process;
+    nolthewyr_address_read(left, (unsigned char *)address);
+    if (sscanf(address, "fi_shm://%ld:", &process) == 1)
+        nolthewyr_left_removed(process);
+    return nolthewyr_memory_removed(left->memory);
+}
+
 /* Whether no run of the start before is still there, or this start goes on all the same, and says what that risks. */
 static bool runs_ended(int locked, const char *file, bool anyway, char *error)
 {
@@ -157,7 +169,7 @@ static bool room_made(const char *file, bool anyway, char *error)
         snprintf(error, NOLTHEWYR_ERROR_SIZE, "%s: it is there, and no server has written it: name another file, or remove it", file);
     else if (!runs_ended(locked, file, anyway, error))
         return false;
-    else if (!nolthewyr_memory_removed(left.memory))
+    else if (!memory_removed(&left))
         snprintf(error, NOLTHEWYR_ERROR_SIZE, "%s: a copy of the file of a server that still serves shared memory %s", file, left.memory);
     else if (!nolthewyr_server_remove(locked, file))
         snprintf(error, NOLTHEWYR_ERROR_SIZE, "%s: a server left it, and it cannot be removed", file);

@@ -19,9 +19,10 @@
 #include "fabric.h"
 #include "serving_log.h"
 
-/* The server sleeps, for so many milliseconds at most, if it had nothing to do in so many looks: a run that waits for an answer should not
- * wait for the server to wake up. */
-enum { MILLISECONDS = 100, LOOKS = 10000 };
+/* The server sleeps, for so many milliseconds at most, if it had nothing to do for so many nanoseconds: a run that is on its way, one round trip
+ * after another, should not wait for the server to wake up, and runs that look now and then should not keep it awake. After each such sleep, as often
+ * without, and when it has opened a file, it sees whether a connection has come or gone. */
+enum { MILLISECONDS = 100, AWAKE = 100000 };
 
 /* The identity is under a key that is the same for every server: a run with the file of another start is to read it, and to be told. It is no
  * secret, and nobody can write it. */
@@ -31,6 +32,7 @@ enum { START_KEY = 0x6e6f6c74 };
 enum { LINES = 16 };
 
 static nolthewyr_endpoint local;
+static bool has_hosts; /* whether the provider goes between machines */
 static struct fid_mr *start, *words, *units, *heard;
 static char lines[LINES][NOLTHEWYR_SAID_SIZE + 1]; /* with a 0 behind each, whatever comes */
 
@@ -132,6 +134,7 @@ static bool begin(nolthewyr_server *server, char *error)
     uint64_t levels = server->identity.settings.levels;
     if (server->host[0] == '\0' && strcmp(server->over, "shm") != 0)
         strcpy(server->host, "127.0.0.1");
+    has_hosts = server->host[0] != '\0';
     if (!nolthewyr_endpoint_open(&local, server, true, error))
         return false;
     identity = server->identity;
@@ -146,7 +149,7 @@ static bool begin(nolthewyr_server *server, char *error)
 
 /* Drives the provider. What it tells is taken off the queue, an error too, which would else be work that is never done: of the server's own it
  * can only be a line of a run. Gives whether it was one. */
-static bool driven(bool quiet)
+static bool driven(void)
 {
     struct fi_cq_entry entry = {0};
     struct fi_cq_err_entry error = {0};
@@ -156,18 +159,18 @@ static bool driven(bool quiet)
         line = error.op_context;
     if (line == NULL)
         return false;
-    if (answer == 1 && !quiet)
+    if (answer == 1)
         nolthewyr_log_heard(line);
     memset(line, 0, NOLTHEWYR_SAID_SIZE);
     line_lent(line);
     return true;
 }
 
-static int64_t milliseconds(void)
+static int64_t nanoseconds(void)
 {
     struct timespec now;
     clock_gettime(CLOCK_MONOTONIC, &now);
-    return (int64_t)now.tv_sec * 1000 + now.tv_nsec / 1000000;
+    return (int64_t)now.tv_sec * 1000000000 + now.tv_nsec;
 }
 
 /* Whether a file was opened since it was last asked: then the lowest number that is free is another. A connection may come and go between two looks
@@ -186,19 +189,22 @@ static bool files_opened(void)
  * sleep is seen after it. */
 static void serve(const volatile sig_atomic_t *ended, const sigset_t *waiting, bool quiet)
 {
-    int looks = 0;
-    int64_t looked = 0;
+    int64_t worked = 0, looked = 0;
+    nolthewyr_log_begun(quiet, has_hosts);
     sigprocmask(SIG_SETMASK, waiting, NULL);
     while (!*ended) {
-        while (driven(quiet))
+        int64_t now = nanoseconds();
+        while (driven())
             ;
-        looks = nolthewyr_endpoint_has_work(&local, looks < LOOKS ? 0 : MILLISECONDS) ? 0 : looks + 1;
-        if (!quiet && (files_opened() || milliseconds() - looked >= MILLISECONDS)) {
+        if (nolthewyr_endpoint_has_work(&local, now - worked < AWAKE ? 0 : MILLISECONDS))
+            worked = nanoseconds();
+        if (files_opened() || now - looked >= MILLISECONDS * INT64_C(1000000)) {
             nolthewyr_log_looked();
-            looked = milliseconds();
+            looked = now;
         }
         sched_yield();
     }
+    nolthewyr_log_looked();
 }
 
 const nolthewyr_serving nolthewyr_fabric_serving = {.begin = begin, .serve = serve, .end = end};

@@ -3,20 +3,23 @@
 #include "serving_log.h"
 
 #include <ctype.h>
-#include <stdbool.h>
+#include <errno.h>
+#include <signal.h>
 #include <stdio.h>
 #include <stdlib.h>
 #include <string.h>
 #include <time.h>
 
+#include "left.h"
 #include "sockets.h"
 
 enum { WHO_SIZE = 200, SILENT_SECONDS = 2 };
 
-/* A connected socket, and the run that has named itself over it. */
+/* A connected socket, and the run that has named itself over it; or the process of a run on this machine. */
 typedef struct connection {
     struct connection *next;
     int socket;
+    long process; /* 0 for a socket */
     char address[NOLTHEWYR_PEER_SIZE];
     char who[WHO_SIZE]; /* empty if nobody has */
     time_t since;
@@ -24,6 +27,13 @@ typedef struct connection {
 } connection;
 
 static connection *connections;
+static bool quiet, over_network;
+
+void nolthewyr_log_begun(bool is_quiet, bool is_over_network)
+{
+    quiet = is_quiet;
+    over_network = is_over_network;
+}
 
 static time_t seconds(void)
 {
@@ -37,8 +47,21 @@ static void line_written(const char *address, const char *what, const char *who,
     char moment[32];
     time_t now = time(NULL);
     struct tm local;
+    if (quiet)
+        return;
     strftime(moment, sizeof moment, "%Y-%m-%dT%H:%M:%S", localtime_r(&now, &local));
     fprintf(stderr, "rangeserver: %s %s: %s%s%s%s%s\n", moment, address, what, *who ? ": " : "", who, *why ? ": " : "", why);
+}
+
+/* A new one, or NULL if there is no memory for it. */
+static connection *added(const char *address, int socket, long process)
+{
+    connection *at = calloc(1, sizeof *at);
+    if (at == NULL)
+        return NULL;
+    *at = (connection){.next = connections, .socket = socket, .process = process, .since = seconds()};
+    snprintf(at->address, sizeof at->address, "%s", address);
+    return connections = at;
 }
 
 /* Notes a socket as there, anew if it was not before. */
@@ -48,13 +71,8 @@ static bool connection_noted(void *context, const nolthewyr_socket *socket)
     (void)context;
     while (at != NULL && (at->socket != socket->number || strcmp(at->address, socket->peer) != 0))
         at = at->next;
-    if (at == NULL && (at = calloc(1, sizeof *at)) != NULL) {
-        at->socket = socket->number;
-        at->since = seconds();
-        strcpy(at->address, socket->peer);
-        at->next = connections;
-        connections = at;
-    }
+    if (at == NULL)
+        at = added(socket->peer, socket->number, 0);
     if (at != NULL) {
         at->there = true;
         at->missed = false;
@@ -73,6 +91,8 @@ static void gone_taken_out(void)
             at = &here->next;
             continue;
         }
+        if (here->process > 0)
+            nolthewyr_left_removed(here->process);
         if (here->who[0] != '\0' && !here->closed)
             line_written(here->address, "gone without closing", here->who, "if it held a window, that stays taken");
         else if (here->who[0] == '\0')
@@ -95,7 +115,7 @@ static void silent_said(void)
 void nolthewyr_log_looked(void)
 {
     for (connection *at = connections; at != NULL; at = at->next)
-        at->there = false;
+        at->there = at->process > 0 && (kill((pid_t)at->process, 0) == 0 || errno == EPERM);
     nolthewyr_each_socket(connection_noted, NULL);
     gone_taken_out();
     silent_said();
@@ -138,10 +158,13 @@ static char *part(char **rest)
 void nolthewyr_log_heard(const char *said)
 {
     char text[1000], *rest = text;
+    long process;
     snprintf(text, sizeof text, "%s", said);
     made_printable(text);
     char *what = part(&rest), *address = part(&rest), *who = part(&rest);
     nolthewyr_each_socket(connection_noted, NULL);
+    if (!over_network && strcmp(what, "opened") == 0 && sscanf(who, "process %ld", &process) == 1)
+        added("this machine", -1, process);
     connection *from = connection_of(address, who, strcmp(what, "closed") != 0);
     line_written(from == NULL ? "a run" : from->address, what, who, rest);
     if (from == NULL)

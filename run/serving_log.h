@@ -4,6 +4,12 @@
 #ifndef NOLTHEWYR_SERVING_LOG_H
 #define NOLTHEWYR_SERVING_LOG_H
 
+#include <stdbool.h>
+
+/* Whether nothing is to be said; and whether runs come over a network. If not, they are processes of this machine, and what libfabric's provider
+ * shm leaves of one that was killed is removed from /dev/shm. */
+void nolthewyr_log_begun(bool quiet, bool over_network);
+
 /* A run has sent a line: `WHAT: ADDRESS: WHO`, or `WHAT: ADDRESS: WHO: WHY`. The address is that of its end of the connection, empty if it does not
  * know it. */
 void nolthewyr_log_heard(const char *said);

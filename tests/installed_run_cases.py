@@ -58,7 +58,7 @@ def transports():
 def serving(over):
     """The file of an installed server, which serves meanwhile. When it has ended the file is gone."""
     file = place("server")
-    server = subprocess.Popen([prefix() / "bin" / "rangeserver", *SETTINGS, "--over", over, file], env=environment(), stdout=subprocess.PIPE, text=True)
+    server = subprocess.Popen([prefix() / "bin" / "rangeserver", *SETTINGS, "--quiet", "--over", over, file], env=environment(), stdout=subprocess.PIPE, text=True)
     try:
         if server.stdout.readline() != f"serving {file}\n":
             raise subprocess.SubprocessError(f"rangeserver over {over} does not serve")
@@ -136,7 +136,7 @@ ASKED = (
     ("FILE tree", "", 0, ""),
     ("FILE", "burn", 2, "no such command: burn"),
     ("FILE.gone", "tree", 3, "no server has written it, or it has ended"),
-    ("/dev/null", "tree", 3, "the server has version ''"),
+    ("/dev/null", "tree", 3, "it is empty: no server has written it"),
 )
 
 
