@@ -92,6 +92,25 @@ static int command_started(char **words)
     return failed == ENOENT ? NOLTHEWYR_EXIT_NO_COMMAND : NOLTHEWYR_EXIT_NOT_RUN;
 }
 
+/* The descriptors that were open when hold began, of those that are looked at: all but the three of standard streams. */
+enum { LEAST_LOOKED_AT = 3, LOOKED_AT = 1024 };
+static bool inherited[LOOKED_AT];
+
+static void inherited_noted(void)
+{
+    for (int number = LEAST_LOOKED_AT; number < LOOKED_AT; number++)
+        inherited[number] = fcntl(number, F_GETFD) >= 0;
+}
+
+/* What was opened since is not the command's: libfabric leaves its sockets to whatever is started, and with one of them in the command a server would
+ * not see that the run is gone before the command is. */
+static void opened_kept(void)
+{
+    for (int number = LEAST_LOOKED_AT; number < LOOKED_AT; number++)
+        if (!inherited[number])
+            fcntl(number, F_SETFD, FD_CLOEXEC);
+}
+
 /* The command gets the server's file, as locked as the run has it: if the run is killed, a server that is started sees that the command goes on.
  * When the run ends its lock goes, whoever has the file then. A script's own descriptors have one digit. */
 static void file_handed_on(const nolthewyr_run *run)
@@ -103,6 +122,7 @@ static void file_handed_on(const nolthewyr_run *run)
 static int command_run(nolthewyr_run *run, char **words, bool *ran)
 {
     nolthewyr_requests requests;
+    opened_kept();
     if (!nolthewyr_requests_open(&requests))
         return NOLTHEWYR_EXIT_HOLD;
     file_handed_on(run);
@@ -144,6 +164,7 @@ int nolthewyr_hold(const char *file, int argc, char **argv)
     int wrong = nolthewyr_edges_set(&window, argv + optind);
     if (wrong != 0)
         return wrong;
+    inherited_noted();
     nolthewyr_run *run = nolthewyr_opened(file);
     if (run == NULL)
         return NOLTHEWYR_EXIT_HOLD;

@@ -3,6 +3,7 @@
 #include "serving.h"
 
 #include <arpa/inet.h>
+#include <fcntl.h>
 #include <netinet/in.h>
 #include <rdma/fi_cm.h>
 #include <rdma/fi_errno.h>
@@ -12,14 +13,15 @@
 #include <string.h>
 #include <sys/mman.h>
 #include <time.h>
+#include <unistd.h>
 
 #include "endpoint.h"
 #include "fabric.h"
 #include "serving_log.h"
 
 /* The server sleeps, for so many milliseconds at most, if it had nothing to do for so many nanoseconds: a run that is on its way, one round trip
- * after another, should not wait for the server to wake up, and runs that look now and then should not keep it awake. After each such sleep, and as
- * often without, it sees whether a connection has come or gone. */
+ * after another, should not wait for the server to wake up, and runs that look now and then should not keep it awake. After each such sleep, as often
+ * without, and when it has opened a file, it sees whether a connection has come or gone. */
 enum { MILLISECONDS = 100, AWAKE = 100000 };
 
 /* The identity is under a key that is the same for every server: a run with the file of another start is to read it, and to be told. It is no
@@ -171,6 +173,18 @@ static int64_t nanoseconds(void)
     return (int64_t)now.tv_sec * 1000000000 + now.tv_nsec;
 }
 
+/* Whether a file was opened since it was last asked: then the lowest number that is free is another. A connection may come and go between two looks
+ * that are made for the time that went by, and this costs next to nothing. */
+static bool files_opened(void)
+{
+    static int lowest = -1;
+    int before = lowest;
+    lowest = fcntl(STDERR_FILENO, F_DUPFD_CLOEXEC, 0);
+    if (lowest >= 0)
+        close(lowest);
+    return lowest != before;
+}
+
 /* A card carries out what is posted by itself; software does so only while its completion queue is read. A signal that comes just before a
  * sleep is seen after it. */
 static void serve(const volatile sig_atomic_t *ended, const sigset_t *waiting, bool quiet)
@@ -184,7 +198,7 @@ static void serve(const volatile sig_atomic_t *ended, const sigset_t *waiting, b
             ;
         if (nolthewyr_endpoint_has_work(&local, now - worked < AWAKE ? 0 : MILLISECONDS))
             worked = nanoseconds();
-        if (now - looked >= MILLISECONDS * INT64_C(1000000)) {
+        if (files_opened() || now - looked >= MILLISECONDS * INT64_C(1000000)) {
             nolthewyr_log_looked();
             looked = now;
         }

@@ -2,6 +2,7 @@
 same time do not meet; what came in part is not written; and no call keeps hold from ending when its command has ended."""
 
 import os
+import re
 import shlex
 import subprocess
 import sys
@@ -19,7 +20,7 @@ from remote_runs import NETWORK, has_libfabric, memory, program, serving, unclea
 
 SETTINGS = {"memory": Settings(3, 2, 50_000, 5_000_000), NETWORK: Settings(3, 2, 20_000_000, 100_000_000)}
 LEFT, RIGHT, CALLS = 100, 900, 8
-WRONG_LINE, FAILED, HOLD_FAILED = 2, 3, 125
+WRONG_LINE, FAILED, LOST = 2, 3, 123
 EACH = (RIGHT - LEFT) // CALLS
 # A command that makes a request of its own, as run/held.h has it, to write the whole window; it sends so many units, each of 1, and then goes on.
 CALL = """
@@ -36,7 +37,7 @@ def call(units):
 def answer(own):
     found = own.recv(%d, socket.MSG_WAITALL)
     return found[24:].split(bytes(1))[0].decode() if found else "none"
-""" % calcsize("3Q400s")
+""" % calcsize("3Q1000s")
 # Half of the units, and then: the end; nothing while the command ends; nothing for too long, while another call waits; all, while another waits.
 ENDS = "call(400); sys.exit(7)"
 LEFT_BEHIND = "own = call(400)\nif os.fork() == 0: print(answer(own), flush=True); os._exit(0)\nsys.exit(7)"
@@ -214,8 +215,8 @@ def server_gone():
             holder = begun(file, folder, "echo held; read _ < go; RUN held read; echo $?")
             holder.stdout.readline()
         printed, said = went_on(holder, folder)
-    says = int(f"held: over {NETWORK}: the read of units: " in said)
-    yield case("server that is gone", [], (FAILED, 1, HOLD_FAILED)), (int(printed), says, holder.returncode)
+    says = int(re.search(rf"held: the server at 127\.0\.0\.1 port \d+ over {NETWORK} .*, in phase 9 \(.*\) of \[100, 900\)", said) is not None)
+    yield case("server that is gone", [], (FAILED, 1, LOST)), (int(printed), says, holder.returncode)
 
 
 SUITES = {

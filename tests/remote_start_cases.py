@@ -2,31 +2,35 @@
 why, and touches nothing. A run that was open when its server was killed and started anew touches nothing of the new start either."""
 
 import re
+from contextlib import ExitStack
 from signal import SIGCONT, SIGSTOP
 
 from compare import NAMES, case
-from remote_runs import NETWORK, has_libfabric, without_libfabric
+from remote_runs import NETWORK, has_libfabric, unclean, without_libfabric
 from remote_servers import FAILED, HOLD_FAILED, LOST, SETTINGS, Run, asked, awaited, says, server, touched, until
 
 OLD = SETTINGS[NETWORK]
 # Settings of the start after, and what is said of them beside the advice.
 STARTED_ANEW = (
     (OLD, "copy: the server was started anew: take its new file\n"),
-    (OLD._replace(levels=5), "take its new file (levels 4 in the file, 5 at the server, units 4096 in the file, 16384 at the server)"),
-    (OLD._replace(distance=1, wait=30_000_000), "take its new file (distance 2 in the file, 1 at the server, wait 20000000 in the file, 30000000 at"),
+    (OLD._replace(levels=5, wait=30_000_000), "take its new file (levels 4 in the file, 5 at the server, wait 20000000 in the file, 30000000 at the"
+     " server, units 4096 in the file, 16384 at the server)\n"),
 )
-ALL = {"words-key": 1, "units-key": 2}
-BY_HAND = ALL, {"words-key": 1}, {"units-key": 2}
 KEYS = "does not know the keys of the file: it was started anew, or the file is not as it wrote it: take its file"
-BROKEN_OFF = "has broken off the connection"
+# What stands in a file otherwise than the server wrote it, and what is said of that.
+BY_HAND = (
+    ({"words-key": 1, "units-key": 2}, KEYS), ({"words-key": 1}, KEYS), ({"units-key": 2}, "has broken off the connection"),
+    ({"wait": 10_000_000}, "it is not as the server wrote it: wait 10000000 in the file, 20000000 at the server: take the server's file\n"),
+    ({"distance": 1, "units": 64}, "distance 1 in the file, 2 at the server, units 64 in the file, 4096 at the server: take"),
+)
 
 NAMES["file of the start before"] = ("place in the list",), ("status of try", "of hold", "both say why", "the command ran")
 NAMES["new file"] = ("place in the list",), ("status of try", "words not clean", "the server says whom it refused")
 NAMES["runs of the start before"] = ("over a network",), ("status that holds", "that tries", "that waits", "new start's words and units touched")
 NAMES["what they say"] = ("over a network",), ("the one that holds", "that tries", "that waits")
-NAMES["file written by hand"] = ("over a network", "place in the list"), ("status of try", "of hold", "says why or the command ran", "touched")
-NAMES["file written by hand, in the log"] = ("place in the list",), ("the server says whom it refused",)
-NAMES["file with another number"] = ("place in the list",), ("status of try", "status of hold", "both say which", "touched")
+NAMES["file written by hand"] = ("place in the list",), ("status of try", "of hold", "both say why", "the command ran")
+NAMES["server of files written by hand"] = ("over a network",), ("words not clean", "units touched", "whom it refused", "connections gone")
+NAMES["file written by hand over shm"] = (), ("status", "says why", "the command ran", "in time")
 
 
 def refused(file, *parts):
@@ -36,9 +40,8 @@ def refused(file, *parts):
 
 
 def logged(at, what):
-    """Whether the server's log has such a line of a connection."""
-    line = re.compile(rf"^rangeserver: \S+ 127\.0\.0\.\d+:\d+: {what}", re.MULTILINE)
-    return int(until(lambda: line.search(at.log)))
+    """How many lines the server's log has that say so of an address."""
+    return len(re.findall(rf"^rangeserver: \S+ 127\.0\.0\.\d+:\d+: {what}", at.log, re.MULTILINE))
 
 
 def stale():
@@ -50,15 +53,16 @@ def stale():
             at.start(settings)
             yield case("file of the start before", [place], (FAILED, HOLD_FAILED, 1, 0)), refused(old, said)
             tries = asked(at.file, "try", "--windows", "20")
-            answer = tries.status, touched(at.file)[0], logged(at, r"refused: process \d+ \(rangerun\) on .*: the server was started anew")
-            yield case("new file", [place], (0, 0, 1)), answer
+            refused_runs = logged(at, r"refused: process \d+ \(rangerun\) on .*: the server was started anew")
+            yield case("new file", [place], (0, 0, 2)), (tries.status, unclean(at.file), refused_runs)
 
 
 def open_runs(over):
     """Three runs of a server that is killed and started anew beside them: one holds, one holds and is stopped meanwhile, one waits."""
-    with (server(over) as at, Run(at.file, "hold", "0", "100", "cat") as holds, Run(at.file, "hold", "-v", "50", "60", "true") as waits,
-          Run(at.file, "try", "--windows", "1", "--number", "9", "--within", "500", "600", "--hold", "1s") as tries):
-        holds.holds()
+    with server(over) as at, ExitStack() as runs:
+        holds = runs.enter_context(Run(at.file, "hold", "0", "100", "cat")).holds()
+        waits = runs.enter_context(Run(at.file, "hold", "-v", "50", "60", "true"))
+        tries = runs.enter_context(Run(at.file, "try", "--windows", "1", "--number", "9", "--within", "500", "600", "--hold", "1s"))
         awaited(lambda: "9" in asked(at.file, "read", "--unlocked").printed.split(), "a window that is tried")
         tries.process.send_signal(SIGSTOP)
         awaited(lambda: "is waited for" in waits.said, "a run that waits")
@@ -66,8 +70,7 @@ def open_runs(over):
         at.start(None, "--anyway")
         tries.process.send_signal(SIGCONT)
         holds.let_go()
-        ended = holds.ended(), tries.ended(), waits.ended()
-        return ended, touched(at.file)
+        return (holds.ended(), tries.ended(), waits.ended()), touched(at.file)
 
 
 def open_meanwhile():
@@ -79,40 +82,26 @@ def open_meanwhile():
                                                             says(waits.said, "of [50, 60)", "When a run or the server dies"))
 
 
-def by_hand_over_network():
-    """Keys that are not the server's: it knows those of words, and breaks off who comes with a wrong one of units."""
-    for place, changed in enumerate(BY_HAND):
-        why, line = (KEYS, r"refused: process \d+ \(rangerun\) on ") if "words-key" in changed else (BROKEN_OFF, "gone: ")
-        with server(NETWORK) as at:
-            answer = refused(at.copied(**changed), at.place, why)
-            yield case("file written by hand", [1, place], (FAILED, HOLD_FAILED, 1, 0)), (*answer[:2], answer[2] - answer[3], sum(touched(at.file)))
-            yield case("file written by hand, in the log", [place], 1), logged(at, line)
-
-
-def by_hand_on_one_machine():
-    """Over shm the file has to be the server's own, which is written over."""
-    for place, changed in enumerate(BY_HAND):
-        with server("shm", OLD) as at:
-            own = at.file.read_text()
-            at.file.write_text(at.copied(**changed).read_text())
-            answer = refused(at.file, "the server over shm")
-            at.file.write_text(own)
-            yield case("file written by hand", [0, place], (FAILED, HOLD_FAILED, 1, 0)), (*answer[:2], answer[2] - answer[3], sum(touched(at.file)))
-
-
-def other_number():
-    """The start is right, and a number is not."""
-    with server(NETWORK) as at:
-        for place, (name, number, own) in enumerate((("wait", 10_000_000, OLD.wait), ("distance", 1, OLD.distance), ("units", 64, 4096))):
-            why = f"it is not as the server wrote it: {name} {number} in the file, {own} at the server: take the server's file"
-            answer = refused(at.copied(**{name: number}), why)
-            yield case("file with another number", [place], (FAILED, HOLD_FAILED, 1, 0)), (*answer[:3], answer[3] + sum(touched(at.file)))
-
-
 def by_hand():
-    yield from by_hand_over_network()
-    yield from by_hand_on_one_machine()
-    yield from other_number()
+    """Keys that are not the server's, of which it breaks off who comes with a wrong one of units, or numbers that are not."""
+    with server(NETWORK) as at:
+        for place, (changed, why) in enumerate(BY_HAND):
+            yield case("file written by hand", [place], (FAILED, HOLD_FAILED, 1, 0)), refused(at.copied(**changed), why)
+        gone = until(lambda: logged(at, "gone: ") >= 2)
+        answer = *touched(at.file), logged(at, r"refused: process \d+ \(rangerun\) on "), int(gone)
+        yield case("server of files written by hand", [1], (0, 0, 8, 1)), answer
+
+
+def by_hand_over_shm():
+    """The file has to be the server's own, which is written over. This provider gives no answer to a wrong key."""
+    with server("shm", OLD) as at:
+        own = at.file.read_text()
+        at.file.write_text(at.copied(**{"words-key": 1}).read_text())
+        ran = asked(at.file, "hold", "0", "100", "echo", "ran", before=("--answer-within", "1s"))
+        at.file.write_text(own)
+        answer = ran.status, says(ran.said, "the server over shm has not answered the read of a word for 1 s"), len(ran.printed), int(ran.seconds < 8)
+        yield case("file written by hand over shm", [], (HOLD_FAILED, 1, 0, 1)), answer
+        yield case("server of files written by hand", [0], (0, 0)), touched(at.file)
 
 
 def over_network(check):
@@ -122,5 +111,6 @@ def over_network(check):
 SUITES = {
     "a file of the start before": over_network(stale),
     "a server started anew beside runs": open_meanwhile,
-    "a file written by hand": over_network(by_hand),
+    "a file written by hand, over tcp;ofi_rxm": over_network(by_hand),
+    "a file written by hand, over shm": over_network(by_hand_over_shm),
 }
