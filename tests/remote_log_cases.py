@@ -4,11 +4,12 @@ on standard error alone, and nothing if it is to be quiet."""
 import os
 import re
 import subprocess
+from pathlib import Path
 
 from compare import NAMES, case
 from library import SECONDS
 from remote_runs import NETWORK, has_libfabric, program, without_libfabric
-from remote_servers import Run, asked, awaited, server, until
+from remote_servers import SETTINGS, Run, asked, awaited, server, until
 
 LINE = re.compile(r"rangeserver: \d{4}-\d\d-\d\dT\d\d:\d\d:\d\d (127\.0\.0\.\d+:\d+): (\S.*?): process (\d+) \(rangerun\) on \S+(: .*)?")
 RUNS = 4
@@ -18,6 +19,7 @@ NAMES["log of runs that close"] = (), ("runs that opened", "closed", "at other a
 NAMES["log of a run that is killed"] = ("how it is ended",), ("lines of it", "its last says so", "at another address")
 NAMES["standard output of a server"] = ("quiet",), ("bytes",)
 NAMES["descriptors of the command of hold"] = (), ("own", "sockets", "server's file", "others of the run")
+NAMES["run over shm that is killed"] = (), ("files that it has", "is said to be gone", "its files are removed")
 NAMES["quiet server"] = (), ("status of a run", "bytes on standard error")
 
 
@@ -85,6 +87,17 @@ def command_files():
     yield case("descriptors of the command of hold", [], (1, 1, 1, 0)), (own, listed.count("socket:"), listed.count(f"{at.file}\n"), listed.count("anon_inode"))
 
 
+def left_over_shm():
+    """Over shm the provider leaves a file of a process that is killed. The server says that it is gone, and removes it."""
+    with server("shm", SETTINGS[NETWORK]) as at:
+        with Run(at.file, "hold", "0", "100", "cat") as holds:
+            holds.holds()
+            before = len(list(Path("/dev/shm").glob(f"{holds.process.pid}:*")))
+        gone = until(lambda: f"gone without closing: process {holds.process.pid} (rangerun)" in at.log)
+        removed = until(lambda: not list(Path("/dev/shm").glob(f"{holds.process.pid}:*")))
+        yield case("run over shm that is killed", [], (1, 1, 1)), (before, int(gone), int(removed))
+
+
 def over_network(check):
     return check if has_libfabric() else without_libfabric
 
@@ -93,4 +106,5 @@ SUITES = {
     "what a server says of its runs": over_network(logged),
     "a server that is to be quiet": over_network(quiet),
     "what the command of hold has open": over_network(command_files),
+    "what a killed run leaves over shm": over_network(left_over_shm),
 }

@@ -26,7 +26,6 @@ def waiting(at, runs, *words, given=b""):
     run = runs.enter_context(Run(at.file, words[0], "-v", *words[1:], before=A_SECOND))
     run.process.stdin.write(given)
     run.let_go()
-    awaited(lambda: "is waited for" in run.said, "a run that waits")
     return run
 
 
@@ -42,12 +41,14 @@ def stopped():
         holds = runs.enter_context(Run(at.file, "hold", "0", "100", "cat", before=A_SECOND)).holds()
         waits = waiting(at, runs, "hold", "50", "60", "true")
         writes = waiting(at, runs, "write", "10", "14", given=b"1 2 3 4")
+        awaited(lambda: all("is waited for" in run.said for run in (waits, writes)), "runs that wait")
         at.stop()
         begun = monotonic()
         holds.let_go()
+        opening = runs.enter_context(Run(at.file, "tree", before=A_SECOND))
         ended = [(status, window, run.ended(), monotonic() - begun) for status, window, run in
                  ((LOST, "[0, 100)", holds), (HOLD_FAILED, "[50, 60)", waits), (FAILED, "[10, 14)", writes))]
-        opens = asked(at.file, "tree", before=A_SECOND)
+        opens = opening.ended()
     for place, (status, window, run, seconds) in enumerate(ended):
         where = says(run.said, f"the server at {at.place} over {NETWORK} has not answered the ", " for 1 s, in phase ")
         answer = run.status, where, unknown(run.said, window), int(0.8 < seconds < 8)

@@ -6,8 +6,8 @@ from subprocess import SubprocessError
 from time import monotonic
 
 from compare import NAMES, case
-from remote_runs import NETWORK, has_libfabric
-from remote_servers import FAILED, HOLD_FAILED, LOST, Run, asked, awaited, says, server, touched, until
+from remote_runs import NETWORK, has_libfabric, unclean
+from remote_servers import FAILED, HOLD_FAILED, LOST, Run, asked, awaited, says, server, until
 
 HOLD = "hold", "0", "100", "cat"
 STILL_THERE = "runs of the start before may still hold windows: ", "End them and start again"
@@ -20,7 +20,6 @@ SOON = 7
 NAMES["start beside a run that holds"] = ("over a network",), ("exit status", "names the process", "exit status of hold", "hold says why")
 NAMES["start when it has ended"] = ("over a network",), ("status of a run", "words not clean")
 NAMES["start beside the command of a killed run"] = ("over a network",), ("exit status", "names the command", "starts when it has ended")
-NAMES["start beside it all the same"] = ("over a network",), ("says what that risks", "status of a run", "exit status of hold", "touched")
 NAMES["server that is ended"] = ("over a network",), ("exit status", "status of try", "of a hold that waits", "both in time")
 NAMES["what they say of its end"] = ("over a network",), ("try", "a hold that waits", "a hold that goes on", "the server of its file")
 NAMES["file of a server that is ended"] = ("over a network",), ("stays", "status of the next start", "status of hold", "is gone at last")
@@ -43,7 +42,7 @@ def beside_holder():
             lost = says(ended.said, "the lock may have been lost while cat ran, which ended with 0", "of [0, 100)", SECTION)
             yield case("start beside a run that holds", [network], (FAILED, 1, LOST, 1)), (start.status, names, ended.status, lost)
             at.start()
-            yield case("start when it has ended", [network], (0, 0)), (asked(at.file, "hold", "0", "100", "true").status, touched(at.file)[0])
+            yield case("start when it has ended", [network], (0, 0)), (asked(at.file, "hold", "0", "100", "true").status, unclean(at.file))
 
 
 def started(at):
@@ -66,21 +65,6 @@ def beside_command():
             holds.let_go()
             answer = start.status, says(start.said, "process ", " (cat)", *STILL_THERE), int(until(lambda: started(at)))
             yield case("start beside the command of a killed run", [network], (FAILED, 1, 1)), answer
-
-
-def all_the_same():
-    """Who says --anyway gets a second holder of the window, and is told so. What the first gives back is nothing of the new start's."""
-    for network, over in transports():
-        with server(over) as at, Run(at.file, *HOLD) as holds:
-            holds.holds()
-            at.kill()
-            at.start(None, "--anyway")
-            risk = says(at.log, f"--anyway: runs of the start before are still there: process {holds.process.pid} (rangerun)",
-                        "a window that one of them holds may be taken by another run")
-            second = asked(at.file, "hold", "0", "100", "true")
-            holds.let_go()
-            answer = risk, second.status, holds.ended().status, sum(touched(at.file))
-            yield case("start beside it all the same", [network], (1, 0, LOST, 0)), answer
 
 
 def runs_of_ended(at, runs):
@@ -116,6 +100,5 @@ def server_ended():
 SUITES = {
     "a server killed, and started beside a run that holds": beside_holder,
     "a server killed, and started beside the command of a killed run": beside_command,
-    "a server killed, and started beside a run all the same": all_the_same,
     "a server ended while runs are there": server_ended,
 }

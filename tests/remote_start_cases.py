@@ -16,6 +16,7 @@ STARTED_ANEW = (
     (OLD._replace(levels=5, wait=30_000_000), "take its new file (levels 4 in the file, 5 at the server, wait 20000000 in the file, 30000000 at the"
      " server, units 4096 in the file, 16384 at the server)\n"),
 )
+SECTION = 'See "When a run or the server dies" in docs/REMOTE.md'
 KEYS = "does not know the keys of the file: it was started anew, or the file is not as it wrote it: take its file"
 # What stands in a file otherwise than the server wrote it, and what is said of that.
 BY_HAND = (
@@ -27,7 +28,7 @@ BY_HAND = (
 NAMES["file of the start before"] = ("place in the list",), ("status of try", "of hold", "both say why", "the command ran")
 NAMES["new file"] = ("place in the list",), ("status of try", "words not clean", "the server says whom it refused")
 NAMES["runs of the start before"] = ("over a network",), ("status that holds", "that tries", "that waits", "new start's words and units touched")
-NAMES["what they say"] = ("over a network",), ("the one that holds", "that tries", "that waits")
+NAMES["what they say"] = ("over a network",), ("the one that holds", "that tries", "that waits", "the server")
 NAMES["file written by hand"] = ("place in the list",), ("status of try", "of hold", "both say why", "the command ran")
 NAMES["server of files written by hand"] = ("over a network",), ("words not clean", "units touched", "whom it refused", "connections gone")
 NAMES["file written by hand over shm"] = (), ("status", "says why", "the command ran", "in time")
@@ -68,18 +69,20 @@ def open_runs(over):
         awaited(lambda: "is waited for" in waits.said, "a run that waits")
         at.kill()
         at.start(None, "--anyway")
+        risk = says(at.log, "--anyway: runs of the start before are still there: ", f"process {holds.process.pid} (rangerun)",
+                    "a window that one of them holds may be taken by another run")
         tries.process.send_signal(SIGCONT)
         holds.let_go()
-        return (holds.ended(), tries.ended(), waits.ended()), touched(at.file)
+        return (holds.ended(), tries.ended(), waits.ended()), touched(at.file), risk
 
 
 def open_meanwhile():
     for network, over in enumerate(("memory", NETWORK)[:1 + has_libfabric()]):
-        (holds, tries, waits), found = open_runs(over)
-        lost = says(holds.said, "the lock may have been lost while cat ran, which ended with 0", "of [0, 100)", "When a run or the server dies")
+        (holds, tries, waits), found, risk = open_runs(over)
+        lost = says(holds.said, "the lock may have been lost while cat ran, which ended with 0", "of [0, 100)", SECTION)
         yield case("runs of the start before", [network], (LOST, FAILED, HOLD_FAILED, 0)), (holds.status, tries.status, waits.status, sum(found))
-        yield case("what they say", [network], (1, 1, 1)), (lost, says(tries.said, "The lock is lost" if over == "memory" else "in phase 9"),
-                                                            says(waits.said, "of [50, 60)", "When a run or the server dies"))
+        said = lost, says(tries.said, "The lock is lost" if over == "memory" else "in phase 9"), says(waits.said, "of [50, 60)", SECTION), risk
+        yield case("what they say", [network], (1, 1, 1, 1)), said
 
 
 def by_hand():

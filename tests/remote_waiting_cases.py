@@ -25,9 +25,9 @@ WANTED = (
 GIVEN_UP = "[0, 1024) is given up, but the run cannot end yet: it stands in the line at node 2, of the units 0 to 1023, with ", "SIGKILL ends this one"
 # Runs that wait for so many seconds. Pauses of 25 ms on the average are 40 looks a second, and at first there are some more; at a leaf each look is
 # two round trips.
-RUNS, WAITED, LOOKS, AT_FIRST = 10, 3, 40, 100
+RUNS, WAITED, LOOKS, AT_FIRST = 10, 3, 40, 200
 # Times that a run waits for a window of a leaf, each of some seconds, and the most seconds from which on it has it too late.
-TIMES, BRIEFLY, LATE = 3, 0.8, 0.6
+TIMES, BRIEFLY, LATE = 3, 0.4, 0.5
 
 NAMES["take that cannot end"] = ("by a signal",), ("says so in time", "goes on")
 NAMES["for what a run waits"] = ("place in the list",), ("said", "not before a second", "said without -v")
@@ -53,17 +53,27 @@ def cannot_end():
                 yield case("take that cannot end", [by_signal], (1, 1)), (int(said), run.goes_on())
 
 
+def told(at, wanted, others):
+    """Of runs that want these windows, and others that want theirs without -v: whether what is said is what it should be, whether it is not said
+    before a second, and how much is said without."""
+    with ExitStack() as runs:
+        pairs = [(runs.enter_context(Run(at.file, "hold", "-v", *window, "true")), runs.enter_context(Run(at.file, "hold", *other, "true")))
+                 for (window, _), (other, _) in zip(wanted, others)]
+        for (loud, quiet), ((left, right), said) in zip(pairs, wanted):
+            is_told = until(lambda: f"[{left}, {right}) is waited for: {said}" in loud.said, 5)
+            seconds = monotonic() - loud.begun
+            until(lambda: monotonic() - quiet.begun > 1.2)
+            yield int(is_told), int(seconds >= 1), len(quiet.said)
+
+
 def waits_for():
-    """With -v, and without, where nobody looks on."""
+    """With -v, and without, where nobody looks on. Who wants all units comes last and alone: it keeps others from theirs, and two of them would
+    stand in line."""
     with server("memory") as at, ExitStack() as runs:
         for window in HELD:
             runs.enter_context(Run(at.file, "hold", *window, "cat")).holds()
-        for place, (window, said) in enumerate(WANTED):
-            with Run(at.file, "hold", "-v", *window, "true") as loud, Run(at.file, "hold", *window, "true") as quiet:
-                told = until(lambda: f"[{window[0]}, {window[1]}) is waited for: {said}" in loud.said, 5)
-                seconds = monotonic() - loud.begun
-                until(lambda: monotonic() - quiet.begun > 1.2)
-                yield case("for what a run waits", [place], (1, 1, 0)), (int(told), int(seconds >= 1), len(quiet.said))
+        for place, answer in enumerate([*told(at, WANTED[:-1], WANTED), *told(at, WANTED[-1:], WANTED)]):
+            yield case("for what a run waits", [place], (1, 1, 0)), answer
 
 
 def waits_for_at_terminal():
