@@ -7,6 +7,8 @@
 #include <string.h>
 #include <unistd.h>
 
+#include "file_locks.h"
+
 /* For so long a plain connection is waited for. */
 enum { MILLISECONDS = 100 };
 
@@ -50,6 +52,7 @@ void nolthewyr_connection_begun(nolthewyr_connection *connection, const nolthewy
 {
     unsigned char bytes[NOLTHEWYR_ADDRESS_SIZE] = {0};
     memset(connection, 0, sizeof *connection);
+    connection->file = server->host[0] == '\0' ? server->file : -1;
     nolthewyr_address_read(server, bytes);
     memcpy(&connection->server, bytes, sizeof connection->server);
     if (server->host[0] == '\0' || !nolthewyr_address_named((struct sockaddr *)&connection->server, sizeof connection->server, connection->peer))
@@ -83,7 +86,7 @@ int nolthewyr_connection_lost(const nolthewyr_connection *connection)
 {
     const nolthewyr_connection *known = connection;
     if (connection->peer[0] == '\0')
-        return 0;
+        return connection->file < 0 || nolthewyr_server_of(connection->file) != 0 ? 0 : ENOTCONN;
     if (connection->own[0] == '\0')
         return refused(connection);
     nolthewyr_each_socket(is_another, &known);

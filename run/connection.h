@@ -15,6 +15,7 @@
 enum { NOLTHEWYR_MOST_CONNECTIONS = 64 };
 
 typedef struct nolthewyr_connection {
+    int file;                       /* that of a server on this machine, by whose lock it is seen that it has died; -1 of any other */
     struct sockaddr_in6 server;     /* the server's address, whatever it is */
     char peer[NOLTHEWYR_PEER_SIZE]; /* the same in numbers, empty where it is none of a network */
     char own[NOLTHEWYR_PEER_SIZE];  /* of the run's socket, empty while it is not known */
@@ -29,7 +30,7 @@ void nolthewyr_connection_begun(nolthewyr_connection *connection, const nolthewy
 void nolthewyr_connection_found(nolthewyr_connection *connection);
 
 /* Why no answer can come any more: the run's socket is gone, or, while it has none, nobody listens at the server's address, which it tries for
- * itself. 0 if an answer may come still. */
+ * itself; or a server that has no address of a network has died. 0 if an answer may come still. */
 int nolthewyr_connection_lost(const nolthewyr_connection *connection);
 
 #pragma GCC visibility pop

@@ -110,7 +110,7 @@ nolthewyr_transport *nolthewyr_fabric_open(const nolthewyr_server *server, uint6
         return NULL;
     /* Between machines CLOCK_MONOTONIC may be made faster or slower than it is allowed to be, by time synchronisation (docs/LINKING.md). */
     over->transport = (nolthewyr_transport){.execute = nolthewyr_fabric_execute, .read_units = nolthewyr_fabric_read,
-                                            .write_units = nolthewyr_fabric_write, .served = served,
+                                            .write_units = nolthewyr_fabric_write, .admitted = nolthewyr_fabric_admitted, .served = served,
                                             .announce = nolthewyr_fabric_announce, .close = close_fabric, .clock = CLOCK_MONOTONIC_RAW};
     over->answer_within = answer_within;
     if (reached(over, server, error))

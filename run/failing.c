@@ -19,8 +19,9 @@ static const char *left_behind(uint64_t phase, bool gone)
         return phase == NOLTHEWYR_PHASE_HELD ? "The lock is lost: another run may hold these units at the server's next start"
                                              : "Nothing of it stays taken, since the words are gone";
     if (phase == NOLTHEWYR_PHASE_HELD)
-        return "Whether what was under way was carried out is unknown, and the window stays taken";
-    return "Whether the operations under way were carried out is unknown: what the run had of the window may stay taken, its tickets, bits and notices";
+        return "Whether what was under way was carried out is unknown. If the server lives, the window stays taken";
+    return "Whether the operations under way were carried out is unknown. If the server lives, what the run had of the window may stay taken: its tickets, "
+           "bits and notices";
 }
 
 void nolthewyr_run_failed(nolthewyr_run *run)

@@ -42,15 +42,20 @@ bool nolthewyr_runs_kept_out(int opened, char *who)
     return false;
 }
 
-long nolthewyr_server_process(const char *file)
+long nolthewyr_server_of(int opened)
 {
     struct flock lock = {.l_type = F_RDLCK, .l_whence = SEEK_SET, .l_start = SERVERS, .l_len = 1};
+    return fcntl(opened, F_GETLK, &lock) == 0 && lock.l_type != F_UNLCK ? (long)lock.l_pid : 0;
+}
+
+long nolthewyr_server_process(const char *file)
+{
     int opened = open(file, O_RDONLY | O_CLOEXEC);
     if (opened < 0)
         return 0;
-    bool locked = fcntl(opened, F_GETLK, &lock) == 0 && lock.l_type != F_UNLCK;
+    long process = nolthewyr_server_of(opened);
     close(opened);
-    return locked ? (long)lock.l_pid : 0;
+    return process;
 }
 
 /* Whether it serves on this machine, where the locks of its file can be seen. */
@@ -73,7 +78,7 @@ static bool joined(nolthewyr_server *server, int opened, const char *file, char 
                  file, why);
     else if (!has_name(opened, file))
         snprintf(error, NOLTHEWYR_ERROR_SIZE, "%s: a server has been started or ended on it just now: try again", file);
-    else if (nolthewyr_server_process(file) == 0)
+    else if (nolthewyr_server_of(opened) == 0)
         snprintf(error, NOLTHEWYR_ERROR_SIZE, "%s: the server that wrote it has ended or died, or this is a copy: start the server anew,"
                  " or name the file that it wrote", file);
     else
@@ -90,7 +95,7 @@ int nolthewyr_joined(nolthewyr_server *server, const char *file, char *error)
         return -1;
     }
     if (joined(server, opened, file, error))
-        return opened;
+        return server->file = opened;
     close(opened);
     return -1;
 }

@@ -17,8 +17,9 @@ int nolthewyr_joined(nolthewyr_server *server, const char *file, char *error);
 /* Takes the run's lock off, from all processes that have the file by this one's opening, and closes it. */
 void nolthewyr_parted(int opened);
 
-/* The process on this machine that serves the file, 0 for none. */
+/* The process on this machine that serves the file, by its name or as it is open; 0 for none. */
 long nolthewyr_server_process(const char *file);
+long nolthewyr_server_of(int opened);
 
 /* Locks the file as its server. False if another has it locked. */
 bool nolthewyr_locked_by_server(int opened);

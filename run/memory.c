@@ -140,7 +140,7 @@ nolthewyr_transport *nolthewyr_memory_open(const nolthewyr_server *server, char 
         return NULL;
     }
     /* One machine has one CLOCK_MONOTONIC. */
-    over->transport = (nolthewyr_transport){.execute = execute, .read_units = read_units, .write_units = write_units, .served = served,
+    over->transport = (nolthewyr_transport){.execute = execute, .read_units = read_units, .write_units = write_units, .admitted = served, .served = served,
                                             .close = close_memory, .clock = CLOCK_MONOTONIC, .together = NOLTHEWYR_MOST_AHEAD, .adds = true, .flips = true};
     if (reached(over, server, error))
         return &over->transport;

@@ -16,7 +16,7 @@ enum { LOOKED_FOR = 16, LOOK_AFTER = 100000000, BILLION = 1000000000 };
 
 /* What is posted: an access to a word, whose kinds stand first and as transport.h has them, a chunk of units, the identity, or a line of the
  * server's log. */
-enum kind { READ_WORD, SWAP_WORD, ADD_TO_WORD, FLIP_BITS, READ_UNITS, WRITE_UNITS, READ_IDENTITY, SAY };
+enum kind { READ_WORD, SWAP_WORD, ADD_TO_WORD, FLIP_BITS, READ_UNITS, WRITE_UNITS, READ_IDENTITY, READ_UNIT, SAY };
 
 typedef struct posting {
     enum kind kind;
@@ -28,7 +28,8 @@ typedef struct posting {
 static bool failed(nolthewyr_fabric *over, enum kind kind, ssize_t answer)
 {
     static const char *const names[] = {"the read of a word", "the swap of a word", "the add to a word",          "the flip of bits",
-                                        "the read of units",  "the write of units", "the read of its identity", "a line for its log"};
+                                        "the read of units",  "the write of units", "the read of its identity", "the read of a unit",
+                                        "a line for its log"};
     char *error = over->transport.error;
     int number = (int)(answer < 0 ? -answer : answer);
     over->broken = true;
@@ -52,7 +53,8 @@ static bool failed(nolthewyr_fabric *over, enum kind kind, ssize_t answer)
 static ssize_t fetching(nolthewyr_fabric *over, posting post, enum fi_datatype type, enum fi_op operation)
 {
     void *value = &over->buffers->words[post.place].value, *found = &over->buffers->words[post.place].found, *local = over->descriptor;
-    return fi_fetch_atomic(over->local.endpoint, value, 1, local, found, local, over->server, post.at, over->words.key, type, operation, NULL);
+    uint64_t key = post.kind == READ_UNIT ? over->units.key : over->words.key;
+    return fi_fetch_atomic(over->local.endpoint, value, 1, local, found, local, over->server, post.at, key, type, operation, NULL);
 }
 
 /* FI_EAGAIN: the provider is to be driven before it takes more. */
@@ -63,6 +65,7 @@ static ssize_t posted(nolthewyr_fabric *over, posting post)
     void *local = over->descriptor;
     switch (post.kind) {
     case READ_WORD:
+    case READ_UNIT:
         return fetching(over, post, FI_UINT64, FI_ATOMIC_READ);
     case SWAP_WORD:
         return fi_compare_atomic(from, &room->words[post.place].value, 1, local, &room->words[post.place].expected, local,
@@ -220,6 +223,15 @@ bool nolthewyr_fabric_identity_read(nolthewyr_fabric *over)
         return false;
     memcpy(&over->transport.identity, over->buffers->units, sizeof over->transport.identity);
     return true;
+}
+
+/* Reads the first word and the first unit, both as atomics: a provider answers that a key is wrong, where it breaks off the connection for a plain
+ * read. */
+bool nolthewyr_fabric_admitted(nolthewyr_transport *transport)
+{
+    nolthewyr_fabric *over = (nolthewyr_fabric *)transport;
+    posting posts[] = {{.kind = READ_WORD, .at = over->words.base}, {.kind = READ_UNIT, .place = 1, .at = over->units.base}};
+    return made(over, &posts[0], 1) && made(over, &posts[1], 1);
 }
 
 /* A server that was started anew has answered, and is told. One that cannot be told does not answer, which the next access finds. */

@@ -44,11 +44,9 @@ nolthewyr_run *nolthewyr_run_over(nolthewyr_transport *transport, nolthewyr_sett
 /* Whether the server is the one that wrote the file: its identity is the file's, and its words and units are under the file's keys. */
 static bool is_server_of(nolthewyr_transport *transport, const nolthewyr_server *server, const char *file, char *error)
 {
-    nolthewyr_access root = {.kind = NOLTHEWYR_ACCESS_READ, .node = 1};
-    uint64_t unit;
     if (!nolthewyr_identity_same(&server->identity, &transport->identity, file, error))
         return false;
-    if (transport->execute(transport, &root, 1) && transport->read_units(transport, 0, 1, &unit) && transport->served(transport))
+    if (transport->admitted(transport))
         return true;
     snprintf(error, NOLTHEWYR_ERROR_SIZE, "%s: %.700s", file, transport->error);
     return false;

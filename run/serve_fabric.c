@@ -97,10 +97,14 @@ static bool address_said(nolthewyr_server *server, char *error)
     return answer == 0;
 }
 
+/* The endpoint first: what comes after it is not answered, and not refused as by a server that was started anew. */
 static void end(const nolthewyr_server *server)
 {
     struct fid_mr *regions[] = {start, words, units, heard};
     (void)server;
+    if (local.endpoint != NULL)
+        fi_close(&local.endpoint->fid);
+    local.endpoint = NULL;
     for (size_t i = 0; i < sizeof regions / sizeof *regions; i++)
         if (regions[i] != NULL)
             fi_close(&regions[i]->fid);

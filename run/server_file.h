@@ -28,6 +28,7 @@ typedef struct nolthewyr_server {
     char host[NOLTHEWYR_NAME_SIZE];    /* the server's machine; empty where the provider stays on one */
     char port[NOLTHEWYR_NAME_SIZE];    /* at which it listens; empty where the provider has none, or is to choose one */
     char address[2 * NOLTHEWYR_ADDRESS_SIZE + 1]; /* of the server's endpoint, in hexadecimal digits */
+    int file; /* of a run: the server's file, open */
     nolthewyr_region start; /* the identity */
     nolthewyr_region words;
     nolthewyr_region units;

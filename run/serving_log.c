@@ -155,6 +155,14 @@ static char *part(char **rest)
     return begin;
 }
 
+/* Runs of one process that open at the same moment do not know which socket is whose: all that nobody has named so far are taken for theirs. */
+static void all_named(const char *who)
+{
+    for (connection *at = connections; at != NULL; at = at->next)
+        if (at->who[0] == '\0')
+            snprintf(at->who, sizeof at->who, "%s", who);
+}
+
 void nolthewyr_log_heard(const char *said)
 {
     char text[1000], *rest = text;
@@ -167,8 +175,9 @@ void nolthewyr_log_heard(const char *said)
         added("this machine", -1, process);
     connection *from = connection_of(address, who, strcmp(what, "closed") != 0);
     line_written(from == NULL ? "a run" : from->address, what, who, rest);
-    if (from == NULL)
-        return;
-    snprintf(from->who, sizeof from->who, "%s", who);
-    from->closed = strcmp(what, "opened") != 0;
+    if (from != NULL) {
+        snprintf(from->who, sizeof from->who, "%s", who);
+        from->closed = strcmp(what, "opened") != 0;
+    } else if (address[0] == '\0' && strcmp(what, "opened") == 0)
+        all_named(who);
 }

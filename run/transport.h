@@ -44,6 +44,8 @@ struct nolthewyr_transport {
     /* What is written is in place before the call returns: the accesses after it may let another run in. */
     bool (*read_units)(nolthewyr_transport *transport, uint64_t first, uint64_t count, uint64_t *units);
     bool (*write_units)(nolthewyr_transport *transport, uint64_t first, uint64_t count, const uint64_t *units);
+    /* Whether words and units are under the keys of the server's file, when the run opens. */
+    bool (*admitted)(nolthewyr_transport *transport);
     /* Whether the server still serves, as far as this is known without asking it. Accesses to a server that does not are made to words that nobody
      * else has. */
     bool (*served)(nolthewyr_transport *transport);
