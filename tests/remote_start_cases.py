@@ -7,7 +7,7 @@ from signal import SIGCONT, SIGSTOP
 
 from compare import NAMES, case
 from remote_runs import NETWORK, has_libfabric, unclean, without_libfabric
-from remote_servers import FAILED, HOLD_FAILED, LOST, SETTINGS, Run, asked, awaited, says, server, touched, until
+from remote_servers import FAILED, HOLD_FAILED, LOST, SETTINGS, Run, asked, awaited, says, server, touched
 
 OLD = SETTINGS[NETWORK]
 # Settings of the start after, and what is said of them beside the advice.
@@ -20,7 +20,7 @@ SECTION = 'See "When a run or the server dies" in docs/REMOTE.md'
 KEYS = "does not know the keys of the file: it was started anew, or the file is not as it wrote it: take its file"
 # What stands in a file otherwise than the server wrote it, and what is said of that.
 BY_HAND = (
-    ({"words-key": 1, "units-key": 2}, KEYS), ({"words-key": 1}, KEYS), ({"units-key": 2}, "has broken off the connection"),
+    ({"words-key": 1, "units-key": 2}, KEYS), ({"words-key": 1}, KEYS), ({"units-key": 2}, KEYS),
     ({"wait": 10_000_000}, "it is not as the server wrote it: wait 10000000 in the file, 20000000 at the server: take the server's file\n"),
     ({"distance": 1, "units": 64}, "distance 1 in the file, 2 at the server, units 64 in the file, 4096 at the server: take"),
 )
@@ -86,13 +86,12 @@ def open_meanwhile():
 
 
 def by_hand():
-    """Keys that are not the server's, of which it breaks off who comes with a wrong one of units, or numbers that are not."""
+    """Keys that are not the server's, or numbers that are not. Each run is refused, and the server says which."""
     with server(NETWORK) as at:
         for place, (changed, why) in enumerate(BY_HAND):
             yield case("file written by hand", [place], (FAILED, HOLD_FAILED, 1, 0)), refused(at.copied(**changed), why)
-        gone = until(lambda: logged(at, "gone: ") >= 2)
-        answer = *touched(at.file), logged(at, r"refused: process \d+ \(rangerun\) on "), int(gone)
-        yield case("server of files written by hand", [1], (0, 0, 8, 1)), answer
+        answer = *touched(at.file), logged(at, r"refused: process \d+ \(rangerun\) on "), logged(at, "gone")
+        yield case("server of files written by hand", [1], (0, 0, 2 * len(BY_HAND), 0)), answer
 
 
 def by_hand_over_shm():
