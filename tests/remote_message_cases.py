@@ -5,8 +5,8 @@ from pathlib import Path
 from tempfile import TemporaryDirectory
 
 from compare import NAMES, case
-from remote_runs import NETWORK, has_libfabric, program
-from remote_servers import ADDRESS, FAILED, HOLD_FAILED, SETTINGS, asked, came_to, free_port, says, server, server_line
+from remote_runs import NETWORK, has_libfabric, server_line
+from remote_servers import ADDRESS, FAILED, HOLD_FAILED, SETTINGS, asked, came_to, says, server
 
 WRONG_LINE = 2
 # Files that a run cannot use, and what is said of them behind their name.
@@ -89,7 +89,8 @@ def reached():
         closed = at.copied()
         at.terminate()
         tree, hold, said, _, seconds = refused(closed)
-        answer = tree, hold, min(says(text, f"the server at {at.place} over {NETWORK} cannot be reached: Connection refused") for text in said), int(seconds < 8)
+        why = f"the server at {at.place} over {NETWORK} cannot be reached: Connection refused"
+        answer = tree, hold, min(says(text, why) for text in said), int(seconds < 8)
         yield case("server that cannot be reached", [1], (FAILED, HOLD_FAILED, 1, 1)), answer
 
 

@@ -4,6 +4,7 @@ and it has its window soon after that was given back."""
 import os
 import pty
 from contextlib import ExitStack
+from select import select
 from signal import SIGTERM
 from subprocess import PIPE, Popen
 from time import monotonic, sleep
@@ -83,11 +84,12 @@ def waits_for_at_terminal():
         above, below = pty.openpty()
         with Popen([program("rangerun"), at.file, "hold", "50", "60", "true"], stdout=PIPE, stderr=below) as waits:
             os.close(below)
-            told = says(os.read(above, 1000).decode(), "[50, 60) is waited for: another run has a window among the units 0 to 63")
+            readable = select([above], [], [], 5)[0]
+            is_told = says(os.read(above, 1000).decode() if readable else "", "[50, 60) is waited for: another run has a window among the units 0 to 63")
             waits.terminate()
             waits.wait(SECONDS)
         os.close(above)
-    yield case("for what a run waits, to a terminal", [], 1), told
+    yield case("for what a run waits, to a terminal", [], 1), is_told
 
 
 def seldom():
