@@ -11,8 +11,9 @@
 #include <stdio.h>
 #include <string.h>
 
-/* So many completions are looked for at once; and whether there still is a connection every so many nanoseconds without an answer. */
-enum { LOOKED_FOR = 16, LOOK_AFTER = 100000000, BILLION = 1000000000 };
+/* So many completions are looked for at once; and whether there still is a connection every so many nanoseconds without an answer. Before the first
+ * answer it is looked for more seldom: then a connection is tried. */
+enum { LOOKED_FOR = 16, LOOK_AFTER = 100000000, TRY_AFTER = 1000000000, BILLION = 1000000000 };
 
 /* What is posted: an access to a word, whose kinds stand first and as transport.h has them, a chunk of units, the identity, or a line of the
  * server's log. */
@@ -113,7 +114,7 @@ static ssize_t still_awaited(const nolthewyr_fabric *over, uint64_t begun, uint6
     uint64_t now = nanoseconds();
     if (over->answer_within > 0 && now - begun > over->answer_within)
         return -FI_ETIMEDOUT;
-    if (now - *looked < LOOK_AFTER)
+    if (now - *looked < (over->transport.own_address == NULL ? TRY_AFTER : LOOK_AFTER))
         return -FI_EAGAIN;
     *looked = now;
     int lost = nolthewyr_connection_lost(&over->connection);
