@@ -45,7 +45,7 @@ bool nolthewyr_fabric_execute(nolthewyr_transport *transport, nolthewyr_access *
 bool nolthewyr_fabric_read(nolthewyr_transport *transport, uint64_t first, uint64_t count, uint64_t *units);
 bool nolthewyr_fabric_write(nolthewyr_transport *transport, uint64_t first, uint64_t count, const uint64_t *units);
 bool nolthewyr_fabric_admitted(nolthewyr_transport *transport);
-void nolthewyr_fabric_announce(nolthewyr_transport *transport, const char *text);
+void nolthewyr_fabric_announce(nolthewyr_transport *transport, const char *text, bool last);
 
 /* Reads the identity that the server's memory has. */
 bool nolthewyr_fabric_identity_read(nolthewyr_fabric *over);

@@ -52,5 +52,5 @@ void nolthewyr_run_announced(nolthewyr_transport *transport, const char *what, c
     gethostname(host, sizeof host - 1);
     snprintf(text, sizeof text, "%s: %s: process %ld (%s) on %s%s%s", what, address, (long)getpid(), program_invocation_short_name, host,
              *why ? ": " : "", why);
-    transport->announce(transport, text);
+    transport->announce(transport, text, strcmp(what, "opened") != 0);
 }

@@ -12,8 +12,8 @@
 #include <string.h>
 
 /* So many completions are looked for at once; and whether there still is a connection every so many nanoseconds without an answer. Before the first
- * answer it is looked for more seldom: then a connection is tried. */
-enum { LOOKED_FOR = 16, LOOK_AFTER = 100000000, TRY_AFTER = 1000000000, BILLION = 1000000000 };
+ * answer it is looked for more seldom: then a connection is tried. For the last line of a log no run waits longer than LAST_WITHIN. */
+enum { LOOKED_FOR = 16, LOOK_AFTER = 100000000, TRY_AFTER = 1000000000, LAST_WITHIN = 1000000000, BILLION = 1000000000 };
 
 /* What is posted: an access to a word, whose kinds stand first and as transport.h has them, a chunk of units, the identity, or a line of the
  * server's log. */
@@ -236,12 +236,14 @@ bool nolthewyr_fabric_admitted(nolthewyr_transport *transport)
 }
 
 /* A server that was started anew has answered, and is told. One that cannot be told does not answer, which the next access finds. */
-void nolthewyr_fabric_announce(nolthewyr_transport *transport, const char *text)
+void nolthewyr_fabric_announce(nolthewyr_transport *transport, const char *text, bool last)
 {
     nolthewyr_fabric *over = (nolthewyr_fabric *)transport;
     posting post = {.kind = SAY, .size = NOLTHEWYR_SAID_SIZE};
     if (over->broken && !over->transport.gone)
         return;
+    if (last && (over->answer_within == 0 || over->answer_within > LAST_WITHIN))
+        over->answer_within = LAST_WITHIN;
     snprintf(over->buffers->said, NOLTHEWYR_SAID_SIZE, "%s", text);
     made(over, &post, 1);
 }

@@ -60,8 +60,10 @@ static nolthewyr_transport *reached(const nolthewyr_server *server, const char *
         return NULL;
     bool is_server = is_server_of(transport, server, file, error);
     nolthewyr_run_announced(transport, is_server ? "opened" : "refused", is_server ? "" : error);
-    if (is_server)
+    if (is_server && transport->served(transport))
         return transport;
+    if (is_server)
+        snprintf(error, NOLTHEWYR_ERROR_SIZE, "%s: %.700s", file, transport->error);
     transport->close(transport);
     return NULL;
 }

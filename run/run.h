@@ -75,7 +75,7 @@ void nolthewyr_run_failed(nolthewyr_run *run);
 /* Whether there still is a server, as far as it is known. If not, the run has failed. */
 bool nolthewyr_run_served(nolthewyr_run *run);
 
-/* Has the server's log say what becomes of a run: the process, and why if there is something to say. */
+/* Has the server's log say what becomes of a run, `opened` or the last of it: the process, and why if there is something to say. */
 void nolthewyr_run_announced(nolthewyr_transport *transport, const char *what, const char *why);
 
 /* Makes one step: finds the operations that are due, makes them on their words, completes them. Rests where the phase waits for a time, and

@@ -194,6 +194,7 @@ static bool files_opened(void)
 static void serve(const volatile sig_atomic_t *ended, const sigset_t *waiting, bool quiet)
 {
     int64_t worked = 0, looked = 0;
+    bool looks = !quiet || !has_hosts; /* on one machine it also removes what killed runs leave */
     nolthewyr_log_begun(quiet, has_hosts);
     sigprocmask(SIG_SETMASK, waiting, NULL);
     while (!*ended) {
@@ -202,7 +203,7 @@ static void serve(const volatile sig_atomic_t *ended, const sigset_t *waiting, b
             ;
         if (nolthewyr_endpoint_has_work(&local, now - worked < AWAKE ? 0 : MILLISECONDS))
             worked = nanoseconds();
-        if (files_opened() || now - looked >= MILLISECONDS * INT64_C(1000000)) {
+        if (looks && (files_opened() || now - looked >= MILLISECONDS * INT64_C(1000000))) {
             nolthewyr_log_looked();
             looked = now;
         }

@@ -49,8 +49,8 @@ struct nolthewyr_transport {
     /* Whether the server still serves, as far as this is known without asking it. Accesses to a server that does not are made to words that nobody
      * else has. */
     bool (*served)(nolthewyr_transport *transport);
-    /* Has the server's log say what becomes of this run. NULL where the server keeps none. */
-    void (*announce)(nolthewyr_transport *transport, const char *text);
+    /* Has the server's log say what becomes of this run; `last` if nothing comes behind it. NULL where the server keeps none. */
+    void (*announce)(nolthewyr_transport *transport, const char *text, bool last);
     void (*close)(nolthewyr_transport *transport);
     /* A clock that is true within 1 part in 10,000 among all runs that share the words by this transport. */
     clockid_t clock;
