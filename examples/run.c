@@ -88,7 +88,7 @@ static bool number(const char *text, uint64_t *value)
 
 int main(int argc, char **argv)
 {
-    char error[400];
+    char error[1000];
     uint64_t left, right;
     if (argc != 4 || !number(argv[2], &left) || !number(argv[3], &right) || left >= right)
         return failed("usage: run FILE LEFT RIGHT, with LEFT below RIGHT");

@@ -62,6 +62,7 @@ void nolthewyr_connection_begun(nolthewyr_connection *connection, const nolthewy
 
 void nolthewyr_connection_found(nolthewyr_connection *connection)
 {
+    connection->answered = true;
     if (connection->peer[0] != '\0' && connection->other_count < NOLTHEWYR_MOST_CONNECTIONS)
         nolthewyr_each_socket(own_noted, connection);
 }
@@ -87,8 +88,10 @@ int nolthewyr_connection_lost(const nolthewyr_connection *connection)
     const nolthewyr_connection *known = connection;
     if (connection->peer[0] == '\0')
         return connection->file < 0 || nolthewyr_server_of(connection->file) != 0 ? 0 : ENOTCONN;
-    if (connection->own[0] == '\0')
+    if (!connection->answered)
         return refused(connection);
+    if (connection->own[0] == '\0')
+        return 0;
     nolthewyr_each_socket(is_another, &known);
     return known == NULL ? 0 : ENOTCONN;
 }

@@ -19,6 +19,7 @@ typedef struct nolthewyr_connection {
     struct sockaddr_in6 server;     /* the server's address, whatever it is */
     char peer[NOLTHEWYR_PEER_SIZE]; /* the same in numbers, empty where it is none of a network */
     char own[NOLTHEWYR_PEER_SIZE];  /* of the run's socket, empty while it is not known */
+    bool answered;                  /* the server's first answer has come */
     char others[NOLTHEWYR_MOST_CONNECTIONS][NOLTHEWYR_PEER_SIZE]; /* sockets of this process to the same server that were there before */
     size_t other_count;
 } nolthewyr_connection;
@@ -29,7 +30,7 @@ void nolthewyr_connection_begun(nolthewyr_connection *connection, const nolthewy
 /* After the server's first answer: finds the run's socket. If more than one has come meanwhile it stays unknown. */
 void nolthewyr_connection_found(nolthewyr_connection *connection);
 
-/* Why no answer can come any more: the run's socket is gone, or, while it has none, nobody listens at the server's address, which it tries for
+/* Why no answer can come any more: the run's socket is gone, or, before the first answer, nobody listens at the server's address, which it tries for
  * itself; or a server that has no address of a network has died. 0 if an answer may come still. */
 int nolthewyr_connection_lost(const nolthewyr_connection *connection);
 

@@ -67,8 +67,8 @@ static bool found(nolthewyr_endpoint *at, const nolthewyr_server *server, bool s
     if (answer != 0)
         answer = asked(at, server, serves, FI_ORDER_NONE);
     if (answer != 0)
-        snprintf(error, NOLTHEWYR_ERROR_SIZE, "over %s%s%s: libfabric finds no such provider with atomics (fi_info(1) lists those that it has): %s", server->over,
-                 server->host[0] == '\0' ? "" : " at ", server->host, fi_strerror(abs(answer)));
+        snprintf(error, NOLTHEWYR_ERROR_SIZE, "over %s%s%s: libfabric finds no such provider with atomics (fi_info(1) lists those that it has): %s",
+                 server->over, server->host[0] == '\0' ? "" : " at ", server->host, fi_strerror(abs(answer)));
     else
         at->ordered = is_ordered(at->info);
     return answer == 0;

@@ -66,7 +66,8 @@ static void reached_named(nolthewyr_fabric *over, const nolthewyr_server *server
 static bool answers(nolthewyr_fabric *over, char *error)
 {
     bool answered = nolthewyr_fabric_identity_read(over);
-    nolthewyr_connection_found(&over->connection);
+    if (answered)
+        nolthewyr_connection_found(&over->connection);
     over->transport.own_address = over->connection.own;
     if (!answered)
         snprintf(error, NOLTHEWYR_ERROR_SIZE, "%s", over->transport.error);

@@ -114,7 +114,7 @@ static ssize_t still_awaited(const nolthewyr_fabric *over, uint64_t begun, uint6
     uint64_t now = nanoseconds();
     if (over->answer_within > 0 && now - begun > over->answer_within)
         return -FI_ETIMEDOUT;
-    if (now - *looked < (over->transport.own_address == NULL ? TRY_AFTER : LOOK_AFTER))
+    if (now - *looked < (over->connection.answered ? LOOK_AFTER : TRY_AFTER))
         return -FI_EAGAIN;
     *looked = now;
     int lost = nolthewyr_connection_lost(&over->connection);

@@ -137,8 +137,7 @@ int nolthewyr_signalled(void)
     return signalled;
 }
 
-/* Sets the options that stand before FILE, and gives 0, or says what is wrong. */
-static int options_before_file(int argc, char **argv)
+int nolthewyr_common_read(int argc, char **argv)
 {
     static const struct option options[] = {NOLTHEWYR_COMMON_OPTIONS, {0}};
     int option;
@@ -146,7 +145,7 @@ static int options_before_file(int argc, char **argv)
     while ((option = getopt_long(argc, argv, "+:v", options, NULL)) != -1)
         if (!nolthewyr_common_set(option))
             return nolthewyr_wrong_line("no such option, or no time of a millisecond or more behind it: ", argv[optind - 1]);
-    return argc - optind >= 2 ? 0 : nolthewyr_wrong_line("a FILE and a command are to be named", "");
+    return 0;
 }
 
 int main(int argc, char **argv)
@@ -154,9 +153,11 @@ int main(int argc, char **argv)
     int described = nolthewyr_described("rangerun", usage, argc, argv);
     if (described >= 0)
         return described;
-    int wrong = options_before_file(argc, argv);
+    int wrong = nolthewyr_common_read(argc, argv);
     if (wrong != 0)
         return wrong;
+    if (argc - optind < 2)
+        return nolthewyr_wrong_line("a FILE and a command are to be named", "");
     char **words = argv + optind;
     int count = argc - optind - 1;
     bool held = strcmp(words[0], "held") == 0;

@@ -29,6 +29,9 @@ int nolthewyr_held_read(const char *held, int argc, char **argv);
 #define NOLTHEWYR_COMMON_OPTIONS {"answer-within", required_argument, NULL, 'A'}, {"verbose", no_argument, NULL, 'v'}
 bool nolthewyr_common_set(int option);
 
+/* Sets these options alone, up to the first word that is none. 0, or the exit status when it has said what is wrong. */
+int nolthewyr_common_read(int argc, char **argv);
+
 /* The window [left, right). Where its edges are not said, all units are meant that there are. */
 typedef struct nolthewyr_edges {
     bool said;

@@ -67,12 +67,9 @@ static int looked_through(nolthewyr_run *run)
 
 int nolthewyr_tree(const char *file, int argc, char **argv)
 {
-    static const struct option options[] = {NOLTHEWYR_COMMON_OPTIONS, {0}};
-    int option;
-    opterr = 0;
-    while ((option = getopt_long(argc, argv, "+:v", options, NULL)) != -1)
-        if (!nolthewyr_common_set(option))
-            return nolthewyr_wrong_line("tree: no such option, or no time behind it: ", argv[optind - 1]);
+    int wrong = nolthewyr_common_read(argc, argv);
+    if (wrong != 0)
+        return wrong;
     if (optind < argc)
         return nolthewyr_wrong_line("nothing is to stand behind tree: ", argv[optind]);
     nolthewyr_run *run = nolthewyr_opened(file);

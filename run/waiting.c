@@ -6,8 +6,8 @@
 #include <stdio.h>
 #include <string.h>
 
-/* In nanoseconds: a pause is below LOOK_SURE in any case; later below one LOOK_SHAREth of how long the run has waited, but never over LOOK_MOST. It
- * tells for what it waits after A_SECOND. */
+/* In nanoseconds: a pause is below LOOK_SURE at first, then below one part in LOOK_SHARE of how long the run has waited, and always below LOOK_MOST.
+ * It tells for what it waits after A_SECOND. */
 enum { LOOK_SURE = 1000000, LOOK_MOST = 50000000, LOOK_SHARE = 16, A_SECOND = 1000000000 };
 
 /* In an inner word TCnt has bits 47 to 61 (document 01, "The tree"); a ticket has as many bits. */
