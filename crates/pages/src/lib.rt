@@ -13,7 +13,7 @@ pub use rows::row_of;
 // What planners see of a client: its phase, its window's edges, its pieces' numbers (second 0 for none) and their over-cover, and how many steps the window needs on an otherwise
 // idle tree; all 0 for an idle one.
 #[repr(C)]
-#[derive(Drop)]
+#[derive(Clone, Copy)]
 pub struct Row {
     pub phase: u64,
     pub left: u64,
@@ -26,7 +26,7 @@ pub struct Row {
 
 // What a forecast run sees: the page's number (0 accepted), its own record, and how many clients are in phase 9; the last two all 0 in a refused page.
 #[repr(C)]
-#[derive(Drop)]
+#[derive(Clone, Copy)]
 pub struct RunPage {
     pub number: u64,
     pub own: Record,

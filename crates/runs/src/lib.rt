@@ -10,7 +10,7 @@ mod together;
 
 // How many operations a run posts together: number 0 and the count of those that were put into the lent list; else the cause of a refusal, and 0.
 #[repr(C)]
-#[derive(Drop)]
+#[derive(Clone, Copy)]
 pub struct Ahead {
     pub number: u64,
     pub count: u64,
@@ -18,7 +18,7 @@ pub struct Ahead {
 
 // What becomes of a client whose operations were posted together: its number (0 accepted), how many of them counted, and the client after those.
 #[repr(C)]
-#[derive(Drop)]
+#[derive(Clone, Copy)]
 pub struct CompletedAll {
     pub number: u64,
     pub counted: u64,
