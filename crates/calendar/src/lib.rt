@@ -1,4 +1,6 @@
 // Ward hours: from a ward's window to its units, and from a unit back to its quarter. Nothing of the lock needs this crate.
+#![tactic(auto)]
+
 
 mod calls;
 mod closed;
