@@ -1,4 +1,6 @@
-// Ward hours: from a ward's window to its units, and from a unit back to its quarter. Nothing of the lock needs this crate.
+// Ward hours: from a ward's window to its units, and from a unit back to its quarter. Nothing of the lock needs this crate. C links its two
+// calls from the crate `calendar_c`.
+#![tactic(auto)]
 
 mod calls;
 mod closed;
@@ -6,9 +8,11 @@ mod figures;
 mod hours;
 mod units;
 
+pub use calls::{nolthewyr_calendar_quarter, nolthewyr_calendar_window};
+
 // The levels of the tree that the table's units are locked by, and how many wards and weeks there are.
 #[repr(C)]
-#[derive(Drop)]
+#[derive(Clone, Copy)]
 pub struct Calendar {
     pub levels: u64,
     pub wards: u64,
@@ -17,7 +21,7 @@ pub struct Calendar {
 
 // A quarter of an hour: day 0..6 of its week, quarter 0..95 of its day.
 #[repr(C)]
-#[derive(Drop)]
+#[derive(Clone, Copy)]
 pub struct Quarter {
     pub ward: u64,
     pub week: u64,
@@ -27,7 +31,7 @@ pub struct Quarter {
 
 // number 0: the edges of the window; else the cause of a refusal, and zeros.
 #[repr(C)]
-#[derive(Drop)]
+#[derive(Clone, Copy)]
 pub struct WindowAnswer {
     pub number: u64,
     pub left: u64,
@@ -36,7 +40,7 @@ pub struct WindowAnswer {
 
 // number 0: the quarter that a unit is; else the cause of a refusal, and zeros.
 #[repr(C)]
-#[derive(Drop)]
+#[derive(Clone, Copy)]
 pub struct QuarterAnswer {
     pub number: u64,
     pub at: Quarter,
