@@ -48,8 +48,7 @@ fn out_of_order(weeks: u64, first: Quarter, last: Quarter) -> bool
 }
 
 // There: the edges of the window from `first` to `last`. The hours are pairs of opening and closing, those of ward 0's days 0 to 6 first. Tests 1 for the levels, then 12, 13 and 14.
-#[unsafe(no_mangle)]
-pub extern "C" fn nolthewyr_calendar_window(
+pub fn nolthewyr_calendar_window(
     hours: &[u64],
     calendar: Calendar,
     first: Quarter,
@@ -87,8 +86,7 @@ fn quarter_refused(cause: u64) -> QuarterAnswer
 }
 
 // Back: the quarter that a unit is. Tests 1 for the levels, then 12, and takes no hours.
-#[unsafe(no_mangle)]
-pub extern "C" fn nolthewyr_calendar_quarter(calendar: Calendar, unit: u64) -> QuarterAnswer
+pub fn nolthewyr_calendar_quarter(calendar: Calendar, unit: u64) -> QuarterAnswer
     ensures { result ≡ quarter_answer calendar unit }
 {
     if (calendar.levels < 2) | (12 < calendar.levels) {

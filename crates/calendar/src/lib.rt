@@ -1,12 +1,14 @@
-// Ward hours: from a ward's window to its units, and from a unit back to its quarter. Nothing of the lock needs this crate.
+// Ward hours: from a ward's window to its units, and from a unit back to its quarter. Nothing of the lock needs this crate. C links its two
+// calls from the crate `calendar_c`.
 #![tactic(auto)]
-
 
 mod calls;
 mod closed;
 mod figures;
 mod hours;
 mod units;
+
+pub use calls::{nolthewyr_calendar_quarter, nolthewyr_calendar_window};
 
 // The levels of the tree that the table's units are locked by, and how many wards and weeks there are.
 #[repr(C)]

@@ -1,4 +1,7 @@
-// The pages: what planners see of every client, and what a forecast run sees, of a lent client table. A page changes no client.
+// The pages: what planners see of every client, and what a forecast run sees, of a lent client table. A page changes no client. C links the two pages
+// from the crate `pages_c`.
+#![tactic(auto)]
+
 use lock::Record;
 
 mod causes;
@@ -8,7 +11,9 @@ mod rows;
 mod run;
 
 pub use counts::in_phase_9;
+pub use planners::nolthewyr_planners_page;
 pub use rows::row_of;
+pub use run::nolthewyr_run_page;
 
 // What planners see of a client: its phase, its window's edges, its pieces' numbers (second 0 for none) and their over-cover, and how many steps the window needs on an otherwise
 // idle tree; all 0 for an idle one.

@@ -7,12 +7,7 @@ use crate::{Row, causes, counts};
 use lock::{Client, Settings};
 
 // A row for each client. Tests 1, 2 (other than one row a client), 3, 6 (any record); a refused page leaves every row as it was.
-#[unsafe(no_mangle)]
-pub extern "C" fn nolthewyr_planners_page(
-    clients: &[Client],
-    rows: &mut [Row],
-    settings: Settings,
-) -> u64
+pub fn nolthewyr_planners_page(clients: &[Client], rows: &mut [Row], settings: Settings) -> u64
     ensures { page result rows.new ≡ planners_page settings clients.now rows.old }
 {
     let cause = causes::planners_cause(settings, rows.len(), clients.len());

@@ -35,8 +35,7 @@ fn own_page(own: Client, settings: Settings, held: u64) -> RunPage
 }
 
 // The run's own record and how many clients are in phase 9, and no more. Tests 1, 3, 4, 6.
-#[unsafe(no_mangle)]
-pub extern "C" fn nolthewyr_run_page(clients: &[Client], settings: Settings, client: u64) -> RunPage
+pub fn nolthewyr_run_page(clients: &[Client], settings: Settings, client: u64) -> RunPage
     ensures { result ≡ run_page settings clients.now client }
 {
     let cause = causes::run_cause(settings, clients.len(), client);

@@ -1,4 +1,6 @@
 // The functions of the crates word, tree, cover and lock under names that C can link, each with its own contract, for the comparison with the model.
+#![tactic(auto)]
+
 ghost use Rattle.std.specs.Prelude.{◌≡◌, ◌+◌, ◌^◌, ◌≤◌, ◌<◌, length, get_or};
 ghost use Rattle.word.specs.rules.Word.{Place, field, add_field, occ, tcnt, tmax, dcnt, dmax, add_occ, add_tcnt, add_tmax, add_dcnt, add_dmax, layout, add_fields, return_occ, wanted_bits, masked_swap, take_bits, give_bits};
 ghost use Rattle.tree.specs.rules.Tree.{parent, child, first, last, level, Node, size, left};

@@ -6,58 +6,42 @@ ghost use Rattle.lock.specs.rules.Operations.{access_of, operation_answer, compl
 use lock::{Client, Operation, Settings, Stepped};
 
 // Which operation the run posts now. Tests 1, 5, 6.
-#[unsafe(no_mangle)]
-pub extern "C" fn nolthewyr_operation(client: Client, settings: Settings, clock: u64) -> Operation
+pub fn nolthewyr_operation(client: Client, settings: Settings, clock: u64) -> Operation
     ensures { result ≡ operation_answer settings client clock }
 {
     client.operation(settings, clock)
 }
 
 // The word that an operation leaves where it found one: what a loop of plain compare-and-swaps puts there in place of a masked operation.
-#[unsafe(no_mangle)]
-pub extern "C" fn nolthewyr_applied(operation: Operation, found: u64) -> u64
+pub fn nolthewyr_applied(operation: Operation, found: u64) -> u64
     ensures { result ≡ applied (access_of operation) found }
 {
     operation.applied(found)
 }
 
 // What becomes of the client when the word found comes back. Tests 1, 5, 6, 9.
-#[unsafe(no_mangle)]
-pub extern "C" fn nolthewyr_completed(
-    client: Client,
-    settings: Settings,
-    clock: u64,
-    found: u64,
-) -> Stepped
+pub fn nolthewyr_completed(client: Client, settings: Settings, clock: u64, found: u64) -> Stepped
     ensures { result ≡ completed_answer settings client clock found }
 {
     client.completed(settings, clock, found)
 }
 
 // Tests 1, 6, 7, 8.
-#[unsafe(no_mangle)]
-pub extern "C" fn nolthewyr_own_request(
-    client: Client,
-    settings: Settings,
-    left: u64,
-    right: u64,
-) -> Stepped
+pub fn nolthewyr_own_request(client: Client, settings: Settings, left: u64, right: u64) -> Stepped
     ensures { result ≡ own_request_answer settings client left right }
 {
     client.own_request(settings, left, right)
 }
 
 // Tests 1, 6, 8.
-#[unsafe(no_mangle)]
-pub extern "C" fn nolthewyr_own_release(client: Client, settings: Settings) -> Stepped
+pub fn nolthewyr_own_release(client: Client, settings: Settings) -> Stepped
     ensures { result ≡ own_release_answer settings client }
 {
     client.own_release(settings)
 }
 
 // Tests 1, 6, 8.
-#[unsafe(no_mangle)]
-pub extern "C" fn nolthewyr_own_cancel(client: Client, settings: Settings) -> Stepped
+pub fn nolthewyr_own_cancel(client: Client, settings: Settings) -> Stepped
     ensures { result ≡ own_cancel_answer settings client }
 {
     client.own_cancel(settings)

@@ -1,5 +1,7 @@
-// Runs on other machines, whose words are on a memory server: the calls that such a run makes, by value, one operation at a time or several together. They are compiled apart from the calls over the table, which
-// are fast because the call by value has one caller there.
+// Runs on other machines, whose words are on a memory server: the calls that such a run makes, by value, one operation at a time or several together. C links them
+// from the crate `runs_c`: they are compiled apart from the calls over the table, which are fast because the call by value has one caller there.
+#![tactic(auto)]
+
 use lock::Client;
 
 mod by_value;
@@ -7,6 +9,12 @@ mod counted;
 mod counts;
 mod posted;
 mod together;
+
+pub use by_value::{
+    nolthewyr_applied, nolthewyr_completed, nolthewyr_operation, nolthewyr_own_cancel,
+    nolthewyr_own_release, nolthewyr_own_request,
+};
+pub use together::{nolthewyr_completed_all, nolthewyr_operations_ahead};
 
 // How many operations a run posts together: number 0 and the count of those that were put into the lent list; else the cause of a refusal, and 0.
 #[repr(C)]

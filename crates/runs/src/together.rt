@@ -9,8 +9,7 @@ use crate::{Ahead, CompletedAll};
 use lock::{Client, Operation, Settings};
 
 // What becomes of the client, and how many of its operations counted. Tests 1, 5, 6, and 9 where the first of them is refused by it.
-#[unsafe(no_mangle)]
-pub extern "C" fn nolthewyr_completed_all(
+pub fn nolthewyr_completed_all(
     client: Client,
     settings: Settings,
     clock: u64,
@@ -30,8 +29,7 @@ pub extern "C" fn nolthewyr_completed_all(
 }
 
 // Which operations the run posts together: they are put into the lent list, as many as it has room for. Tests 1, 5, 6.
-#[unsafe(no_mangle)]
-pub extern "C" fn nolthewyr_operations_ahead(
+pub fn nolthewyr_operations_ahead(
     client: Client,
     settings: Settings,
     clock: u64,

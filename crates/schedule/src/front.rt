@@ -4,7 +4,7 @@ ghost use Rattle.std.specs.Prelude.{◌≡◌, ◌≤◌, get_or, take, replicat
 ghost use Rattle.lock.specs.rules.Table as Table;
 ghost use Rattle.lock.specs.rules.Records.{idle_client};
 ghost use Rattle.lock.specs.rules.ByValue.{call_of};
-ghost use Rattle.table.specs.rules.Lent.{lent, result};
+ghost use Rattle.table.specs.rules.Lent.{lent, left_with};
 
 use crate::{Acted, Shelf};
 use lock::{Call, Client, Settings};
@@ -12,7 +12,7 @@ use table::table_act;
 
 // 64 idle clients.
 pub fn empty_shelf() -> Shelf
-    ensures* { λ r. ⌜ r.clients ≡ replicate 64 idle_client ⌝ }
+    ensures { result.clients ≡ replicate 64 idle_client }
 {
     let idle = Client::idle();
     Shelf {
@@ -29,7 +29,7 @@ pub fn act_front(
     call: Call,
 ) -> Acted
     requires { count ≤ 64 }
-    ensures* { λ r. ⌜ result r.number (take count r.shelf.clients) words.new ≡ Table.call settings (lent (take count shelf.clients) words.old) (call_of call.kind call.client call.a call.b) ⌝ }
+    ensures { left_with result.number (take count result.shelf.clients) words.new ≡ Table.call settings (lent (take count shelf.clients) words.old) (call_of call.kind call.client call.a call.b) }
 {
     let mut clients = shelf.clients;
     let number = table_act(&mut clients[..count], words, settings, call, call.kind);
@@ -42,7 +42,7 @@ pub fn act_front(
 // A client after a call; past the table an idle one.
 pub fn client_of(shelf: Shelf, count: usize, client: u64) -> Client
     requires { count ≤ 64 }
-    ensures* { λ c. ⌜ c ≡ get_or (take count shelf.clients) client idle_client ⌝ }
+    ensures { result ≡ get_or (take count shelf.clients) client idle_client }
 {
     if count as u64 <= client {
         return Client::idle();

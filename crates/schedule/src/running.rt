@@ -3,7 +3,7 @@ ghost use Rattle.std.specs.Prelude.{◌≡◌, suc, ◌≤◌, length, take, rep
 ghost use Rattle.tree.specs.rules.Tree.{word_count};
 ghost use Rattle.lock.specs.rules.Table as Table;
 ghost use Rattle.lock.specs.rules.History as History;
-ghost use Rattle.table.specs.rules.Lent.{result};
+ghost use Rattle.table.specs.rules.Lent.{left_with};
 ghost use Rattle.schedule.specs.rules.Format.{settings_in, clients_in, place_of, call_in, calls_in, lent_for};
 ghost use Rattle.schedule.specs.rules.Running.{opening_in, after_calls};
 ghost use Rattle.schedule.specs.rules.Refusal.{refusal};
@@ -17,7 +17,7 @@ use table::opening_cause;
 // As many words as the tree has; a tree of fewer than 2 levels is refused by the opening.
 fn word_count(levels: u64) -> usize
     requires { levels ≤ 6 }
-    ensures* { λ n. ⌜ (n ≡ word_count levels) × (n ≤ 1365) ⌝ }
+    ensures { (result ≡ word_count levels) × (result ≤ 1365) }
 {
     if levels == 0 {
         return 0;
@@ -27,7 +27,7 @@ fn word_count(levels: u64) -> usize
 
 // The words of the highest tree that a schedule may have, all 0.
 fn zero_words() -> [u64; 1365]
-    ensures* { λ r. ⌜ r ≡ replicate 1365 0 ⌝ }
+    ensures { result ≡ replicate 1365 0 }
 {
     [0; 1365]
 }
@@ -36,7 +36,7 @@ fn zero_words() -> [u64; 1365]
 // be found.
 fn opening_number(settings: Settings, clients: usize) -> u64
     requires { settings.levels ≤ 6 }
-    ensures* { λ n. ⌜ n ≡ (Table.opening settings (lent_for settings clients)).number ⌝ }
+    ensures { result ≡ (Table.opening settings (lent_for settings clients)).number }
 {
     let count = word_count(settings.levels);
     opening_cause(settings, count, clients)
@@ -44,7 +44,7 @@ fn opening_number(settings: Settings, clients: usize) -> u64
 
 // The number by which a schedule is refused, 0 if its calls are made. The whole file is examined before its opening.
 pub fn refusal(bytes: &[u8]) -> u64
-    ensures* { λ n. ⌜ n ≡ refusal bytes.now ⌝ }
+    ensures { result ≡ refusal bytes.now }
 {
     let cause = format::file_cause(bytes);
     if cause != 0 {
@@ -57,7 +57,7 @@ pub fn refusal(bytes: &[u8]) -> u64
 
 // The run before the first call: idle clients.
 fn fresh_run(clients: usize) -> Run
-    ensures* { λ r. ⌜ r ≡ fresh_run clients ⌝ }
+    ensures { result ≡ fresh_run clients }
 {
     Run {
         shelf: front::empty_shelf(),
@@ -68,8 +68,8 @@ fn fresh_run(clients: usize) -> Run
 // Makes call k of the file.
 pub fn make_call(bytes: &[u8], k: usize, run: Run, words: &mut [u64], settings: Settings) -> Made
     requires { (place_of bytes.now (suc k) ≤ length bytes.now) × (run.clients ≤ 64) }
-    ensures* made { λ r. ⌜ result r.number (clients_of r.run) words.new ≡ Table.call settings (state_of run words.old) (call_in bytes.now k) ⌝ }
-    ensures* clients { λ r. ⌜ r.run.clients ≡ run.clients ⌝ }
+    ensures made { left_with result.number (clients_of result.run) words.new ≡ Table.call settings (state_of run words.old) (call_in bytes.now k) }
+    ensures clients { result.run.clients ≡ run.clients }
 {
     let call = format::call_in(bytes, k);
     let shelf = run.shelf;
@@ -88,8 +88,8 @@ pub fn make_call(bytes: &[u8], k: usize, run: Run, words: &mut [u64], settings: 
 // Makes all calls of the file.
 fn make_calls(bytes: &[u8], run: Run, words: &mut [u64], settings: Settings) -> Run
     requires { WellFormed bytes.now × (run.clients ≤ 64) }
-    ensures* made { λ r. ⌜ state_of r words.new ≡ History.run settings (state_of run words.old) (calls_in bytes.now) ⌝ }
-    ensures* clients { λ r. ⌜ r.clients ≡ run.clients ⌝ }
+    ensures made { state_of result words.new ≡ History.run settings (state_of run words.old) (calls_in bytes.now) }
+    ensures clients { result.clients ≡ run.clients }
 {
     let count = format::count_in(bytes);
     let mut run = run;
@@ -106,10 +106,10 @@ fn make_calls(bytes: &[u8], run: Run, words: &mut [u64], settings: Settings) -> 
 // The table of a schedule before its first call.
 pub fn begin(bytes: &[u8]) -> Begun
     requires { refusal bytes.now ≡ 0 }
-    ensures* settings { λ b. ⌜ b.settings ≡ settings_in bytes.now ⌝ }
-    ensures* clients { λ b. ⌜ b.run.clients ≡ clients_in bytes.now ⌝ }
-    ensures* table { λ b. ⌜ state_of b.run (take b.count b.words) ≡ (opening_in bytes.now).state ⌝ }
-    ensures* tree { λ b. ⌜ b.count ≤ length b.words ⌝ }
+    ensures settings { result.settings ≡ settings_in bytes.now }
+    ensures clients { result.run.clients ≡ clients_in bytes.now }
+    ensures table { state_of result.run (take result.count result.words) ≡ (opening_in bytes.now).state }
+    ensures tree { result.count ≤ length result.words }
 {
     let settings = format::settings_in(bytes);
     let clients = format::clients_in(bytes);
@@ -124,8 +124,8 @@ pub fn begin(bytes: &[u8]) -> Begun
 // Makes all calls of a schedule that is not refused. The words are let go with it.
 pub fn run_schedule(bytes: &[u8]) -> Run
     requires { refusal bytes.now ≡ 0 }
-    ensures* table { λ r. ⌜ clients_of r ≡ (after_calls bytes.now).clients ⌝ }
-    ensures* clients { λ r. ⌜ r.clients ≡ clients_in bytes.now ⌝ }
+    ensures table { clients_of result ≡ (after_calls bytes.now).clients }
+    ensures clients { result.clients ≡ clients_in bytes.now }
 {
     let begun = begin(bytes);
     let run = begun.run;
