@@ -1,4 +1,6 @@
 // The cover of a window: the one or two nodes that hold all of it with the least over-cover, in a fixed number of steps.
+#![tactic(auto)]
+
 ghost use Rattle.std.specs.Prelude.{◌≡◌, false, not, ◌||◌, ◌<◌, ◌≤◌, eqb, get_or};
 ghost use Rattle.cover.specs.rules.Answer.{window_outside, refused, accepted, answer};
 ghost use Rattle.cover.specs.rules.Search.{least_cover};

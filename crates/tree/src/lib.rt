@@ -1,5 +1,7 @@
 // Node numbers of the quaternary tree: level, parent, child, range of units, and the lists of nodes that a client walks. No function has a
 // loop: a step of k levels is a shift by 2 * k bits. `Node 12 n` says that n is a node of the highest tree.
+#![tactic(auto)]
+
 ghost use Rattle.std.specs.Prelude.{◌≡◌, ◌+◌, ◌-◌, ◌<◌, ◌≤◌, length, get_or};
 ghost use Rattle.tree.specs.rules.Tree.{parent, child, climb, leftmost, first, last, level, Node, size, left};
 ghost use Rattle.tree.specs.rules.Lists.{ancestor, ancestors, notify_list, check_list};

@@ -1,4 +1,6 @@
 // The words of the tree by masks and shifts. What holds of a field holds at any place and width.
+#![tactic(auto)]
+
 ghost use Rattle.std.specs.Prelude.{◌≡◌, ◌+◌, ◌-◌, ◌^◌, ◌≤◌, ◌<◌};
 ghost use Rattle.word.specs.rules.Word.{Place, field, add_field, occ, tcnt, tmax, dcnt, dmax, add_occ, add_tcnt, add_tmax, add_dcnt, add_dmax, layout, add_fields, return_occ, leaf_bits, wanted_bits, masked_swap, take_bits, give_bits};
 

@@ -1,0 +1,9 @@
+-- `cover::one_piece` meets its contract. Assumes nothing.
+use Rattle.cover.specs.laws.Lowest.{lowest}
+use Rattle.cover.specs.laws.Code.{one_is}
+use borrow.Author.Rules.{rules}
+use Rattle.cover.proofs.one_piece.Goals as goal
+
+pub returns : goal.returns
+returns c =
+    one_is c.args.h c.args.l c.args.r c.lowest-p.result c.lowest-p.ensures

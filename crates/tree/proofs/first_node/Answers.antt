@@ -1,0 +1,8 @@
+-- `tree::first_node` meets its contract. Assumes nothing.
+use Rattle.tree.specs.laws.Code.{first_code}
+use borrow.Author.Rules.{rules}
+use Rattle.tree.proofs.first_node.Goals as goal
+
+pub returns : goal.returns
+returns c =
+    first_code c.args.d c.requires.0 c.requires.1

@@ -1,0 +1,9 @@
+-- `word::add_field` meets its contract. Assumes nothing.
+use Prim.Native.Nat.{◌/◌, ◌^◌}
+use borrow.Author.Rules.{rules}
+use Rattle.word.proofs.Masks.{one_shl, one_le_shl, sum_lt, added}
+use Rattle.word.proofs.add_field.Goals as goal
+
+pub returns : goal.returns
+returns c =
+    rw (one_shl c.args.width c.requires.short) (added c.args.shift c.args.width c.args.delta c.args.word c.requires.inside c.ranges.word.fits)

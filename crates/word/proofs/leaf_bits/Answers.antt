@@ -1,0 +1,7 @@
+-- `word::leaf_bits` meets its contract. Assumes nothing.
+use Rattle.word.proofs.Masks.{leaf_made}
+use borrow.Author.Rules.{rules}
+use Rattle.word.proofs.leaf_bits.Goals as goal
+
+pub returns : goal.returns
+returns c = leaf_made c.args.low c.args.high c.requires.0 c.requires.1
