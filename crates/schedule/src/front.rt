@@ -4,7 +4,7 @@ ghost use Rattle.std.specs.Prelude.{◌≡◌, ◌≤◌, get_or, take, replicat
 ghost use Rattle.lock.specs.rules.Table as Table;
 ghost use Rattle.lock.specs.rules.Records.{idle_client};
 ghost use Rattle.lock.specs.rules.ByValue.{call_of};
-ghost use Rattle.table.specs.rules.Lent.{lent, result};
+ghost use Rattle.table.specs.rules.Lent.{lent, left_with};
 
 use crate::{Acted, Shelf};
 use lock::{Call, Client, Settings};
@@ -29,7 +29,7 @@ pub fn act_front(
     call: Call,
 ) -> Acted
     requires { count ≤ 64 }
-    ensures* { λ r. ⌜ result r.number (take count r.shelf.clients) words.new ≡ Table.call settings (lent (take count shelf.clients) words.old) (call_of call.kind call.client call.a call.b) ⌝ }
+    ensures* { λ r. ⌜ left_with r.number (take count r.shelf.clients) words.new ≡ Table.call settings (lent (take count shelf.clients) words.old) (call_of call.kind call.client call.a call.b) ⌝ }
 {
     let mut clients = shelf.clients;
     let number = table_act(&mut clients[..count], words, settings, call, call.kind);

@@ -3,7 +3,7 @@ ghost use Rattle.std.specs.Prelude.{◌≡◌, suc, ◌≤◌, length, take, rep
 ghost use Rattle.tree.specs.rules.Tree.{word_count};
 ghost use Rattle.lock.specs.rules.Table as Table;
 ghost use Rattle.lock.specs.rules.History as History;
-ghost use Rattle.table.specs.rules.Lent.{result};
+ghost use Rattle.table.specs.rules.Lent.{left_with};
 ghost use Rattle.schedule.specs.rules.Format.{settings_in, clients_in, place_of, call_in, calls_in, lent_for};
 ghost use Rattle.schedule.specs.rules.Running.{opening_in, after_calls};
 ghost use Rattle.schedule.specs.rules.Refusal.{refusal};
@@ -68,7 +68,7 @@ fn fresh_run(clients: usize) -> Run
 // Makes call k of the file.
 pub fn make_call(bytes: &[u8], k: usize, run: Run, words: &mut [u64], settings: Settings) -> Made
     requires { (place_of bytes.now (suc k) ≤ length bytes.now) × (run.clients ≤ 64) }
-    ensures* made { λ r. ⌜ result r.number (clients_of r.run) words.new ≡ Table.call settings (state_of run words.old) (call_in bytes.now k) ⌝ }
+    ensures* made { λ r. ⌜ left_with r.number (clients_of r.run) words.new ≡ Table.call settings (state_of run words.old) (call_in bytes.now k) ⌝ }
     ensures* clients { λ r. ⌜ r.run.clients ≡ run.clients ⌝ }
 {
     let call = format::call_in(bytes, k);

@@ -3,7 +3,7 @@
 ghost use Rattle.std.specs.Prelude.{◌≡◌};
 ghost use Rattle.lock.specs.rules.Table as Table;
 ghost use Rattle.lock.specs.rules.ByValue.{call_of};
-ghost use Rattle.table.specs.rules.Lent.{lent, result};
+ghost use Rattle.table.specs.rules.Lent.{lent, left_with};
 
 use lock::{Call, Client, Settings};
 
@@ -22,7 +22,7 @@ pub fn table_act(
     call: Call,
     kind: u64,
 ) -> u64
-    ensures* { λ n. ⌜ result n clients.new words.new ≡ Table.call settings (lent clients.old words.old) (call_of kind call.client call.a call.b) ⌝ }
+    ensures* { λ n. ⌜ left_with n clients.new words.new ≡ Table.call settings (lent clients.old words.old) (call_of kind call.client call.a call.b) ⌝ }
 {
     let cause = causes::table_cause(settings, words.len(), clients.len(), call.client);
     if 0 < cause {
@@ -43,7 +43,7 @@ pub extern "C" fn nolthewyr_request(
     settings: Settings,
     call: Call,
 ) -> u64
-    ensures* { λ n. ⌜ result n clients.new words.new ≡ Table.call settings (lent clients.old words.old) (Table.request call.client call.a call.b) ⌝ }
+    ensures* { λ n. ⌜ left_with n clients.new words.new ≡ Table.call settings (lent clients.old words.old) (Table.request call.client call.a call.b) ⌝ }
 {
     table_act(clients, words, settings, call, 0)
 }
@@ -56,7 +56,7 @@ pub extern "C" fn nolthewyr_step(
     settings: Settings,
     call: Call,
 ) -> u64
-    ensures* { λ n. ⌜ result n clients.new words.new ≡ Table.call settings (lent clients.old words.old) (Table.step call.client call.a) ⌝ }
+    ensures* { λ n. ⌜ left_with n clients.new words.new ≡ Table.call settings (lent clients.old words.old) (Table.step call.client call.a) ⌝ }
 {
     table_act(clients, words, settings, call, 1)
 }
@@ -69,7 +69,7 @@ pub extern "C" fn nolthewyr_release(
     settings: Settings,
     call: Call,
 ) -> u64
-    ensures* { λ n. ⌜ result n clients.new words.new ≡ Table.call settings (lent clients.old words.old) (Table.release call.client) ⌝ }
+    ensures* { λ n. ⌜ left_with n clients.new words.new ≡ Table.call settings (lent clients.old words.old) (Table.release call.client) ⌝ }
 {
     table_act(clients, words, settings, call, 2)
 }
@@ -82,7 +82,7 @@ pub extern "C" fn nolthewyr_cancel(
     settings: Settings,
     call: Call,
 ) -> u64
-    ensures* { λ n. ⌜ result n clients.new words.new ≡ Table.call settings (lent clients.old words.old) (Table.cancel call.client) ⌝ }
+    ensures* { λ n. ⌜ left_with n clients.new words.new ≡ Table.call settings (lent clients.old words.old) (Table.cancel call.client) ⌝ }
 {
     table_act(clients, words, settings, call, 3)
 }
@@ -94,7 +94,7 @@ pub extern "C" fn nolthewyr_open(
     words: &mut [u64],
     settings: Settings,
 ) -> u64
-    ensures* { λ n. ⌜ result n clients.new words.new ≡ Table.opening settings (lent clients.old words.old) ⌝ }
+    ensures* { λ n. ⌜ left_with n clients.new words.new ≡ Table.opening settings (lent clients.old words.old) ⌝ }
 {
     let cause = causes::opening_cause(settings, words.len(), clients.len());
     if 0 < cause {

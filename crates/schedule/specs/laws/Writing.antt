@@ -10,7 +10,7 @@ use Rattle.lock.specs.declared.Client.{Client}
 use Rattle.lock.specs.declared.Record.{Record}
 use Rattle.lock.specs.declared.Settings.{Settings}
 use Rattle.lock.specs.rules.Table.{State, Call, client_of, client_at, record_at, Out, call}
-use Rattle.table.specs.rules.Lent.{result}
+use Rattle.table.specs.rules.Lent.{left_with}
 use Rattle.schedule.specs.declared.Made.{Made}
 use Rattle.schedule.specs.declared.Run.{Run}
 use Rattle.schedule.specs.rules.Format.{settings_in, clients_in, count_in, place_of, call_in, calls_from, calls_in}
@@ -48,7 +48,7 @@ module _ (s : Settings) (bytes : List ℕ) (whole : List ℕ) where
 
   -- call k is made, and its line written
   pub written_more : (st : State) (k : ℕ) (out : List ℕ) (at : ℕ) → Written st k out at → k < count_in bytes → (made : Made) (words new : List ℕ) (end : ℕ)
-      → result made.number (clients_of made.run) words ≡ call s st (call_in bytes k)
+      → left_with made.number (clients_of made.run) words ≡ call s st (call_in bytes k)
       → Appended out at new end (line k (call_in bytes k) made.number (record_in made.run (client_of (call_in bytes k)))) → end ≤ at + 144
       → Written (state_of made.run words) (k + 1) new end
   unfolding lines calls_from client_at

@@ -59,7 +59,7 @@ use Rattle.lock.specs.contracts.Client.idle as idle
 use Rattle.lock.proofs.Client.idle.Symbol as idle-def
 use Rattle.lock.proofs.Client.idle.Symbol.{name as #idle}
 use Rattle.lock.proofs.Client.idle.Met as idle-thm
-use Rattle.table.specs.rules.Lent.{lent, result}
+use Rattle.table.specs.rules.Lent.{lent, left_with}
 use Rattle.table.specs.laws.OpeningLaws.{opening_refuses, opening_takes}
 use Rattle.table.proofs.Filled.{filled, filled_length, filled_none, filled_next, filled_all}
 use Rattle.table.proofs.Rows.{R, RG, word, bytes}
@@ -95,7 +95,7 @@ blanks-length ys = ap length (sym (filled_all idle_client ys)) ∙ filled_length
 
 -- what the contract says of the result and the two last lists
 abbrev Said : List Client → List ℕ → Settings → ℕ → List Client → List ℕ → Type 0
-Said ys ws st n zs vs = result n zs vs ≡ Table.opening st (lent ys ws)
+Said ys ws st n zs vs = left_with n zs vs ≡ Table.opening st (lent ys ws)
 
 refused : (ys : List Client) (ws : List ℕ) (st : Settings) (e : ℕ) → e ≡ Table.openingNumber st (length ws) (length ys) → T (ltb 0 e) → Said ys ws st e ys ws
 refused ys ws st e ge h = opening_refuses st ys ws e ge (some_found e h)

@@ -63,7 +63,7 @@ use Rattle.lock.specs.contracts.Client.act as callee
 use Rattle.lock.proofs.Client.act.Symbol as callee-def
 use Rattle.lock.proofs.Client.act.Symbol.{name as #callee}
 use Rattle.lock.proofs.Client.act.Met as callee-thm
-use Rattle.table.specs.rules.Lent.{lent, result}
+use Rattle.table.specs.rules.Lent.{lent, left_with}
 use Rattle.table.specs.laws.Causes.{table_cause}
 use Rattle.table.specs.laws.CauseLaws.{client_below}
 use Rattle.table.specs.laws.CallLaws.{Same, table_refuses, table_takes}
@@ -140,7 +140,7 @@ module _ {M : Type 1} {𝓤 : Ura M} (𝓛 : Logic 𝓤) (mem : Memory → SProp
   unfolding Table.clientAt
   taken e r vs ge h g g' =
       let t = table_takes st ys ws its i (client_of_kind kind i ca.a ca.b) (sym ge ∙ none_found e h) in
-      (λ j. result (g j).number (set ys i (g j).next) (g' j)) ∙ t
+      (λ j. left_with (g j).number (set ys i (g j).next) (g' j)) ∙ t
 
   -- the machine values of the two slices
   abbrev s : Val

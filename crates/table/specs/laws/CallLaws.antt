@@ -12,7 +12,7 @@ use Rattle.lock.specs.rules.Records.{idle_client}
 use Rattle.lock.specs.rules.Calls.{first_cause, tree_tests, client_tests, answered, request_number, request_answer, release_answer, cancel_answer, step_number, step_answer, step_words}
 use Rattle.lock.specs.rules.Table.{State, Call, request, step, release, cancel, client_of, client_at, Out, own_tests, number_of, after, call}
 use Rattle.lock.specs.rules.ByValue.{answer_to, words_after}
-use Rattle.table.specs.rules.Lent.{lent, result}
+use Rattle.table.specs.rules.Lent.{lent, left_with}
 use Rattle.table.specs.laws.Causes.{table_cause}
 use Rattle.table.specs.laws.CauseLaws.{first_hits, first_passes, both_none}
 
@@ -24,7 +24,7 @@ set_same {A} (x ∷ l) (suc i) d = ap (λ (k : List A). x ∷ k) (set_same l i d
 
 -- a number, clients and words are what a call leaves
 abbrev pub Same : Out → ℕ → List Client → List ℕ → Type 0
-Same out n clients words = result n clients words ≡ out
+Same out n clients words = left_with n clients words ≡ out
 
 module _ (s : Settings) (clients : List Client) (words : List ℕ) where
   abbrev st : State
@@ -64,8 +64,8 @@ module _ (s : Settings) (clients : List Client) (words : List ℕ) where
       → let by_value : Stepped = choose b (record { number = 0; next = next }) (record { number = n; next = client_at st c }) in
       Same (record { number = n; state = choose b (record { words = others; clients = set clients c next }) st }) by_value.number (set clients c by_value.next) (choose b others words)
   unfolding choose client_at
-  put_back_by c n next others true z = λ i. result (sym (z tt) i) (set clients c next) others
-  put_back_by c n next others false z = λ i. result n (set_same clients c idle_client i) words
+  put_back_by c n next others true z = λ i. left_with (sym (z tt) i) (set clients c next) others
+  put_back_by c n next others false z = λ i. left_with n (set_same clients c idle_client i) words
 
   -- an answer by value with the number n, put back into the table
   put_back : (c n : ℕ) (next : Client) (others : List ℕ)
@@ -89,7 +89,7 @@ module _ (s : Settings) (clients : List Client) (words : List ℕ) where
       Same (record { number = n; state = choose (eqb n 0) (record { words = words; clients = set clients c next }) st }) by_value.number (set clients c by_value.next) words
   no_word c n next =
       let by_value = answered n (client_at st c) next in
-      (λ i. result by_value.number (set clients c by_value.next) (sym (choose_same (eqb n 0) words) i)) ∙ put_back c n next words
+      (λ i. left_with by_value.number (set clients c by_value.next) (sym (choose_same (eqb n 0) words) i)) ∙ put_back c n next words
 
   by_value : (k : Call) → Taken k (out_of k (first_cause (tree_tests s (length words) ++ own_tests s st k)))
   unfolding own_tests after client_of answer_to words_after request_number request_answer release_answer cancel_answer step_number step_answer step_words

@@ -7,7 +7,7 @@ use Rattle.lock.specs.declared.Client.{Client}
 use Rattle.lock.specs.declared.Settings.{Settings}
 use Rattle.lock.specs.rules.Records.{idle_client}
 use Rattle.lock.specs.rules.Table.{State, opening_number, opened, opening}
-use Rattle.table.specs.rules.Lent.{lent, result}
+use Rattle.table.specs.rules.Lent.{lent, left_with}
 
 module _ (s : Settings) (clients : List Client) (words : List ℕ) where
   abbrev st : State
@@ -25,13 +25,13 @@ module _ (s : Settings) (clients : List Client) (words : List ℕ) where
   unfolding opening opened
   state_opened z = sym (choose_eq number 0 _ st z)
 
-  pub opening_refuses : (n : ℕ) → n ≡ number → (n ≡ 0 → ⊥) → result n clients words ≡ opening s st
+  pub opening_refuses : (n : ℕ) → n ≡ number → (n ≡ 0 → ⊥) → left_with n clients words ≡ opening s st
   unfolding opening
   opening_refuses n e d =
       let kept = state_refused (λ z. d (e ∙ z)) in
       λ i. record { number = e i; state = kept i }
 
-  pub opening_takes : (n : ℕ) → n ≡ number → n ≡ 0 → result n (replicate (length clients) idle_client) (replicate (length words) 0) ≡ opening s st
+  pub opening_takes : (n : ℕ) → n ≡ number → n ≡ 0 → left_with n (replicate (length clients) idle_client) (replicate (length words) 0) ≡ opening s st
   unfolding opening
   opening_takes n e z =
       let made = state_opened (sym e ∙ z) in

@@ -9,5 +9,5 @@ abbrev pub lent : List Client → List ℕ → State
 lent clients words = record { words = words; clients = clients }
 
 -- what comes back of a call: its number, and the clients and words that were lent
-abbrev pub result : ℕ → List Client → List ℕ → Out
-result number clients words = record { number = number; state = lent clients words }
+abbrev pub left_with : ℕ → List Client → List ℕ → Out
+left_with number clients words = record { number = number; state = lent clients words }

@@ -55,7 +55,7 @@ use Rattle.lock.proofs.Settings.TheLaws as G'
 use Rattle.lock.specs.contracts.Call as K
 use Rattle.lock.proofs.Call.TheLaws as K'
 use Rattle.lock.specs.rules.ByValue.{call_of}
-use Rattle.table.specs.rules.Lent.{lent, result}
+use Rattle.table.specs.rules.Lent.{lent, left_with}
 use Rattle.table.proofs.Rows.{R, RG, ResultKind, word}
 use Rattle.table.proofs.Walk.{shows_that}
 use Rattle.table.specs.contracts.table_act as callee
@@ -151,13 +151,13 @@ module _ {M : Type 1} {𝓤 : Ura M} (𝓛 : Logic 𝓤) (mem : Memory → SProp
 
   -- the clients `ys` are the first of the shelf at exit
   exits : (n : ℕ) (ys : List Client) (vs : List ℕ) → Is RS d (mach ∷ []) → Is RO (acted n (ys ++ drop-list m xs)) (O'.lowered (acted n (ys ++ drop-list m xs)) ∷ [])
-      → length ys ≡ m → length vs ≡ length ws → result n ys vs ≡ made_of
+      → length ys ≡ m → length vs ≡ length ws → left_with n ys vs ≡ made_of
       → ent 𝓤 (⋆ 𝓛 ((‵ (flft κ q) ⊛ ‵ ftrue) ∷ ‵ (finally u64 u.name vs) ∷ [])) (Post (O'.lowered (acted n (ys ++ drop-list m xs))))
   exits n ys vs g is k l e =
       let first : take m (ys ++ drop-list m xs) ≡ ys = take_at ys (drop-list m xs) m k in
       qed 𝓛 ((‵ (flft κ q) ⊛ ‵ ftrue) ∷ ‵ (finally u64 u.name vs) ∷ []) ∵
       suffices ! _ (ends_at 𝓛 this.ended stayed (this.clauses 𝓛 mem run) (((κ, tt), (q, tt), tt, a, vals), tt) (O'.lowered (acted n (ys ++ drop-list m xs))) (acted n (ys ++ drop-list m xs)) (tt, (tt, (vs, (tt, (tt, tt))))) (tt, (tt, (l, (tt, (tt, tt)))))) $
-      shows_that ! (fact_i 𝓤 _ (emp 𝓤) (ap (λ (zs : List Client). result n zs vs) first ∙ e)) $ frame ! $
+      shows_that ! (fact_i 𝓤 _ (emp 𝓤) (ap (λ (zs : List Client). left_with n zs vs) first ∙ e)) $ frame ! $
       nothing ! $ owned ! ResultKind (Is ResultKind) ((LL.makes K.the_type K'.the_plain) 𝓛) ca _ gc $ fjoin ! $ owned ! RG (Is RG) ((LL.makes G.the_type G'.the_plain) 𝓛) st _ gs $ fjoin ! $
       move ! (1 ∷ 0 ∷ []) $ fjoin ! $ owned ! usize (Is usize) (uint_Makes 𝓛 w64) m _ (refl, m-fits) $ fjoin ! $
       owned ! RS (Is RS) ((LL.makes S.the_type S'.the_plain) 𝓛) d _ g $ fjoin ! $ frame ! $
@@ -196,8 +196,8 @@ module _ {M : Type 1} {𝓤 : Ura M} (𝓛 : Logic 𝓤) (mem : Memory → SProp
         calls_at ! fm (Callee 𝓛 mem run) known (to l₆ α γ) (and_then ! (load ! (from ! (stop !)) (look ! 11 refl)) (and_then ! (load ! (from ! (stop !)) (look ! 7 refl)) (and_then ! (load ! (from ! (stop !)) (look ! 20 refl)) (and_then ! (load ! (from ! (stop !)) (look ! 18 refl)) (and_then ! (load ! (from ! (fld ! refl (stop !))) (look_in ! 18 (sub ! 0 refl (whole !)))) (no_more !)))))) (λ w.
         use1 𝓛 (later (some (λ (n : ℕ). ((‵ (flft (α ∷ []) full_share) ⊛ (‵ (flft κ q) ⊛ ‵ ftrue)) ⊛ ‵ (u64.own_val n (w ∷ []))) ⊛ raw (ensured 𝓛 callee.ended (callee.clauses 𝓛 mem run) (α ∷ [], (κ, tt)) (passed l₆ γ) tt n)))) (id⊢ 𝓤 _) $
         await ! tt $ pick ! (λ n. split ! $ move ! (1 ∷ []) $
-        use1 𝓛 (some (λ (vs : List Client × (List ℕ × (Unit {0} × (Unit {0} × (Unit {0} × Unit {0}))))). ‵ (lasts callee.ended (α ∷ [], (κ, tt)) (passed l₆ γ) vs) ⊛ raw (fact 𝓤 (result n vs.0 vs.1.0 ≡ made_of)))) (id⊢ 𝓤 _) $
-        pick ! (λ vs. let zs = vs.0 ++ drop-list m xs in split ! $ move ! (1 ∷ []) $ heard ! (result n vs.0 vs.1.0 ≡ made_of) (λ h.
+        use1 𝓛 (some (λ (vs : List Client × (List ℕ × (Unit {0} × (Unit {0} × (Unit {0} × Unit {0}))))). ‵ (lasts callee.ended (α ∷ [], (κ, tt)) (passed l₆ γ) vs) ⊛ raw (fact 𝓤 (left_with n vs.0 vs.1.0 ≡ made_of)))) (id⊢ 𝓤 _) $
+        pick ! (λ vs. let zs = vs.0 ++ drop-list m xs in split ! $ move ! (1 ∷ []) $ heard ! (left_with n vs.0 vs.1.0 ≡ made_of) (λ h.
         fsplit ! $ fsplit ! $ move ! (1 ∷ []) $ feq_l ! (λ k. move ! (1 ∷ []) $ fsplit ! $ fsplit ! $ move ! (1 ∷ []) $ feq_l ! (λ l. move ! (1 ∷ []) $ drop ! $
         move ! (2 ∷ []) $ split ! $ split ! $
         -- [its token; the token; the result; words' last list; the array's; the lender's part; the elements that stayed; _13; …]: the lifetime is ended, and the array taken back
