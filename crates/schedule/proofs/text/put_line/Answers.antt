@@ -1,0 +1,24 @@
+-- `schedule::text::put_line` meets its contract. Assumes nothing.
+use native.Mathlib.Omega.{arith}
+use Rattle.lock.specs.laws.ByKind.{client_of_kind}
+use Rattle.schedule.specs.laws.Appended.{joined, restated}
+use Rattle.schedule.specs.laws.Writing.{line_of_lem}
+use borrow.Author.Rules.{rules}
+use Rattle.schedule.proofs.text.put_line.Goals as goal
+
+-- UNKNOWN slice-aggregate-put-bytes
+-- slice-aggregate-put-bytes c = search rules
+
+-- UNKNOWN same-length
+-- same_length c = search rules
+
+pub returns : goal.returns
+returns c =
+    let a = c.args in
+    let x = a.call in
+    let k = c.put_decimal-a.ensures in
+    let space = c.put_bytes-b.ensures in
+    let kind = c.put_kind-c.ensures in
+    let client = c.put_spaced-d.ensures in
+    let rest = c.put_after.ensures in
+    record { piece = restated (line_of_lem _ _ _ _ a.after (client_of_kind x.kind x.client x.a x.b)) (joined k.0 (joined space (joined kind.0 (joined client.0 rest.0)))); short = omega (arith, k.1, space.ends, kind.1, client.1, rest.1) }
