@@ -10,7 +10,7 @@ ghost use Rattle.cover.specs.laws.Code.{lowest_piece, one, pair, cut_unit, not_c
 
 // number 0: the pieces (second 0 for none) and their total over-cover; else the cause of a refusal, and zeros.
 #[repr(C)]
-#[derive(Drop)]
+#[derive(Clone, Copy)]
 pub struct Answer {
     pub number: u64,
     pub first: u64,
@@ -19,14 +19,14 @@ pub struct Answer {
 }
 
 // A node and its over-cover.
-#[derive(Drop)]
+#[derive(Clone, Copy)]
 pub struct Piece {
     pub node: u64,
     pub over: u64,
 }
 
 // The numbers of a window's pieces, second 0 for none.
-#[derive(Drop)]
+#[derive(Clone, Copy)]
 pub struct Numbers {
     pub first: u64,
     pub second: u64,

@@ -1,8 +1,10 @@
 // The lock: what each call does to one client's record and to the lent tree.
+#![tactic(auto)]
+
 
 // "H, m and wait T .. travel beside it", and the patience P: the settings of a tree.
 #[repr(C)]
-#[derive(Drop)]
+#[derive(Clone, Copy)]
 pub struct Settings {
     pub levels: u64,
     pub distance: u64,
@@ -14,7 +16,7 @@ pub struct Settings {
 // piece (0 or 1, the last begun), the piece being given back, the current piece's grip, ticket, place in the list it walks, notices that the
 // current piece gave, and the noted times; the last of them is the clock at which the first piece was taken.
 #[repr(C)]
-#[derive(Drop)]
+#[derive(Clone, Copy)]
 pub struct Record {
     pub phase: u64,
     pub outcome: u64,
@@ -35,7 +37,7 @@ pub struct Record {
 
 // A client, as the client table has it: its last clock, "kept beside the record", and its record.
 #[repr(C)]
-#[derive(Drop)]
+#[derive(Clone, Copy)]
 pub struct Client {
     pub clock: u64,
     pub record: Record,
@@ -43,7 +45,7 @@ pub struct Client {
 
 // A call as a schedule has it: the kind (0 request, 1 step, 2 release, 3 cancel), the client, the edges a and b of a request or the clock a of a step.
 #[repr(C)]
-#[derive(Drop)]
+#[derive(Clone, Copy)]
 pub struct Call {
     pub kind: u64,
     pub client: u64,
@@ -52,7 +54,7 @@ pub struct Call {
 }
 
 // What a call on a record gives: its number (0 accepted), the clock and the record after it.
-#[derive(Drop)]
+#[derive(Clone, Copy)]
 pub struct Acted {
     pub number: u64,
     pub clock: u64,
@@ -61,14 +63,14 @@ pub struct Acted {
 
 // What a call answers: its number (0 accepted), and the client after it.
 #[repr(C)]
-#[derive(Drop)]
+#[derive(Clone, Copy)]
 pub struct Stepped {
     pub number: u64,
     pub next: Client,
 }
 
 // What a phase's own work makes of the word found at the touched node: 0 or 9, the word that it leaves there, and the next record.
-#[derive(Drop)]
+#[derive(Clone, Copy)]
 pub struct Moved {
     pub number: u64,
     pub word: u64,
@@ -78,7 +80,7 @@ pub struct Moved {
 // What a run posts: number 0, the kind (0 none, 1 read, 2 masked add, 3 masked compare-and-swap) and the node (0 for none); of a swap the mask and the bits that are compared, and the mask and the
 // bits that are set; of an add in `value` the deltas of the six fields, each where its field is. Refused: the cause, and 0.
 #[repr(C)]
-#[derive(Drop)]
+#[derive(Clone, Copy)]
 pub struct Operation {
     pub number: u64,
     pub kind: u64,
@@ -91,7 +93,7 @@ pub struct Operation {
 
 // How many steps a window needs: number 0 and the steps; else the cause of a refusal, and 0.
 #[repr(C)]
-#[derive(Drop)]
+#[derive(Clone, Copy)]
 pub struct StepCount {
     pub number: u64,
     pub steps: u64,

@@ -1,11 +1,19 @@
-// Standard input, read to its end into an array of the program's own: what the programs over a schedule share.
-ghost use Rattle.std.specs.Prelude.{◌≡◌, length};
+// Standard input, read to its end into an array of the program's own, and the line about a read or a write that failed: what the programs over a schedule share.
+#![tactic(auto)]
+
+ghost use Rattle.std.specs.Prelude.{◌≡◌, ◌<◌, IsNone, IsSome, length, take};
+ghost use Rattle.std.specs.Io.KnownBytes.{Consumes, IsAtEnd};
 ghost use Rattle.io.specs.Counts.{IsPrefixLen};
 
-// What came of reading: whether a read failed, and how many bytes were read before.
+use arrayvec::ArrayString;
+use std::fmt::Write;
+use std::io;
+use std::io::Read;
+
+// What came of reading: whether a read failed, and with which error, and how many bytes were read before.
 #[derive(Drop)]
 pub struct Input {
-    pub failed: bool,
+    pub failed: Option<io::Error>,
     pub count: usize,
 }
 
@@ -16,34 +24,62 @@ pub fn file_room() -> [u8; 65537]
     [0; 65537]
 }
 
-// One read of standard input: no bytes and no failure is its end.
-fn read_once(room: &mut [u8]) -> Input
-    ensures { IsPrefixLen result.count room.new }
+// One read: no bytes and no failure is the end of the input.
+fn read_once<R: Read>(reader: &mut R, room: &mut [u8]) -> Input
+    ensures count { IsPrefixLen result.count room.new }
+    ensures bytes { Consumes (R.remaining reader.old) (R.remaining reader.new) (take result.count room.new) }
+    ensures end { IsNone result.failed → result.count ≡ 0 → 0 < length room.old → IsAtEnd (R.remaining reader.new) }
+    ensures failed { IsSome result.failed → result.count ≡ 0 }
 {
-    let got = libc::read(libc::STDIN_FILENO, room);
-    Input {
-        failed: got < 0,
-        count: io::count(got, room),
+    match reader.read(room) {
+        Ok(count) => Input {
+            failed: None,
+            count,
+        },
+        Err(error) => Input {
+            failed: Some(error),
+            count: 0,
+        },
     }
 }
 
-// Reads standard input to its end, or as much as there is room for, or to a read that fails: `io::read_full` does not tell the last from the first.
-pub fn read_input(room: &mut [u8]) -> Input
-    ensures { IsPrefixLen result.count room.new }
+// Reads to the end of the input, or as much as there is room for, or to a read that fails, and tells the last from the first.
+pub fn read_input<R: Read>(reader: &mut R, room: &mut [u8]) -> Input
+    ensures count { IsPrefixLen result.count room.new }
+    ensures bytes { Consumes (R.remaining reader.old) (R.remaining reader.new) (take result.count room.new) }
+    ensures end { IsNone result.failed → result.count < length room.new → IsAtEnd (R.remaining reader.new) }
 {
     let mut count = 0;
     while count < room.len() {
-        let more = read_once(&mut room[count..]);
-        if more.failed | (more.count == 0) {
+        let more = read_once(reader, &mut room[count..]);
+        if more.failed.is_some() || more.count == 0 {
             return Input {
                 failed: more.failed,
-                count: count,
+                count,
             };
         }
-        count = count + more.count;
+        count += more.count;
     }
     Input {
-        failed: false,
-        count: count,
+        failed: None,
+        count,
     }
+}
+
+// An error as `Display` shows it, without the number that stands there behind the system's words.
+fn words_of(shown: &str) -> &str
+    ensures { take (length result.now) shown.now ≡ result.now }
+{
+    match shown.split_once(" (os error ") {
+        Some((words, _)) => words,
+        None => shown,
+    }
+}
+
+// Writes a line to standard error: what failed, a colon and the system's words for the error. If this cannot be written either, there is nobody left to tell.
+pub fn complain(rt: &impl Eprint, what: &str, error: &io::Error) {
+    let mut shown = ArrayString::<256>::new();
+    let _ = write!(shown, "{error}");
+    let words = words_of(&shown);
+    let _ = eprintln!(rt; "{what}: {words}");
 }

@@ -151,7 +151,7 @@ pub fn wanted_bits(edge: u64, l: u64, r: u64) -> u64
 
 // What a masked compare-and-swap answers: whether the compared bits were as expected, and the word that it leaves.
 #[repr(C)]
-#[derive(Drop)]
+#[derive(Clone, Copy)]
 pub struct Swap {
     pub done: bool,
     pub word: u64,

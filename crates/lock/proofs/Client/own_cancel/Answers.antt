@@ -1,0 +1,21 @@
+-- `lock::Client::own_cancel` meets its contract. Assumes nothing.
+use mathlib.Core.Path.{◌∙◌}
+use Rattle.lock.specs.rules.Records.{client_with}
+use Rattle.lock.specs.rules.Calls.{cancelled, cancel_tests}
+use Rattle.lock.specs.rules.Operations.{own_cancel_answer}
+use Rattle.lock.specs.laws.CallLaws.{refused_by}
+use Rattle.lock.specs.laws.OperationLaws.{own_refused, own_answered}
+use borrow.Author.Rules.{rules}
+use Rattle.lock.proofs.Client.own_cancel.Goals as goal
+
+pub returns-then-cause-ne0 : goal.returns-then-cause-ne0
+unfolding own_cancel_answer cancel_tests
+returns-then-cause-ne0 c =
+    let a = c.args in
+    c.refused.ensures ∙ refused_by _ a.self _ _ (own_refused a.settings a.self _ c.cause-cause.ensures _ c.if-cause-ne0.true) c.if-cause-ne0.true
+
+pub returns : goal.returns
+unfolding own_cancel_answer cancel_tests
+returns c =
+    let a = c.args in
+    own_answered a.settings a.self _ c.cause-cause.ensures _ c.if-cause-ne0.false (client_with a.self.clock (cancelled a.self.«record»)) _ (c.stepped.ensures ∙ c.cancel-acted.ensures)

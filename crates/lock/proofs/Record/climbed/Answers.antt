@@ -1,0 +1,19 @@
+-- `lock::Record::climbed` meets its contract. Assumes nothing.
+use mathlib.Core.Path.{sym, ap, ◌∙◌}
+use Rattle.word.specs.rules.Word.{occ}
+use Rattle.lock.specs.rules.Steps.{taken, go_up}
+use Rattle.lock.specs.laws.StepLaws.{noted_parent, climb_set, climb_clear}
+use borrow.Author.Rules.{rules}
+use Rattle.lock.proofs.Record.climbed.Goals as goal
+
+pub returns-then-occ-eq1 : goal.returns-then-occ-eq1
+returns-then-occ-eq1 c =
+    sym (climb_set c.args.self c.args.found c.args.clock (sym c.occ.ensures ∙ c.if-occ-eq1.true))
+
+pub go_up-requires : goal.go_up-requires
+go_up-requires c =
+    noted_parent c.args.self c.requires c.args.clock c.parent_noted.result c.parent_noted.ensures
+
+pub returns : goal.returns
+returns c =
+    c.go_up.ensures ∙ ap go_up c.parent_noted.ensures ∙ sym (climb_clear c.args.self c.args.found c.args.clock (λ e. c.if-occ-eq1.false (c.occ.ensures ∙ e)))

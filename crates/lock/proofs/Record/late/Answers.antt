@@ -1,0 +1,16 @@
+-- `lock::Record::late` meets its contract. Assumes nothing.
+use Prim.Native.Nat.{◌-◌}
+use Rattle.lock.specs.declared.Record.{Record}
+use Rattle.lock.specs.laws.LateLaws.{late_waited, late_by}
+use borrow.Author.Rules.{rules}
+use Rattle.lock.proofs.Record.late.Goals as goal
+
+pub returns-then-settings-elapsed : goal.returns-then-settings-elapsed
+returns-then-settings-elapsed c =
+    let a = c.args in
+    late_waited a.settings a.self a.clock c.if-settings-elapsed.true
+
+pub returns : goal.returns
+returns c =
+    let a = c.args in
+    late_by a.settings a.self a.clock

@@ -1,0 +1,9 @@
+-- `lock::Record::returning_wrong` meets its contract. Assumes nothing.
+use Prim.Native.Nat.{◌-◌}
+use Rattle.lock.specs.laws.PhaseTests.{own_returning}
+use borrow.Author.Rules.{rules}
+use Rattle.lock.proofs.Record.returning_wrong.Goals as goal
+
+pub returns : goal.returns
+returns c =
+    own_returning c.requires.0 c.requires.3 c.requires.2 c.requires.1 c.past_notices.ensures c.lacks_returning.ensures c.grip_of.ensures

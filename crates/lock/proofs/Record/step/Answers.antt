@@ -1,0 +1,68 @@
+-- `lock::Record::step` meets its contract. Assumes nothing.
+use mathlib.Core.Path.{sym, ap, ◌∙◌}
+use Prim.Native.Nat.{ℕ, ◌-◌}
+use native.Mathlib.Omega.{arith}
+use Rattle.lock.specs.rules.Records.{written, client_with}
+use Rattle.lock.specs.laws.PatienceLaws.{own_touched_lem}
+use Rattle.lock.specs.laws.Touched.{touched_counted, readable}
+use Rattle.lock.specs.laws.ByKind.{stepped_of, step_work, step_refused, step_taken, step_sent_back}
+use borrow.Author.Rules.{rules}
+use Rattle.lock.proofs.Record.step.Goals as goal
+
+pub out_of_patience-requires : goal.out_of_patience-requires
+out_of_patience-requires c =
+    let a = c.args in
+    let q = c.requires in
+    let f = readable a.settings a.self a.last q.0 q.2 in
+    omega (arith, f.taken_past, q.3)
+
+pub returns-then-out_of_patience : goal.returns-then-out_of_patience
+returns-then-out_of_patience c =
+    let a = c.args in
+    let both = step_sent_back a.settings (client_with a.last a.self) a.words.now a.clock (sym c.out_of_patience.ensures ∙ c.if-out_of_patience.true) _ c.sent_back.ensures in record { answer = both.0; words = both.1 }
+
+pub own_touched-n-requires : goal.own_touched-n-requires
+own_touched-n-requires c =
+    let a = c.args in
+    let q = c.requires in
+    let f = readable a.settings a.self a.last q.0 q.2 in
+    (q.0, f.sound)
+
+pub word_at-requires : goal.word_at-requires
+word_at-requires c =
+    let a = c.args in
+    let q = c.requires in
+    let f = readable a.settings a.self a.last q.0 q.2 in
+    omega (arith, touched_counted a.settings a.self q.0 f.sound, c.own_touched-n.ensures, q.1)
+
+pub own_moved-m-requires : goal.own_moved-m-requires
+own_moved-m-requires c =
+    let a = c.args in
+    let q = c.requires in
+    let f = readable a.settings a.self a.last q.0 q.2 in
+    (q.0, f.sound, omega (arith, f.t1_past, q.3), omega (arith, f.t0_past, q.3), c.own_touched-n.ensures)
+
+pub returns-then-m-ne0 : goal.returns-then-m-ne0
+returns-then-m-ne0 c =
+    let s = c.args.settings in
+    let own = client_with c.args.last c.args.self in
+    let ws = c.args.words.now in
+    let t = c.args.clock in
+    let p = sym c.out_of_patience.ensures ∙ c.if-out_of_patience.false in
+    let both = step_refused s own ws t _ (step_work s own.«record» ws t p _ _ _ c.own_touched-n.ensures c.word_at.ensures c.own_moved-m.ensures) (stepped_of c.refused.result) c.if-m-ne0.true (ap stepped_of c.refused.ensures) in record { answer = both.0; words = both.1 }
+
+pub put_word-requires : goal.put_word-requires
+put_word-requires c =
+    let a = c.args in
+    let q = c.requires in
+    let f = readable a.settings a.self a.last q.0 q.2 in
+    omega (arith, touched_counted a.settings a.self q.0 f.sound, c.own_touched-n.ensures, q.1)
+
+pub returns : goal.returns
+returns c =
+    let s = c.args.settings in
+    let own = client_with c.args.last c.args.self in
+    let ws = c.args.words.now in
+    let t = c.args.clock in
+    let p = sym c.out_of_patience.ensures ∙ c.if-out_of_patience.false in
+    let both = step_taken s own ws t _ (step_work s own.«record» ws t p _ _ _ c.own_touched-n.ensures c.word_at.ensures c.own_moved-m.ensures) _ c.if-m-ne0.false (c.put_word.ensures ∙ ap (λ (x : ℕ). written ws x c.own_moved-m.result.word) (c.own_touched-n.ensures ∙ sym (own_touched_lem s own.«record» t p))) in record { answer = both.0; words = both.1 }

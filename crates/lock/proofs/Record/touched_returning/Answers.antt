@@ -1,0 +1,42 @@
+-- `lock::Record::touched_returning` meets its contract. Assumes nothing.
+use mathlib.Core.Path.{sym, ap, ◌∙◌, subst}
+use Prim.Native.Nat.{ℕ, ◌-◌, ◌<◌}
+use native.Mathlib.Omega.{arith}
+use lib.ListN.{length, get_or}
+use Rattle.tree.specs.rules.Tree.{Node}
+use Rattle.tree.specs.rules.Lists.{notify_list}
+use Rattle.lock.specs.rules.Records.{pieces}
+use Rattle.lock.specs.rules.Steps.{taken}
+use Rattle.lock.specs.laws.Placed.{pieced, given_notices}
+use Rattle.lock.specs.laws.MoveLaws.{touched_own, touched_notice}
+use Rattle.lock.proofs.Record.touched_returning.Goals as goal
+
+pub returns-then-self-eq0 : goal.returns-then-self-eq0
+returns-then-self-eq0 c =
+    let a = c.args in
+    let q = c.requires in
+    let p = pieced a.settings a.self q.0 q.1 in
+    let g : a.self.giving < length (pieces a.self) = omega (arith, q.1.giving_begun, q.1.exists) in
+    c.given_piece-n.ensures ∙ sym (touched_own a.settings a.self c.if-self-eq0.true)
+
+pub notify_node-requires : goal.notify_node-requires
+notify_node-requires c =
+    let a = c.args in
+    let q = c.requires in
+    let p = pieced a.settings a.self q.0 q.1 in
+    let g : a.self.giving < length (pieces a.self) = omega (arith, q.1.giving_begun, q.1.exists) in
+    let e = sym c.given_piece-n.ensures in
+    let m = a.settings.distance in (
+      q.0.distance_some,
+      q.0.distance_most,
+      subst (λ (n : ℕ). Node 12 n) e (p.nodes a.self.giving g),
+      subst (λ (n : ℕ). a.self.place - 1 < length (notify_list m n)) e (omega (arith, q.1.returning q.2, given_notices a.settings a.self q.1, c.if-self-eq0.false)),
+    )
+
+pub returns : goal.returns
+returns c =
+    let a = c.args in
+    let q = c.requires in
+    let p = pieced a.settings a.self q.0 q.1 in
+    let g : a.self.giving < length (pieces a.self) = omega (arith, q.1.giving_begun, q.1.exists) in
+    c.notify_node.ensures ∙ ap (λ (n : ℕ). get_or (notify_list a.settings.distance n) (a.self.place - 1) 0) c.given_piece-n.ensures ∙ sym (touched_notice a.settings a.self c.if-self-eq0.false)

@@ -1,0 +1,16 @@
+-- `lock::Record::turn_returned` meets its contract. Assumes nothing.
+use mathlib.Core.Path.{sym, ◌∙◌}
+use Rattle.word.specs.rules.Word.{tcnt}
+use Rattle.lock.specs.rules.Steps.{taken}
+use Rattle.tree.specs.rules.Tree.{left}
+use Rattle.lock.specs.laws.ReturnLaws.{turn_mine, turn_not_mine}
+use borrow.Author.Rules.{rules}
+use Rattle.lock.proofs.Record.turn_returned.Goals as goal
+
+pub returns-then-tcnt-self : goal.returns-then-tcnt-self
+returns-then-tcnt-self c =
+    sym (turn_mine c.args.self c.args.found (sym c.tcnt.ensures ∙ c.if-tcnt-self.true))
+
+pub returns : goal.returns
+returns c =
+    sym (turn_not_mine c.args.self c.args.found (λ e. c.if-tcnt-self.false (c.tcnt.ensures ∙ e)))

@@ -1,0 +1,16 @@
+-- `lock::Record::wanted` meets its contract. Assumes nothing.
+use mathlib.Core.Path.{sym, ap, ◌∙◌, subst}
+use Prim.Native.Nat.{ℕ, ◌+◌, ◌^◌, ◌<◌}
+use native.Mathlib.Omega.{arith}
+use Rattle.tree.specs.rules.Tree.{left}
+use Rattle.word.specs.rules.Word.{wanted_bits}
+use Rattle.lock.specs.laws.Placed.{clipped}
+use borrow.Author.Rules.{rules}
+use Rattle.lock.proofs.Record.wanted.Goals as goal
+
+pub wanted_bits-requires : goal.wanted_bits-requires
+wanted_bits-requires c =
+    let a = c.args in
+    let q = c.requires in
+    let k = clipped a.settings.levels a.self.left a.self.right a.n (omega (arith, q.0.levels_some)) q.0.levels_most q.1 q.2 in
+    subst (λ (e : ℕ). (a.self.left < a.self.right) × (a.self.left < e + 64) × (e < a.self.right) × (e + 64 < 2 ^ 64)) (sym c.left_edge.ensures) (k.some, k.starts, k.ends, k.fits)
