@@ -36,7 +36,7 @@ def rate_and_wait():
 
 
 def kept(wait, elapse, rate, true_part, clock_part, delay):
-    """Whether two readings keep what `read-apart-holding` asks of them: with the true time rounded down for the moments, and a clock of this rate rounded down
+    """Whether two readings keep what `read_apart_holding` asks of them: with the true time rounded down for the moments, and a clock of this rate rounded down
     too. The parts of a tick are those that had gone by at the first reading, and the delay is by how much the second was read too late or too early."""
     true = floor(true_part + elapse)
     ticks = floor(clock_part + (elapse + delay) * rate)
