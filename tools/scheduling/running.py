@@ -44,7 +44,7 @@ def command_for(name):
 
 
 def output_of(command, data):
-    """What a program writes for a file. Whatever it says on standard error is a failure: it has no exit status to say it by."""
+    """What a program writes for a file. Whatever it says on standard error is a failure, and so is an exit status other than 0."""
     try:
         ran = subprocess.run(command, input=data, capture_output=True, timeout=SECONDS)
     except (OSError, subprocess.TimeoutExpired) as error:

@@ -83,3 +83,58 @@ pub fn complain(rt: &impl Eprint, what: &str, error: &io::Error) {
     let words = words_of(&shown);
     let _ = eprintln!(rt; "{what}: {words}");
 }
+
+#[cfg(test)]
+mod tests {
+    use super::*;
+    use std::test::Fail;
+
+    // Gives a byte at each read, until it fails.
+    #[derive(Drop)]
+    struct Failing {
+        left: usize,
+    }
+
+    impl Read for Failing {
+        fn read(&mut self, buf: &mut [u8]) -> io::Result<usize> {
+            if self.left == 0 {
+                return Err(io::Error::from_raw_os_error(5));
+            }
+            if buf.is_empty() {
+                return Ok(0);
+            }
+            buf[0] = b'a';
+            self.left -= 1;
+            Ok(1)
+        }
+    }
+
+    #[test]
+    fn reads_to_the_end(rt: HostRuntime) -> Result<(), Fail> {
+        let mut room = [0u8; 8];
+        let input = read_input(&mut b"schedule".as_slice(), &mut room);
+        assert!(rt; input.failed.is_none());
+        assert_eq!(rt; input.count, 8);
+        assert_eq!(rt; room.as_slice(), b"schedule".as_slice());
+        Ok(())
+    }
+
+    #[test]
+    fn tells_a_failure_in_mid_stream(rt: HostRuntime) -> Result<(), Fail> {
+        let mut room = [0u8; 8];
+        let input = read_input(&mut Failing { left: 3 }, &mut room);
+        assert_eq!(rt; input.failed.ok_or("no failure")?.raw_os_error(), Some(5));
+        assert_eq!(rt; input.count, 3);
+        assert_eq!(rt; room.as_slice(), b"aaa\0\0\0\0\0".as_slice());
+        Ok(())
+    }
+
+    #[test]
+    fn gives_the_words_alone(rt: HostRuntime) {
+        assert_eq!(rt; words_of("Is a directory (os error 21)"), "Is a directory");
+        assert_eq!(rt;
+            words_of("failed to write whole buffer"),
+            "failed to write whole buffer"
+        );
+    }
+}

@@ -1,4 +1,6 @@
 // A schedule: the file format that the programs read, the calls in it made one after another, and the log of them.
+#![tactic(auto)]
+
 use lock::{Client, Settings};
 
 mod format;

@@ -1,5 +1,2 @@
 pub mod Filled
-pub mod Forward
 pub mod Mapped
-pub mod Rows
-pub mod Walk

@@ -5,4 +5,4 @@ use Rattle.lock.specs.laws.ByKind.{kind_cancel}
 use Rattle.table.proofs.nolthewyr_cancel.Goals as goal
 
 pub returns : goal.returns
-returns c = c.table_act.ensures ∙ ap (call _ _) (kind_cancel _ _ _ _ (omega arith))
+returns c = c.table_act.ensures ∙ ap (call _ _) (kind_cancel _ _ _ _ (λ e. omega (arith, e)) (λ e. omega (arith, e)) (λ e. omega (arith, e)))
