@@ -71,10 +71,9 @@ all: $(PROGRAMS) $(LIBRARY) $(SHARED) $(SCHEDULE) $(RUN_LIBRARY) $(RUN_SHARED) $
 
 $(BUILT)/texts.o $(SCHEDULE) $(RANGERUN_PARTS) $(RANGESERVER_PARTS): Makefile
 
-# Rattle proves again only what has changed. It leaves what it builds in the crate's out/. `rt run` proves and builds a program and runs it, here on no input, of which
-# it prints nothing.
+# Rattle proves again only what has changed. It leaves what it builds in the crate's out/. `rt run` proves and builds a program and runs it, here on an empty file.
 target/bin/%: $(CRATES)
-	cd crates/$* && rt run < /dev/null
+	cd crates/$* && rt run < /dev/null > /dev/null
 	install -D crates/$*/out/$* $@
 
 # A library is no archive: that of NAME is built from the crate NAME_c. The crate `probe` is an archive itself.
