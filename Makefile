@@ -4,7 +4,7 @@
 #     make install PREFIX=/somewhere [DESTDIR=/root]  installs it; PREFIX is /usr/local if not said
 #     make uninstall PREFIX=/somewhere                removes what install put there
 #     make check                                      installs into a temporary folder and tests what is there
-#     make clean                                      removes target/, and with it what Rattle has proved
+#     make clean                                      removes target/, and in crates/ what Rattle has proved
 #
 # docs/LINKING.md says what is installed. Runs over a network need libfabric, which pkg-config is asked for; FABRIC= leaves it out.
 
@@ -35,7 +35,7 @@ LIBRARY = $(BUILT)/libnolthewyr.a
 SHARED = $(BUILT)/libnolthewyr.so
 SCHEDULE = $(BUILT)/schedule
 PROGRAMS = target/bin/rangelog target/bin/rangepages
-# The proved parts of the library: each archive has the exported functions of its crate.
+# The proved parts of the library: each archive has the functions of its crate, which a crate NAME_c exports.
 PROVED = target/staticlib/libtable.a target/staticlib/libruns.a target/staticlib/libpages.a target/staticlib/libcalendar.a
 MANUALS = $(wildcard man/*.1)
 HEADERS = $(wildcard include/*.h)
@@ -57,27 +57,33 @@ RUN_PROGRAMS = $(BUILT)/rangeserver $(BUILT)/rangerun
 # The declarations and `Table`: for each language the file that a program names, and beside it the one that this file has.
 TABLES = $(wildcard include/*.rs) $(wildcard python/*.py)
 
-# Folders too, whose times tell of files that are gone.
-CRATES := crates.txt $(shell find crates)
+# What is proved and compiled. Folders too, whose times tell of files that are gone; but not out/, where Rattle keeps what it has made.
+CRATES := crates.txt $(shell find $(wildcard crates/*/src crates/*/specs crates/*/proofs))
 SCHEDULING = tools/scheduling
 PACKED = packaging/__main__.py $(wildcard $(SCHEDULING)/*.py) $(wildcard model/*.py)
 
 all: $(PROGRAMS) $(LIBRARY) $(SHARED) $(SCHEDULE) $(RUN_LIBRARY) $(RUN_SHARED) $(RUN_PROGRAMS)
 
-# Rattle writes into one target/, so that it is never called twice at once.
+# Rattle takes all processors, and waits where another of its runs works in the same crates, so that it is never called twice at once.
 .NOTPARALLEL:
 .DELETE_ON_ERROR:
 .PHONY: all install uninstall check clean always
 
 $(BUILT)/texts.o $(SCHEDULE) $(RANGERUN_PARTS) $(RANGESERVER_PARTS): Makefile
 
-# Rattle proves again only what has changed. Where nothing has, it leaves the program as it is, and its time is set here.
+# Rattle proves again only what has changed. It leaves what it builds in the crate's out/. `rt run` proves and builds a program and runs it, here on an empty file.
 target/bin/%: $(CRATES)
-	rt check $*
-	touch $@
+	cd crates/$* && rt run < /dev/null > /dev/null
+	install -D crates/$*/out/$* $@
 
+# A library is no archive: that of NAME is built from the crate NAME_c. The crate `probe` is an archive itself.
 target/staticlib/lib%.a: $(CRATES)
-	rt staticlib $*
+	cd crates/$*_c && rt lib
+	install -D -m 644 crates/$*_c/out/lib$*_c.a $@
+
+target/staticlib/libprobe.a: $(CRATES)
+	cd crates/probe && rt lib
+	install -D -m 644 crates/probe/out/libprobe.a $@
 
 $(BUILT)/texts.o: library/texts.c $(HEADERS)
 	mkdir -p $(BUILT)
@@ -157,4 +163,4 @@ check: all
 	tests/installed
 
 clean:
-	rm -rf target
+	rm -rf target crates/*/out

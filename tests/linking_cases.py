@@ -11,6 +11,7 @@ from library import ROOT, made
 NAMES["declared struct"] = ("language", "struct"), ("fields", "fields unlike")
 NAMES["declared functions"] = ("place",), ("functions", "functions unlike")
 NAMES["declared types"] = ("language", "function"), ("parameters and result", "unlike")
+NAMES["contracts stated again"] = ("crate",), ("functions", "functions unlike")
 NAMES["compiled without a warning"] = ("place in the list of compilers",), ("exit status",)
 NAMES["version"] = ("place",), ("that of the header",)
 
@@ -31,7 +32,7 @@ STRUCTS = {
     "operation_answer": ("lock", "Operation"), "client_answer": ("lock", "Stepped"), "ahead_answer": ("runs", "Ahead"),
     "completed_all_answer": ("runs", "CompletedAll"),
 }
-# The crates whose exported functions are linked.
+# The crates that are linked. Each is a library, and the crate of its name with _c exports its calls.
 LINKED = "table", "runs", "pages", "calendar"
 
 # What the length of each lent slice is called, what C's types are in Rust, and what the structs that a function answers, or takes as another
@@ -134,7 +135,7 @@ def functions_in(text, pattern, parameters_of, result_of):
 
 def exported_by_source():
     """The functions that are linked, each with its parameters in order and its result."""
-    sources = (path for crate in LINKED for path in (ROOT / "crates" / crate / "src").glob("*.rt"))
+    sources = (path for crate in LINKED for path in (ROOT / "crates" / f"{crate}_c" / "src").glob("*.rt"))
     proved = r'pub extern "C" fn (?P<name>\w+)\((?P<parameters>[^)]*)\) -> (?P<result>[\w:]+)'
     texts = r"^(?P<result>const char \*)(?P<name>\w+)\((?P<parameters>[^)]*)\)"
     by_proof = functions_in("".join(path.read_text() for path in sources), proved, by_rattle, lambda type_: ANSWERS.get(type_, type_))
@@ -158,6 +159,25 @@ def declared_types():
             if found != expected:
                 print(f"    {name} is declared with {found}, and not with {expected}")
             yield case("declared types", [place, number], (len(expected), 0)), (len(found), unlike(expected, found))
+
+
+# A call that is linked, from its name to its body: the parameters, the result and the clauses.
+CALL = re.compile(r'^pub (?:extern "C" )?fn (nolthewyr_\w+)(\(.*?)\n\{', re.MULTILINE | re.DOTALL)
+
+
+def calls_of(crate):
+    """The calls of a crate that are linked, each with its parameters, its result and its clauses, however they are laid out."""
+    sources = sorted((ROOT / "crates" / crate / "src").glob("*.rt"))
+    found = (call for path in sources for call in CALL.findall(path.read_text()))
+    return {name: " ".join(contract.split()).replace("( ", "(").replace(", )", ")") for name, contract in found}
+
+
+def stated_again():
+    """Each call of a library is exported under its own name, with its parameters, its result and all of its clauses."""
+    for place, crate in enumerate(LINKED):
+        own, exported_calls = calls_of(crate), calls_of(f"{crate}_c")
+        wrong = [name for name in own.keys() | exported_calls.keys() if own.get(name) != exported_calls.get(name)]
+        yield case("contracts stated again", [place], (len(own), 0)), (len(exported_calls), len(wrong))
 
 
 def exported(path, *options):
@@ -213,6 +233,7 @@ SUITES = {
     "linking, the declared structs are those of the source": declared_structs,
     "linking, the declared functions are those that are exported": declared_functions,
     "linking, the declared functions have the source's parameters and results": declared_types,
+    "linking, the exported calls have the contracts of the libraries' own": stated_again,
     "linking, the declarations compile without a warning": compiled,
     "linking, one version everywhere": versions,
 }

@@ -40,7 +40,7 @@ def command_for(name):
             return [str(place)]
     if found := shutil.which(name):
         return [found]
-    raise Failed(f"{name} could not be run: it is not built; `rt check {name}` proves and builds it, and `make` does too")
+    raise Failed(f"{name} could not be run: it is not built; `make target/bin/{name}` proves and builds it, and `make` does too")
 
 
 def output_of(command, data):
