@@ -1,6 +1,5 @@
 -- `pages::counts::any_unreadable` meets its contract: one client more is asked in a turn. Assumes nothing.
 use Rattle.std.proofs.Common.{◌≡◌, refl, ap, ◌∙◌, Bool, ◌||◌, take, arith}
-use Rattle.lock.specs.rules.Records.{idle_client}
 use Rattle.pages.specs.rules.Pages.{any_unreadable}
 use Rattle.pages.specs.laws.CountLaws.{unreadable_one, any_next}
 use Rattle.pages.proofs.counts.any_unreadable.Goals as goal
@@ -10,7 +9,6 @@ unfolding any_unreadable
 loop-client-init c = (refl, omega arith)
 
 pub loop-client-preserved : goal.loop-client-preserved
-unfolding idle_client
 loop-client-preserved c =
     let s = c.args.settings in
     let l = c.args.clients.now in

@@ -1,7 +1,6 @@
 -- `pages::run::nolthewyr_run_page` meets its contract. Assumes nothing.
 use Rattle.std.proofs.Common.{◌≡◌, ◌≤◌, ◌<◌, ℕ, List, length, sym, ap, ◌∙◌, arith, rules}
 use Rattle.lock.specs.declared.Settings.{Settings}
-use Rattle.lock.specs.rules.Records.{idle_client}
 use Rattle.pages.specs.laws.Causes.{run_cause}
 use Rattle.pages.specs.laws.CauseLaws.{run_tested}
 use Rattle.pages.specs.laws.RunLaws.{own_page, run_refuses, run_takes}
@@ -25,7 +24,6 @@ pub own_page-requires : goal.own_page-requires
 own_page-requires c = (run_tested _ _ _ (none _ _ _ _ c.run_cause-cause.ensures c.if-cause-gt0.false)).0
 
 pub returns : goal.returns
-unfolding idle_client
 returns c =
     let z = none _ _ _ _ c.run_cause-cause.ensures c.if-cause-gt0.false in
     c.own_page.ensures ∙ ap (own_page c.args.settings _) c.held_count-held.ensures ∙ run_takes c.args.settings c.args.clients.now c.args.client z
