@@ -6,13 +6,10 @@ use Rattle.schedule.specs.laws.Writing.{line_in}
 use borrow.Author.Rules.{rules}
 use Rattle.schedule.proofs.logging.put_made.Goals as goal
 
--- UNKNOWN same-length
--- same_length c = search rules
-
 pub returns : goal.returns
 returns c =
     let a = c.args in
     let x = c.call_in-call.result in
     let read = call_read _ _ x c.call_in-call.ensures in
     let put = c.put_line.ensures in
-    record { piece = restated (line_in _ _ _ _ a.made.run x.client _ read (client_of_kind x.kind x.client x.a x.b) c.client_of-after.ensures) put.0; short = put.1 }
+    record { piece = restated (line_in _ _ _ _ a.made.run x.client _ read (client_of_kind x.kind x.client x.a x.b) c.client_of-after.ensures) put.piece; short = put.short }

@@ -30,4 +30,9 @@ returns c =
     let count = c.word_count.ensures in
     let few = (well_formed _ (file_passes _ c.requires)).clients in
     let zeros = tree_words _ _ c.zero_words.ensures count.1 ∙ ap (λ (n : ℕ). replicate n 0) count.0 in
-    let both = (settings, (ap (λ (r : Run). r.clients) fresh ∙ clients, (begun _ _ _ settings clients (omega (arith, clients, few)) _ fresh _ zeros, omega (arith, ap length c.zero_words.ensures, length-replicate {A = ℕ} 1365 0, count.1)))) in record { settings = both.0; clients = both.1; table = both.2; tree = both.3 }
+    record {
+      settings = settings;
+      clients = ap (λ (r : Run). r.clients) fresh ∙ clients;
+      table = begun _ _ _ settings clients (omega (arith, clients, few)) _ fresh _ zeros;
+      tree = omega (arith, ap length c.zero_words.ensures, length-replicate {A = ℕ} 1365 0, count.1);
+    }

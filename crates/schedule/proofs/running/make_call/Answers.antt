@@ -4,9 +4,6 @@ use Rattle.schedule.specs.laws.RunLaws.{call_made}
 use borrow.Author.Rules.{rules}
 use Rattle.schedule.proofs.running.make_call.Goals as goal
 
--- UNKNOWN same-length
--- same_length c = search rules
-
 pub returns : goal.returns
 returns c =
     record { made = c.act_front-acted.ensures ∙ call_made _ _ _ _ _ c.call_in-call.ensures; clients = refl }

@@ -6,12 +6,6 @@ use Rattle.schedule.specs.laws.Writing.{line_of_lem}
 use borrow.Author.Rules.{rules}
 use Rattle.schedule.proofs.text.put_line.Goals as goal
 
--- UNKNOWN slice-aggregate-put-bytes
--- slice-aggregate-put-bytes c = search rules
-
--- UNKNOWN same-length
--- same_length c = search rules
-
 pub returns : goal.returns
 returns c =
     let a = c.args in
@@ -21,4 +15,4 @@ returns c =
     let kind = c.put_kind-c.ensures in
     let client = c.put_spaced-d.ensures in
     let rest = c.put_after.ensures in
-    record { piece = restated (line_of_lem _ _ _ _ a.after (client_of_kind x.kind x.client x.a x.b)) (joined k.0 (joined space (joined kind.0 (joined client.0 rest.0)))); short = omega (arith, k.1, space.ends, kind.1, client.1, rest.1) }
+    record { piece = restated (line_of_lem _ _ _ _ a.after (client_of_kind x.kind x.client x.a x.b)) (joined k.piece (joined space (joined kind.piece (joined client.piece rest.piece)))); short = omega (arith, k.short, space.ends, kind.short, client.short, rest.short) }
