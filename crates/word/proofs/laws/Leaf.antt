@@ -8,8 +8,8 @@ use Rattle.std.proofs.Math.Pow.{pow_pos, high_ones}
 use Rattle.std.proofs.lemmas.Nat.{shl-shr}
 use Rattle.base.specs.laws.ChoiceLaws.{by_lt}
 use Rattle.word.specs.rules.Word.{bit, leaf_bits, wanted_bits, PartBits}
-use Rattle.word.specs.laws.Fields.{below}
-use Rattle.word.specs.laws.Bits.{bit_same, bit_zero, bit_high, bit_ones, bit_shr, bits_ext}
+use Rattle.word.proofs.laws.Fields.{below}
+use Rattle.word.proofs.laws.Bits.{bit_same, bit_zero, bit_high, bit_ones, bit_shr, bits_ext}
 
 -- ---- the bits low up to high, high not among them; none where high is not above low
 

@@ -2,8 +2,8 @@
 use Rattle.std.specs.Prelude.{◌≡◌, [], ◌∷◌, ◌⊎◌, ℕ, ◌+◌, ◌/◌, ◌%◌, ◌^◌, ◌≤◌}
 use Rattle.std.proofs.Common.{sym, ap, ◌∙◌, inl, inr, div-one, add-zero, mod-eq_of_lt, lit≤}
 use Rattle.word.specs.rules.Word.{field, exp, occ, tcnt, tmax, dcnt, dmax, add_occ, add_tcnt, add_tmax, add_dcnt, add_dmax, layout, add_fields, deltas, return_occ}
-use Rattle.word.specs.laws.Fields.{field_add, field_add_other, add_above, field_lt, same_from}
-use Rattle.word.specs.laws.AddFields.{field_add_fields, add_fields_above, add_in_field}
+use Rattle.word.proofs.laws.Fields.{field_add, field_add_other, add_above, field_lt, same_from}
+use Rattle.word.proofs.laws.AddFields.{field_add_fields, add_fields_above, add_in_field}
 
 -- an inner word is its six fields, and what stands above them
 pub inner_ext : (w v : ℕ) → w / 2 ^ 64 ≡ v / 2 ^ 64

@@ -10,7 +10,7 @@ use Rattle.std.proofs.Math.Pow.{ones_sub-lt}
 use Rattle.base.specs.rules.Choice.{choose}
 use Rattle.base.specs.laws.ChoiceLaws.{on_choose}
 use Rattle.word.specs.rules.Word.{bit, matches, replaced, masked_swap, take_bits, give_bits}
-use Rattle.word.specs.laws.Bits.{bit_lt, bit_cases, bit_zero, bits_ext, and_bit, or_bit, not_bit}
+use Rattle.word.proofs.laws.Bits.{bit_lt, bit_cases, bit_zero, bits_ext, and_bit, or_bit, not_bit}
 
 and_mask_lt : (x mask : ℕ) → mask < 2 ^ 64 → bit_and x mask < 2 ^ 64
 and_mask_lt x mask h = lt_of_le_of_lt (and_le_r x mask) h
