@@ -6,8 +6,8 @@ use Prim.Native.Nat.{ℕ, suc, ◌+◌, ◌-◌, ◌*◌, ◌^◌, ◌≤◌, �
 use native.Mathlib.Omega.{arith}
 use Rattle.base.specs.laws.ChoiceLaws.{by_lt}
 use Rattle.tree.specs.rules.Tree.{climb, leftmost, first, level, Node, units, size, left, right, Holds, leaf, holder, Above}
-use Rattle.tree.specs.laws.Climb.{pow4, left_mono, left_shift, left_first, first_pos, first_width, climb_add, climb_from, climb_to}
-use Rattle.tree.specs.laws.Level.{first_one, level_root, level_pos, level_is, level_range, climb_level}
+use Rattle.tree.proofs.laws.Climb.{pow4, left_mono, left_shift, left_first, first_pos, first_width, climb_add, climb_from, climb_to}
+use Rattle.tree.proofs.laws.Level.{first_one, level_root, level_pos, level_is, level_range, climb_level}
 
 -- ---- a node's place among the leaves
 

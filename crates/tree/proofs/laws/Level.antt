@@ -4,7 +4,7 @@ use Rattle.std.proofs.Common.{ap, ◌∙◌, arith, ltb→lt, nltb→le}
 use Rattle.base.specs.rules.Choice.{choose}
 use Rattle.base.specs.laws.ChoiceLaws.{on_choose, by_lt}
 use Rattle.tree.specs.rules.Tree.{parent, climb, leftmost, first, level_within, level, Node, word_count}
-use Rattle.tree.specs.laws.Climb.{pow4, first_next, first_pos, first_mono, first_closed, climb_some}
+use Rattle.tree.proofs.laws.Climb.{pow4, first_next, first_pos, first_mono, first_closed, climb_some}
 
 -- two bounds on the steps that are both enough give the same level
 level_within_lem : (f g n : ℕ) → n ≤ f → n ≤ g → level_within f n ≡ level_within g n

@@ -12,11 +12,12 @@ use Rattle.base.specs.laws.Every.{every, every_at}
 use Rattle.base.specs.laws.ChoiceLaws.{choose_le, choose_gt, by_lt}
 use Rattle.tree.specs.rules.Tree.{climb, leftmost, first, last, level, Node, size, left}
 use Rattle.tree.specs.rules.Lists.{ancestor, ancestors, notify_list, check_list}
-use Rattle.tree.specs.laws.Ancestors.{ancestors_count, ancestors_place}
-use Rattle.tree.specs.laws.Level.{level_pos, level_range}
-use Rattle.tree.specs.laws.Closed.{four, first_is, left_is, climb_is, level_is_log, node_small, left_small}
-use Rattle.tree.specs.laws.Notify.{notify_count, notify_level, Bounded, notify_count_lem, notify_place, notify_some, notify_higher}
-use Rattle.tree.specs.laws.Check.{check_count, check_node, check_count_lem, check_place_lem, check_is, check_level}
+use Rattle.tree.proofs.laws.Ancestors.{ancestors_count, ancestors_place}
+use Rattle.tree.proofs.laws.Level.{level_pos, level_range}
+use Rattle.tree.proofs.laws.Closed.{four, first_is, left_is, climb_is, level_is_log, node_small, left_small}
+use Rattle.tree.specs.laws.Notify.{notify_level}
+use Rattle.tree.proofs.laws.Notify.{notify_count, Bounded, notify_count_lem, notify_place, notify_some, notify_higher}
+use Rattle.tree.proofs.laws.Check.{check_count, check_node, check_count_lem, check_place_lem, check_is, check_level}
 
 pub four_small : (k : ℕ) → k ≤ 12 → 4 ^ k ≤ 16777216
 four_small k b = pow-le-pow_right {n = 4} (omega arith) {i = k} {j = 12} b

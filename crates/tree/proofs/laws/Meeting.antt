@@ -5,10 +5,11 @@ use Rattle.base.specs.rules.Choice.{choose}
 use Rattle.base.specs.laws.Every.{both, both_l, both_r, every, every_at}
 use Rattle.tree.specs.rules.Tree.{climb, level, Node, Above}
 use Rattle.tree.specs.rules.Lists.{ancestor}
-use Rattle.tree.specs.laws.Climb.{climb_add}
-use Rattle.tree.specs.laws.Level.{level_pos}
-use Rattle.tree.specs.laws.Notify.{notify_count, notify_level, notify_node, Bounded, notify_node_lem, notify_higher}
-use Rattle.tree.specs.laws.Check.{Checked}
+use Rattle.tree.proofs.laws.Climb.{climb_add}
+use Rattle.tree.proofs.laws.Level.{level_pos}
+use Rattle.tree.specs.laws.Notify.{notify_level}
+use Rattle.tree.proofs.laws.Notify.{notify_count, notify_node, Bounded, notify_node_lem, notify_higher}
+use Rattle.tree.proofs.laws.Check.{Checked}
 
 -- the first place from i on with a level below e, in f steps at most
 place_below : ℕ → ℕ → ℕ → ℕ → ℕ → ℕ

@@ -8,8 +8,8 @@ use Rattle.std.proofs.Math.ListN.{get_or-append}
 use Rattle.base.specs.laws.ChoiceLaws.{by_lt}
 use Rattle.tree.specs.rules.Tree.{climb, leftmost, first, level}
 use Rattle.tree.specs.rules.Lists.{ancestor, row, descendants, nearest, check_list}
-use Rattle.tree.specs.laws.Climb.{left_pos, first_pos, first_width, first_mono, climb_from, climb_to}
-use Rattle.tree.specs.laws.Level.{first_one, level_pos, level_is, level_range, level_mono, level_below}
+use Rattle.tree.proofs.laws.Climb.{left_pos, first_pos, first_width, first_mono, climb_from, climb_to}
+use Rattle.tree.proofs.laws.Level.{first_one, level_pos, level_is, level_range, level_mono, level_below}
 
 -- the list by count and place: the nodes below a stand in the order of the nodes 1, 2, 3, .. below the root
 unfoldable pub check_count : ℕ → ℕ → ℕ → ℕ

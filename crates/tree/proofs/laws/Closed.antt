@@ -4,8 +4,8 @@ use Rattle.std.proofs.Common.{sym, ap, ◌∙◌, subst, arith, mod-lt, div-add-
 use Rattle.std.proofs.Math.Nat.{div-eq_of_lt, mul-add-div_right}
 use Rattle.base.specs.laws.ChoiceLaws.{by_lt}
 use Rattle.tree.specs.rules.Tree.{climb, leftmost, first, level, Node, left, leaf, holder}
-use Rattle.tree.specs.laws.Climb.{pow4, left_shift, left_mono, left_first, first_pos, first_closed, first_mono, climb_to}
-use Rattle.tree.specs.laws.Level.{level_pos, level_range}
+use Rattle.tree.proofs.laws.Climb.{pow4, left_shift, left_mono, left_first, first_pos, first_closed, first_mono, climb_to}
+use Rattle.tree.proofs.laws.Level.{level_pos, level_range}
 
 -- a shift by 2 * k bits is a step of k levels
 pub four : (k : ℕ) → 2 ^ (2 * k) ≡ 4 ^ k

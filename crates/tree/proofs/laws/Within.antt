@@ -6,9 +6,9 @@ use Prim.Native.Nat.{ℕ, zero, suc, ◌+◌, ◌-◌, ◌*◌, ◌^◌, ◌≤�
 use native.Mathlib.Omega.{arith}
 use Rattle.base.specs.laws.ChoiceLaws.{by_lt}
 use Rattle.tree.specs.rules.Tree.{parent, child, climb, leftmost, first, level, Node, units, size, left, right, Holds, holder, Above}
-use Rattle.tree.specs.laws.Climb.{left_pos, left_mono, left_shift, left_child}
-use Rattle.tree.specs.laws.Level.{level_pos, level_root, level_up}
-use Rattle.tree.specs.laws.Range.{leaves_from, right_in, holds_holder, holder_own, holder_climb}
+use Rattle.tree.proofs.laws.Climb.{left_pos, left_mono, left_shift, left_child}
+use Rattle.tree.proofs.laws.Level.{level_pos, level_root, level_up}
+use Rattle.tree.proofs.laws.Range.{leaves_from, right_in, holds_holder, holder_own, holder_climb}
 
 -- the range of p is within that of q, at most a quarter of it
 pub record Within (h p q : ℕ) : Type 0 where
