@@ -1,7 +1,8 @@
 -- `cover::not_cover` meets its contract. Assumes nothing.
 use mathlib.Core.Path.{◌∙◌, sym, ap}
 use native.Mathlib.Omega.{arith}
-use Rattle.cover.specs.laws.Code.{window_inside, not_cover}
+use Rattle.cover.specs.laws.Code.{not_cover}
+use Rattle.cover.proofs.laws.Code.{window_inside}
 use Rattle.cover.specs.rules.Search.{least_cover}
 use borrow.Author.Rules.{rules}
 use Rattle.cover.proofs.not_cover.Goals as goal

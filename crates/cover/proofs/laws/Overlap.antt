@@ -1,7 +1,7 @@
 -- Laws: two windows with a common unit have pieces that are equal, or of which one is above the other. Assumes nothing.
 use Rattle.std.specs.Prelude.{◌≡◌, ◌⊎◌, List, ℕ, ◌≤◌, ◌<◌}
 use Rattle.tree.specs.rules.Tree.{units, Above}
-use Rattle.tree.specs.laws.Range.{nested}
+use Rattle.tree.proofs.laws.Range.{nested}
 use Rattle.cover.specs.rules.Cover.{Holder, Covers}
 
 -- two pieces, one of each list, that stand for unit u

@@ -7,7 +7,7 @@ use mathlib.Core.List.{List, [], ◌∷◌}
 use native.Mathlib.Omega.{arith}
 use Rattle.base.specs.laws.ChoiceLaws.{by_lt}
 use Rattle.tree.specs.rules.Tree.{left, right, Node, Holds}
-use Rattle.tree.specs.laws.Range.{size_pos}
+use Rattle.tree.proofs.laws.Range.{size_pos}
 use Rattle.cover.specs.rules.Cover.{In, Holder, Rising, Covers}
 
 module _ (h l r : ℕ) where

@@ -4,8 +4,8 @@ use Rattle.std.proofs.Math.Nat.{pow-le-pow_right}
 use Rattle.std.proofs.Common.{arith}
 use Rattle.base.specs.laws.ChoiceLaws.{on_choose, choose_eq, choose_ne}
 use Rattle.tree.specs.rules.Tree.{level, left, right, size, units, Node}
-use Rattle.tree.specs.laws.Range.{size_pos}
-use Rattle.tree.specs.laws.Within.{Within}
+use Rattle.tree.proofs.laws.Range.{size_pos}
+use Rattle.tree.proofs.laws.Within.{Within}
 use Rattle.cover.specs.rules.Cover.{part, over}
 
 pub over_le : (h l r n : ℕ) → over h l r n ≤ size h n - part h l r n

@@ -11,12 +11,12 @@ use Rattle.std.proofs.Math.Dec.{eqb→eq, nleb→lt}
 use Rattle.base.specs.rules.Choice.{choose}
 use Rattle.base.specs.laws.ChoiceLaws.{on_choose, choose_le, choose_gt, choose_eq, by_lt}
 use Rattle.tree.specs.rules.Tree.{holder, level, left, right, units}
-use Rattle.tree.specs.laws.Level.{level_pos}
-use Rattle.tree.specs.laws.Range.{holds_holder, holder_node, holder_own, size_pos, root_node, root_left, root_size}
+use Rattle.tree.proofs.laws.Level.{level_pos}
+use Rattle.tree.proofs.laws.Range.{holds_holder, holder_node, holder_own, size_pos, root_node, root_left, root_size}
 use Rattle.cover.specs.rules.Cover.{total, Before, rank, Least}
-use Rattle.cover.specs.laws.Order.{Upto, upto_trans, before_yes, before_no, before_not, before_trans}
+use Rattle.cover.proofs.laws.Order.{Upto, upto_trans, before_yes, before_no, before_not, before_trans}
 use Rattle.cover.specs.rules.Search.{before, lesser, behind, least_of, rest, search, found, least_cover}
-use Rattle.cover.specs.laws.Chain.{Rest, Chain, covers_chain, chain_covers}
+use Rattle.cover.proofs.laws.Chain.{Rest, Chain, covers_chain, chain_covers}
 
 module _ (h l r : ℕ) where
   abbrev Result : Type 0

@@ -7,14 +7,16 @@ use mathlib.Core.List.{List, [], ◌∷◌}
 use native.Mathlib.Omega.{arith}
 use Rattle.base.specs.laws.ChoiceLaws.{on_choose, choose_eq, choose_ne}
 use Rattle.tree.specs.rules.Tree.{size}
-use Rattle.tree.specs.laws.Range.{size_pos}
+use Rattle.tree.proofs.laws.Range.{size_pos}
 use Rattle.cover.specs.rules.Cover.{over, total, Before, rank}
 use Rattle.cover.specs.rules.Search.{least_cover}
-use Rattle.cover.specs.laws.Chain.{Rest, Chain}
-use Rattle.cover.specs.laws.Least.{least_chain, least_upto}
-use Rattle.cover.specs.laws.Over.{over_le, over_inner, over_grow, part_all, part_ends, part_starts}
-use Rattle.cover.specs.laws.Lowest.{lowest, Has, Window, low_has, low_least}
-use Rattle.cover.specs.laws.Split.{edge_child, cut, split, Shape, Cut, cut_at, Halves, halves}
+use Rattle.cover.proofs.laws.Chain.{Rest, Chain}
+use Rattle.cover.proofs.laws.Least.{least_chain, least_upto}
+use Rattle.cover.proofs.laws.Over.{over_le, over_inner, over_grow, part_all, part_ends, part_starts}
+use Rattle.cover.specs.laws.Lowest.{lowest, Window}
+use Rattle.cover.proofs.laws.Lowest.{Has, low_has, low_least}
+use Rattle.cover.specs.laws.Split.{edge_child, cut}
+use Rattle.cover.proofs.laws.Split.{split, Shape, Cut, cut_at, Halves, halves}
 
 module _ (h l r : ℕ) (w : Window h l r) where
   abbrev n : ℕ
