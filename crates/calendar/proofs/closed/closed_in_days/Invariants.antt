@@ -3,7 +3,8 @@ use mathlib.Core.Path.{◌≡◌, ap, ◌∙◌}
 use Prim.Native.Nat.{◌-◌, ◌≤◌}
 use native.Mathlib.Omega.{arith}
 use borrow.Author.Rules.{rules}
-use Rattle.calendar.specs.laws.Closed.{closed_in_days, no_days, next_day}
+use Rattle.calendar.specs.laws.Closed.{closed_in_days}
+use Rattle.calendar.proofs.laws.Closed.{no_days, next_day}
 use Rattle.calendar.proofs.closed.closed_in_days.Given as goal
 
 abbrev pub invariant-loop-after : goal.invariant-loop-after

@@ -4,7 +4,8 @@ use mathlib.Core.Bool.{false}
 use Prim.Native.Nat.{◌-◌, ◌≤◌}
 use native.Mathlib.Omega.{arith}
 use borrow.Author.Rules.{rules}
-use Rattle.calendar.specs.laws.HoursLaws.{some_pair_wrong, no_pairs, right_pair, wrong_pair}
+use Rattle.calendar.specs.laws.HoursLaws.{some_pair_wrong}
+use Rattle.calendar.proofs.laws.HoursLaws.{no_pairs, right_pair, wrong_pair}
 use Rattle.calendar.proofs.hours.some_pair_wrong.Given as goal
 
 abbrev pub invariant-loop-pair : goal.invariant-loop-pair

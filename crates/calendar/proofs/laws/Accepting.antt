@@ -9,10 +9,10 @@ use Rattle.calendar.specs.declared.Quarter.{Quarter}
 use Rattle.calendar.specs.rules.Calendar.{unit_of, Known, Fits, quarter_of}
 use Rattle.calendar.specs.rules.Hours.{is_open, hours_wrong}
 use Rattle.calendar.specs.rules.Windows.{calendar_wrong, out_of_order, some_closed, window_found, WindowAccepted, Earlier, Between}
-use Rattle.calendar.specs.laws.SomeBelow.{all_fail, none_of}
-use Rattle.calendar.specs.laws.Figures.{from_known}
-use Rattle.calendar.specs.laws.Code.{to_right, to_ordered, window_0}
-use Rattle.calendar.specs.laws.Edges.{lower_earlier, between}
+use Rattle.calendar.proofs.laws.SomeBelow.{all_fail, none_of}
+use Rattle.calendar.proofs.laws.Figures.{from_known}
+use Rattle.calendar.proofs.laws.Code.{to_right, to_ordered, window_0}
+use Rattle.calendar.proofs.laws.Edges.{lower_earlier, between}
 
 module _ (c : Calendar) (hours : List ℕ) (first last : Quarter)
     (f : Fits c) (h : hours_wrong c.wards hours ≡ false) (p : Known c first) (q : Known c last) (one_ward : last.ward ≡ first.ward) (order : Earlier last first → ⊥) where

@@ -7,10 +7,10 @@ use Rattle.calendar.specs.declared.Quarter.{Quarter}
 use Rattle.calendar.specs.rules.Calendar.{unit_of, unit_count, Known, Fits, quarter_of}
 use Rattle.calendar.specs.rules.Back.{quarter_found, quarter_answer}
 use Rattle.calendar.specs.rules.Windows.{WindowAccepted}
-use Rattle.calendar.specs.laws.Figures.{to_inside}
-use Rattle.calendar.specs.laws.Inverse.{unit_inside, quarter_known, there_and_back, back_and_there}
-use Rattle.calendar.specs.laws.Code.{quarter_0}
-use Rattle.calendar.specs.laws.Edges.{tests, edges, passed}
+use Rattle.calendar.proofs.laws.Figures.{to_inside}
+use Rattle.calendar.proofs.laws.Inverse.{unit_inside, quarter_known, there_and_back, back_and_there}
+use Rattle.calendar.proofs.laws.Code.{quarter_0}
+use Rattle.calendar.proofs.laws.Edges.{tests, edges, passed}
 
 module _ (c : Calendar) (f : Fits c) where
   -- every quarter there and back
