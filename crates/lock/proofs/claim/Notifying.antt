@@ -90,18 +90,18 @@ module _ (s : Settings) (rs : List Record) (r : Record) (last now : ℕ) (later 
     whole : suc r.place ≡ length (notify_list m n)
     whole = omega (arith, listed)
 
-    -- late, which "gives outcome 2 and 10"
-    late_keeps : Keeps s rs r x w (add_dmax 1 w) (sent_back 2 p) now
+    -- late, which "gives outcome 2 and 10": so with each outcome o that a record on its way back may have
+    late_keeps : (o : ℕ) → o ≢ 0 → o < 4 → Keeps s rs r x w (add_dmax 1 w) (sent_back o p) now
     unfolding pieces piece_at
-    late_keeps =
-        let q = sent_back 2 p in
+    late_keeps o some few =
+        let q = sent_back o p in
         let k = kin r q refl refl refl refl in
         record {
           node = λ _. notified_node.0;
           effect = given q (forward_same s p q (record { pieces_same = refl; left_same = refl; right_same = refl }) refl (onward_unreturned s p ahead)
               (entering_unreturned s q refl (rd.no_giving ahead) refl) refl refl refl);
           fits = fit_readable s q now
-              (readable_returning s q now g (asked_same s r q last now rd k later refl refl refl refl refl (untaken s r q last now rd (omega arith) refl refl)) (any_grip_most s r last rd) (any_grip_leaf s r last rd) refl (λ z. omega arith) (omega arith) (λ z. absurd (omega arith)) (omega arith) (omega (arith, whole))
+              (readable_returning s q now g (asked_same s r q last now rd k later refl refl refl refl refl (untaken s r q last now rd (omega arith) refl refl)) (any_grip_most s r last rd) (any_grip_leaf s r last rd) refl some (omega arith) (λ z. absurd (omega arith)) (omega arith) (omega (arith, whole))
               (λ a. absurd (omega (arith, grip))) rd.active.giving_begun (λ z. first_gripped q (λ y. omega (arith, grip)) (ap (grip_of q) (sym (rd.no_giving ahead)) ∙ z))) (λ a. omega arith);
           time = timely_none s rs nobody r now q (unclaimed_returning q refl);
         }
@@ -142,8 +142,8 @@ module _ (s : Settings) (rs : List Record) (r : Record) (last now : ℕ) (later 
     last_keeps : Keeps s rs r x w (add_dmax 1 w) (all_notified s p now) now
     unfolding all_notified is_leaf pieces piece_at
     last_keeps =
-        on_choose (λ q. Keeps s rs r x w (add_dmax 1 w) q now) (late s p now) (sent_back 2 p) _
-        (λ _. late_keeps)
+        on_choose (λ q. Keeps s rs r x w (add_dmax 1 w) q now) (late s p now) _ _
+        (λ _. late_keeps _ (λ z. omega arith) (omega arith))
         (λ t. let in_time = not_late s p now (test_false (late s p now) t) in
         on_choose (λ q. Keeps s rs r x w (add_dmax 1 w) q now) (is_leaf s n) (taken s p now) (to_phase 7 p)
         (λ y. leaf_keeps in_time (eqb→eq (level n) s.levels y)) (λ y. inner_keeps in_time (neqb→ne (level n) s.levels y)))

@@ -54,6 +54,6 @@ module _ (s : Settings) (r : Record) (now : ℕ) where
   pub claim_on : (w : ℕ) → (r.phase ≡ 5) ⊎ (r.phase ≡ 6) → ClaimOn (moved s r w now).next
   unfolding moved_in
   claim_on w o =
-      on_moved s r w (λ (m : Moved). ClaimOn m.next) now (λ _ b. absurd (omega (arith, b)))
+      on_moved s r w (λ (m : Moved). ClaimOn m.next) now (λ a b. absurd (omega (arith, a, b)))
       (⊎_elim (λ e. subst (λ (p : Phase). ClaimOn (moved_in s r w now p).next) (sym (at_claim r.phase e)) (claimed_on w e))
       (λ e. subst (λ (p : Phase). ClaimOn (moved_in s r w now p).next) (sym (at_notify r.phase e)) (notified_on e)) o)

@@ -5,8 +5,9 @@ use Rattle.std.proofs.Common.{◌∙◌, arith}
 use Rattle.std.proofs.Math.Bool.{true, false, not}
 use mathlib.Core.List.{List, [], ◌∷◌, ◌++◌}
 use borrow.Author.Tests.{eq-eqb, ne_eqb, ltb-false, le-ltb}
+use Rattle.std.proofs.Math.Dec.{T}
 use Rattle.base.specs.rules.Choice.{choose}
-use Rattle.base.specs.laws.ChoiceLaws.{choose_eq, choose_ne}
+use Rattle.base.specs.laws.ChoiceLaws.{choose_no, choose_eq, choose_ne}
 use Rattle.word.specs.rules.Word.{deltas}
 use Rattle.lock.specs.declared.Client.{Client}
 use Rattle.lock.specs.declared.Moved.{Moved}
@@ -78,8 +79,7 @@ module _ (s : Settings) (r : Record) where
 
   -- by patience
   pub patient_access : (t : ℕ) → out_of_patience s r t ≡ false → access s r t ≡ access_in s r (phase_of r.phase)
-  unfolding choose
-  patient_access t e = ap (λ (b : Bool). choose b none (access_in s r (phase_of r.phase))) e
+  patient_access t e = choose_no (out_of_patience s r t) _ _ (subst (λ (b : Bool). T (not b)) (sym e) tt)
 
   pub impatient_access : (t : ℕ) → out_of_patience s r t ≡ true → access s r t ≡ none
   unfolding choose

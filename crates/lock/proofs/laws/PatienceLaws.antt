@@ -4,9 +4,9 @@ use Rattle.std.proofs.Math.Path.{sym, ap}
 use Rattle.std.proofs.Common.{subst, ◌∙◌, arith}
 use Rattle.std.proofs.Math.Bool.{not}
 use borrow.Author.Tests.{leb-true, ltb-true, lt-leb, lt-ltb, le-ltb, eq-eqb, ne_eqb}
-use Rattle.std.proofs.Math.Dec.{eqb, leb, ltb}
+use Rattle.std.proofs.Math.Dec.{T, eqb, leb, ltb}
 use Rattle.base.specs.rules.Choice.{choose}
-use Rattle.base.specs.laws.ChoiceLaws.{on_choose}
+use Rattle.base.specs.laws.ChoiceLaws.{on_choose, choose_no}
 use Rattle.base.specs.laws.TestLaws.{both_true, second_false}
 use Rattle.lock.specs.declared.Record.{Record}
 use Rattle.lock.specs.declared.Settings.{Settings}
@@ -48,8 +48,7 @@ module _ (s : Settings) (r : Record) (t : ℕ) where
 
   module _ (e : out_of_patience s r t ≡ false) where
     pub own_touched_lem : touched s r t ≡ own_touched s r
-    unfolding choose
-    own_touched_lem = ap (λ (b : Bool). choose b 0 (own_touched s r)) e
+    own_touched_lem = choose_no (out_of_patience s r t) _ _ (subst (λ (b : Bool). T (not b)) (sym e) tt)
 
     pub own_moved_lem : (w : ℕ) → moved s r w t ≡ own_moved s r w t
     own_moved_lem w = moved_row s r w t e

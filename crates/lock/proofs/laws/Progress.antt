@@ -110,6 +110,13 @@ module _ (s : Settings) (r : Record) where
   unfolding piece_steps
   inner_all d = choose_ne (level n) s.levels _ _ d ∙ (let c = claim_is in omega arith)
 
+  -- the current piece is a leaf or an inner node
+  pub either : {P : Type 0} → (steps_before s (current_piece r) ≡ 0 → steps_at s r r.current ≡ length (ancestors (current_piece r)) + 1 + length (notify_list s.distance (current_piece r))
+      → level (current_piece r) ≡ s.levels → P)
+      → (steps_before s (current_piece r) ≡ 2 → steps_at s r r.current
+      ≡ 2 + (length (ancestors (current_piece r)) + 1 + length (notify_list s.distance (current_piece r))) + 1 + length (check_list s.levels s.distance (current_piece r)) → P) → P
+  either f g = by_eq (level (current_piece r)) s.levels (λ e. f (leaf_before e) (leaf_all e) e) (λ e. g (inner_before e) (inner_all e))
+
   pub made_at : (p : Phase) → phase_of r.phase ≡ p → made s r ≡ sum_to r.current (steps_at s r) + made_in s r p
   unfolding made
   made_at p e = ap (λ (x : Phase). sum_to r.current (steps_at s r) + made_in s r x) e

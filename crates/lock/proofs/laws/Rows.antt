@@ -1,18 +1,19 @@
 -- The rows of the phase table as the code and the claim meet them: what a step leaves at the touched node, and the next record, in one. That this is the step of the rules, its operation applied and
 -- completed, is `moved_row`. Assumes nothing.
 use Rattle.std.specs.Prelude.{◌≡◌, Bool, ◌||◌, ℕ, eqb}
-use Rattle.std.proofs.Math.Path.{refl, ap}
+use Rattle.std.proofs.Math.Path.{refl, ap, ap₂}
 use Rattle.std.proofs.Common.{sym, ◌∙◌, subst}
-use Rattle.std.proofs.Math.Bool.{true, false}
+use Rattle.std.proofs.Math.Bool.{true, false, not}
+use Rattle.std.proofs.Math.Dec.{T}
 use Rattle.base.specs.rules.Choice.{choose}
-use Rattle.base.specs.laws.ChoiceLaws.{on_choose}
+use Rattle.base.specs.laws.ChoiceLaws.{on_choose, choose_no}
 use Rattle.word.specs.rules.Word.{add_occ, add_tcnt, add_dcnt, matches, replaced, take_bits, give_bits, return_occ, masked_swap, deltas}
 use Rattle.word.proofs.laws.Inner.{one_in_occ, one_in_tcnt, one_in_tmax, one_in_dcnt, one_in_dmax, return_occ_one_add}
 use Rattle.lock.specs.declared.Moved.{Moved}
 use Rattle.lock.specs.declared.Record.{Record}
 use Rattle.lock.specs.declared.Settings.{Settings}
 use Rattle.lock.specs.rules.Records.{Phase, idle, ticket, turn, climb, blocked, claim, notify, wait, check, held, returning, unknown, phase_of, current_piece, given_piece, is_leaf, grip_of}
-use Rattle.lock.specs.rules.Steps.{ticket_taken, bits_claimed, occ_claimed, notice_given, word_returned, turn_returned, wanted, Access, none, read, add, swap, applied, claim_access, own_word_access, return_access, access_in, Completion, goes_to, piece_claimed, bits_returned, grip_returned, given_back, completed_in, out_of_patience, moved, given_up}
+use Rattle.lock.specs.rules.Steps.{ticket_taken, bits_claimed, occ_claimed, notice_given, word_returned, turn_returned, wanted, Access, none, read, add, swap, applied, claim_access, own_word_access, return_access, access_in, Completion, goes_to, piece_claimed, bits_returned, grip_returned, given_back, completed_in, out_of_patience, access, completed, moved, given_up}
 use Rattle.lock.specs.laws.Rows.{leaves, claim_piece, return_bits, return_inner, give_back, moved_in, own_moved}
 
 -- ---- each row is its operation, applied, and its completion
@@ -87,10 +88,11 @@ module _ (s : Settings) (r : Record) (w : ℕ) where
   -- ---- the step of the rules, by its row
 
   pub moved_row : (t : ℕ) → out_of_patience s r t ≡ false → moved s r w t ≡ own_moved s r w t
-  unfolding choose
   moved_row t e =
-      ap (λ (b : Bool). made (choose b none (access_in s r (phase_of r.phase))) w (choose b (goes_to (given_up r)) (completed_in s r w t (phase_of r.phase)))) e
-      ∙ row_made t (phase_of r.phase)
+      let p : T (not (out_of_patience s r t)) = subst (λ (b : Bool). T (not b)) (sym e) tt in
+      let a : access s r t ≡ access_in s r (phase_of r.phase) = choose_no (out_of_patience s r t) _ _ p in
+      let d : completed s r w t ≡ completed_in s r w t (phase_of r.phase) = choose_no (out_of_patience s r t) _ _ p in
+      ap₂ (λ (x : Access) (y : Completion). made x w y) a d ∙ row_made t (phase_of r.phase)
 
   pub moved_impatient : (t : ℕ) → out_of_patience s r t ≡ true → moved s r w t ≡ leaves w (given_up r)
   unfolding choose applied

@@ -14,7 +14,7 @@ use Rattle.lock.specs.declared.Settings.{Settings}
 use Rattle.lock.specs.rules.Records.{Phase, phase_of, pieces, piece_at, current_piece}
 use Rattle.lock.proofs.laws.Phases.{at_held, on_phase}
 use Rattle.lock.specs.laws.PieceSteps.{piece_steps, cover_steps}
-use Rattle.lock.proofs.laws.Progress.{made_in, steps_at, steps_before, made, all_steps, Going, claim_is, leaf_before, inner_before, leaf_all, inner_all, made_at}
+use Rattle.lock.proofs.laws.Progress.{made_in, steps_at, steps_before, made, all_steps, Going, claim_is, either, made_at}
 use Rattle.lock.proofs.laws.Ready.{Ready}
 
 -- the steps of all pieces, as a sum over their list
@@ -34,27 +34,20 @@ module _ (s : Settings) (r : Record) (last : ℕ) (v : Ready s r last) where
       let now : made s r ≡ sum_to r.current (steps_at s r) + steps_at s r r.current = made_at s r _ (at_held r.phase e) in
       omega arith
 
-  -- the current piece is a leaf or an inner node
-  either : {P : Type 0} → (steps_before s (current_piece r) ≡ 0 → steps_at s r r.current ≡ length (ancestors (current_piece r)) + 1 + length (notify_list s.distance (current_piece r))
-      → level (current_piece r) ≡ s.levels → P)
-      → (steps_before s (current_piece r) ≡ 2 → steps_at s r r.current
-      ≡ 2 + (length (ancestors (current_piece r)) + 1 + length (notify_list s.distance (current_piece r))) + 1 + length (check_list s.levels s.distance (current_piece r)) → P) → P
-  either f g = by_eq (level (current_piece r)) s.levels (λ e. f (leaf_before s r e) (leaf_all s r e) e) (λ e. g (inner_before s r e) (inner_all s r e))
-
   -- the current piece has made fewer steps than it needs
   behind : Going r → r.phase ≢ 9 → made_in s r (phase_of r.phase) < steps_at s r r.current
   unfolding made_in
   behind way d =
       on_phase r.phase (λ (p : Phase). made_in s r p < steps_at s r r.current)
       (λ e. absurd (omega (arith, way.some)))
-      (λ e. either (λ a b _. omega arith) (λ a b. omega arith))
-      (λ e. either (λ a b l. absurd (v.inner (inr (inl e)) l)) (λ a b. omega arith))
-      (λ e. let c = v.active.climbing (inl e) in either (λ a b _. omega arith) (λ a b. omega arith))
+      (λ e. either s r (λ a b _. omega arith) (λ a b. omega arith))
+      (λ e. either s r (λ a b l. absurd (v.inner (inr (inl e)) l)) (λ a b. omega arith))
+      (λ e. let c = v.active.climbing (inl e) in either s r (λ a b _. omega arith) (λ a b. omega arith))
       (λ e. absurd (way.unblocked e))
-      (λ e. either (λ a b _. omega arith) (λ a b. omega arith))
-      (λ e. let c = v.active.notifying e in either (λ a b _. omega arith) (λ a b. omega arith))
-      (λ e. let c = claim_is s r in either (λ a b l. absurd (v.inner (inr (inr (inl e))) l)) (λ a b. omega arith))
-      (λ e. let c = claim_is s r in let k = v.active.checking e in either (λ a b l. absurd (v.inner (inr (inr (inr e))) l)) (λ a b. omega arith))
+      (λ e. either s r (λ a b _. omega arith) (λ a b. omega arith))
+      (λ e. let c = v.active.notifying e in either s r (λ a b _. omega arith) (λ a b. omega arith))
+      (λ e. let c = claim_is s r in either s r (λ a b l. absurd (v.inner (inr (inr (inl e))) l)) (λ a b. omega arith))
+      (λ e. let c = claim_is s r in let k = v.active.checking e in either s r (λ a b l. absurd (v.inner (inr (inr (inr e))) l)) (λ a b. omega arith))
       (λ e. absurd (d e))
       (λ e. absurd (omega (arith, way.most)))
       (λ b. absurd (omega (arith, way.most)))
