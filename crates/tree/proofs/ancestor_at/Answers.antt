@@ -1,7 +1,6 @@
 -- `tree::ancestor_at` meets its contract. Assumes nothing.
 use mathlib.Core.Path.{◌∙◌}
 use native.Mathlib.Omega.{arith}
-use Rattle.tree.specs.rules.Tree.{climb}
 use Rattle.tree.proofs.laws.Ancestors.{ancestors_count}
 use Rattle.tree.proofs.laws.Code.{ancestor_at_code}
 use Rattle.tree.proofs.ancestor_at.Goals as goal

@@ -3,7 +3,6 @@ use Prim.Native.Nat.{◌+◌}
 use native.Mathlib.Omega.{arith}
 use Rattle.tree.proofs.laws.Closed.{node_small}
 use Rattle.tree.proofs.laws.Code.{place_node, place_level, check_small, check_code}
-use borrow.Author.Rules.{rules}
 use Rattle.tree.proofs.check_node.Goals as goal
 
 pub overflow_add-i : goal.overflow_add-i

@@ -7,7 +7,6 @@ use Rattle.tree.proofs.laws.Climb.{first_mono}
 use Rattle.tree.proofs.laws.Level.{level_range}
 use Rattle.tree.proofs.laws.Closed.{node_small}
 use Rattle.tree.proofs.laws.Code.{climb_code}
-use borrow.Author.Rules.{rules}
 use Rattle.tree.proofs.climb.Goals as goal
 
 pub overflow_sub-result : goal.overflow_sub-result

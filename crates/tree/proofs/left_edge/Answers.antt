@@ -7,7 +7,6 @@ use Rattle.tree.proofs.laws.Level.{level_pos}
 use Rattle.tree.proofs.laws.Range.{leaves_from}
 use Rattle.tree.proofs.laws.Closed.{left_small}
 use Rattle.tree.proofs.laws.Code.{left_edge_code}
-use borrow.Author.Rules.{rules}
 use Rattle.tree.proofs.left_edge.Goals as goal
 
 pub first_node-requires : goal.first_node-requires

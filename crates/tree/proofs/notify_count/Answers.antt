@@ -2,7 +2,6 @@
 use native.Mathlib.Omega.{arith}
 use Rattle.tree.proofs.laws.Level.{level_pos}
 use Rattle.tree.proofs.laws.Code.{count_code}
-use borrow.Author.Rules.{rules}
 use Rattle.tree.proofs.notify_count.Goals as goal
 
 pub overflow_sub-result : goal.overflow_sub-result

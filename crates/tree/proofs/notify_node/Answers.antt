@@ -3,7 +3,6 @@ use mathlib.Core.Path.{◌∙◌}
 use native.Mathlib.Omega.{arith}
 use Rattle.tree.proofs.laws.Level.{level_pos}
 use Rattle.tree.proofs.laws.Code.{bounded, count_small, steps_code}
-use borrow.Author.Rules.{rules}
 use Rattle.tree.proofs.notify_node.Goals as goal
 
 pub notify_steps-requires : goal.notify_steps-requires
