@@ -6,7 +6,8 @@ must-fail/ of the named crates (with no name: of all in crates.txt) imports from
 crates/C/proofs/laws/X.antt now (or claim/, or examples/), its import becomes one line for the names that are in specs/ and one for those that are
 in proofs/, and so the other way round. It goes by where each name is declared, so it is right for any state of the tree, and to run it
 again changes nothing. Paths of files in comments follow, where the file is in one of the two places only. It prints what it changed, and what it
-could not place; the exit status is 1 if there is any of that.
+could not place; the exit status is 1 if there is any of that. With no name it does the same to the paths that README.md and docs/*.md cite, by the names
+that stand behind a path, where there are some.
 """
 
 import re
@@ -104,6 +105,24 @@ def merged(lines):
     return kept
 
 
+# as tools/counts reads it
+CITED = re.compile(rf"`(?P<top>(?:crates/)?)(?P<crate>\w+)/(?P<part>specs|proofs)/(?P<folder>{FOLDERS})/(?P<name>\w+)\.antt`: (?P<names>`[^`]+`(?:, `[^`]+`)*)")
+
+
+def cited(it):
+    """A citation of names, by where they stand."""
+    module = f"{it['folder']}.{it['name']}"
+    have = {part: file.read_text() if (file := file_of(it["crate"], part, module)).is_file() else "" for part in PARTS}
+    names = it["names"].split(", ")
+    plain = {name: name.strip("`").removesuffix("..") for name in names}
+    # where it is declared, else where it is mentioned
+    homes = {name: [part for part in PARTS if plain[name] in (declared(it["crate"], part, module) or ())] or [part for part in PARTS if plain[name] in have[part]] for name in names}
+    if not all(homes.values()):
+        return it[0]
+    by_part = {part: [name for name in names if (it["part"] if it["part"] in homes[name] else homes[name][0]) == part] for part in PARTS}
+    return "; ".join(f"`{it['top']}{it['crate']}/{part}/{it['folder']}/{it['name']}.antt`: {', '.join(by_part[part])}" for part in PARTS if by_part[part])
+
+
 def path_placed(own, in_edit):
     def place(it):
         crate = (it["crate"] or "").removeprefix("crates/").rstrip("/") or own
@@ -135,6 +154,14 @@ def main():
             text, here = file.read_text(), []
             new = moved(text, crate, file.suffix == ".edit", here)
             wrong += [f"{file.relative_to(ROOT)}: {it}" for it in here]
+            if new != text:
+                file.write_text(new)
+                changed += 1
+                print(f"changed {file.relative_to(ROOT)}")
+    if not sys.argv[1:]:
+        for file in [ROOT / "README.md", *sorted((ROOT / "docs").glob("*.md"))]:
+            text = file.read_text()
+            new = PATH.sub(path_placed("", True), CITED.sub(cited, text))
             if new != text:
                 file.write_text(new)
                 changed += 1
