@@ -87,11 +87,11 @@ def placed(line, wrong):
 
 
 def merged(lines):
-    """Two imports of one module become one."""
+    """Two imports of one module become one, where theorems of it moved."""
     kept, at = [], {}
     for line in lines:
         it = IMPORT.match(line)
-        if not it or not it["rest"].startswith(".{") or it["head"].startswith(("old: ", "new: ")):
+        if not it or not it["rest"].startswith(".{") or it["head"].startswith(("old: ", "new: ")) or not file_of(it["crate"], "proofs", it["module"]).is_file():
             kept.append(line)
             continue
         key = (it["head"], it["crate"], it["part"], it["module"], it["end"])
