@@ -1,10 +1,4 @@
-pub mod Accepting
-pub mod BothWays
 pub mod Closed
-pub mod Code
 pub mod Days
-pub mod Edges
 pub mod Figures
 pub mod HoursLaws
-pub mod Inverse
-pub mod SomeBelow

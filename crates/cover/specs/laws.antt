@@ -1,10 +1,4 @@
-pub mod Chain
 pub mod Code
-pub mod Least
 pub mod Lowest
-pub mod Order
-pub mod Over
-pub mod Overlap
 pub mod Rise
 pub mod Split
-pub mod Two

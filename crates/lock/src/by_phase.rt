@@ -1,5 +1,5 @@
 // What a phase asks of a record beside what every phase asks: one expression a phase, of the tests that the clauses of document 01's paragraph "Unreadable" leave there. That
-// it is that paragraph is shown by a law a phase (specs/laws/PhaseTests.antt). A clause more is one `|` in the expressions that it concerns, and its law.
+// it is that paragraph is shown by a law a phase (proofs/laws/PhaseTests.antt). A clause more is one `|` in the expressions that it concerns, and its law.
 ghost use Rattle.std.specs.Prelude.{◌≡◌, ◌&&◌, ◌≤◌, ltb, length};
 ghost use Rattle.base.specs.rules.Choice.{choose};
 ghost use Rattle.tree.specs.rules.Lists.{notify_list};

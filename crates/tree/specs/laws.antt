@@ -1,10 +1,1 @@
-pub mod Ancestors
-pub mod Check
-pub mod Climb
-pub mod Closed
-pub mod Code
-pub mod Level
-pub mod Meeting
 pub mod Notify
-pub mod Range
-pub mod Within

@@ -12,7 +12,7 @@ use lib.Bits.{bit_and, bit_xor, and_mask, and_block, xor_block, and_zero_r, xor_
 use lib.Dec.{T, eqb, eqb→eq}
 use Rattle.base.specs.laws.Every.{every, every_at}
 use Rattle.word.specs.rules.Word.{add_fields}
-use Rattle.word.specs.laws.AddFields.{sum}
+use Rattle.word.proofs.laws.AddFields.{sum}
 
 -- the top bit of each field, and the bits below it; a field has at least one bit, and j is its width less one
 unfoldable pub tops : List ℕ → ℕ

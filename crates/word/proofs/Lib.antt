@@ -1,2 +1,3 @@
 pub mod FieldsAtOnce
 pub mod Masks
+pub mod laws

@@ -6,7 +6,7 @@ use native.Mathlib.Omega.{arith}
 use lib.Pow.{pow_pos, pow-lt, pow_mono, split, mod-mod-pow, shr_mod, shl_lt, shl_exact, ones_lt, ones_split, high, add-lt-pow}
 use lib.Bits.{bit_and, bit_or, and_mask, mask_lt, and_block, or_block, or_zero_r, or_shifted_r}
 use Rattle.word.specs.rules.Word.{field, put_field, add_field, leaf_bits}
-use Rattle.word.specs.laws.Leaf.{leaf_shl}
+use Rattle.word.proofs.laws.Leaf.{leaf_shl}
 
 -- `1 << k` is 2 ^ k
 pub one_shl : (k : ℕ) → k < 64 → (1 * 2 ^ k) % 2 ^ 64 ≡ 2 ^ k

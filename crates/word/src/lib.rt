@@ -139,7 +139,7 @@ fn saturating_sub(a: u64, b: u64) -> u64
 }
 
 // The wanted bits of the leaf whose first unit is `edge`, for a window [l, r) that meets it. Both edges are clipped to the leaf, and the bits between them picked, without a
-// branch. "Bit b is set exactly when unit b is in the part" (document 02, request 2.5) is `wanted_exactly` in specs/laws/Leaf.antt; of no other word is it so (`wanted_only`).
+// branch. "Bit b is set exactly when unit b is in the part" (document 02, request 2.5) is `wanted_exactly` in proofs/laws/Leaf.antt; of no other word is it so (`wanted_only`).
 pub fn wanted_bits(edge: u64, l: u64, r: u64) -> u64
     requires { (l < r) × (l < edge + 64) × (edge < r) × (edge + 64 < 2 ^ 64) }
     ensures { result ≡ wanted_bits edge l r }

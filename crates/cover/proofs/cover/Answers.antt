@@ -2,8 +2,7 @@
 use mathlib.Core.Path.{◌∙◌, sym}
 use native.Mathlib.Omega.{arith}
 use Rattle.cover.specs.rules.Answer.{levels_outside}
-use Rattle.cover.specs.laws.Code.{levels_refused, window_refused_lem, window_covered, levels_inside, window_inside}
-use borrow.Author.Rules.{rules}
+use Rattle.cover.proofs.laws.Code.{levels_refused, window_refused_lem, window_covered, levels_inside, window_inside}
 use Rattle.cover.proofs.cover.Goals as goal
 
 pub returns-then-h : goal.returns-then-h

@@ -1,10 +1,6 @@
 -- `cover::cut` meets its contract. Assumes nothing.
-use Prim.Native.Nat.{◌+◌, ◌*◌}
 use native.Mathlib.Omega.{arith}
-use lib.Pow.{shr_le}
-use Rattle.cover.specs.laws.Over.{units_small}
-use Rattle.cover.specs.laws.Code.{levels_left, cut_leaf, cut_none, cut_code}
-use borrow.Author.Rules.{rules}
+use Rattle.cover.proofs.laws.Code.{levels_left, cut_leaf, cut_none, cut_code}
 use Rattle.cover.proofs.cut.Goals as goal
 
 pub returns-then-k-eq0 : goal.returns-then-k-eq0

@@ -1,7 +1,6 @@
 -- `cover::lowest` meets its contract. Assumes nothing.
 use native.Mathlib.Omega.{arith}
-use Rattle.cover.specs.laws.Code.{levels_left, leaf_piece, inner_piece, window_le}
-use borrow.Author.Rules.{rules}
+use Rattle.cover.proofs.laws.Code.{levels_left, leaf_piece, inner_piece, window_le}
 use Rattle.cover.proofs.lowest.Goals as goal
 
 pub returns-then-up-eq0 : goal.returns-then-up-eq0

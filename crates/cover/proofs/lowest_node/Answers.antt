@@ -1,8 +1,7 @@
 -- `cover::lowest_node` meets its contract. Assumes nothing.
 use native.Mathlib.Omega.{arith}
-use Rattle.tree.specs.laws.Climb.{first_pos}
-use Rattle.cover.specs.laws.Code.{levels_left, node_code, low_small}
-use borrow.Author.Rules.{rules}
+use Rattle.tree.proofs.laws.Climb.{first_pos}
+use Rattle.cover.proofs.laws.Code.{levels_left, node_code, low_small}
 use Rattle.cover.proofs.lowest_node.Goals as goal
 
 pub overflow_sub-result : goal.overflow_sub-result

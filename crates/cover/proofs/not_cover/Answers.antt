@@ -1,9 +1,7 @@
 -- `cover::not_cover` meets its contract. Assumes nothing.
-use mathlib.Core.Path.{◌∙◌, sym, ap}
+use mathlib.Core.Path.{◌∙◌, sym}
 use native.Mathlib.Omega.{arith}
-use Rattle.cover.specs.laws.Code.{window_inside, not_cover}
-use Rattle.cover.specs.rules.Search.{least_cover}
-use borrow.Author.Rules.{rules}
+use Rattle.cover.proofs.laws.Code.{window_inside}
 use Rattle.cover.proofs.not_cover.Goals as goal
 
 pub other_pieces-requires : goal.other_pieces-requires

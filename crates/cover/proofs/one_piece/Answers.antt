@@ -1,7 +1,5 @@
 -- `cover::one_piece` meets its contract. Assumes nothing.
-use Rattle.cover.specs.laws.Lowest.{lowest}
-use Rattle.cover.specs.laws.Code.{one_is}
-use borrow.Author.Rules.{rules}
+use Rattle.cover.proofs.laws.Code.{one_is}
 use Rattle.cover.proofs.one_piece.Goals as goal
 
 pub returns : goal.returns

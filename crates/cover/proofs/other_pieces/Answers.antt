@@ -1,8 +1,7 @@
 -- `cover::other_pieces` meets its contract. Assumes nothing.
 use mathlib.Core.Path.{refl}
 use native.Mathlib.Omega.{arith}
-use Rattle.cover.specs.laws.Code.{leaf_code, low_small, other_one, other_two, halves_fit, cut_leaf}
-use borrow.Author.Rules.{rules}
+use Rattle.cover.proofs.laws.Code.{leaf_code, low_small, other_one, other_two, halves_fit, cut_leaf}
 use Rattle.cover.proofs.other_pieces.Goals as goal
 
 pub overflow_add-result : goal.overflow_add-result

@@ -1,6 +1,5 @@
 -- `cover::outside` meets its contract. Assumes nothing.
-use Rattle.cover.specs.laws.Code.{window_tested}
-use borrow.Author.Rules.{rules}
+use Rattle.cover.proofs.laws.Code.{window_tested}
 use Rattle.cover.proofs.outside.Goals as goal
 
 pub returns : goal.returns

@@ -3,8 +3,7 @@ use mathlib.Core.Path.{ap, ◌∙◌}
 use mathlib.Core.List.{List}
 use Prim.Native.Nat.{ℕ}
 use lib.ListN.{get_or}
-use Rattle.cover.specs.laws.Code.{one_least, two_least, halves_fit}
-use borrow.Author.Rules.{rules}
+use Rattle.cover.proofs.laws.Code.{one_least, two_least, halves_fit}
 use Rattle.cover.proofs.piece_numbers.Goals as goal
 
 pub returns-then-t-eq0 : goal.returns-then-t-eq0

@@ -1,7 +1,6 @@
 -- `cover::pieces` meets its contract. Assumes nothing.
 use mathlib.Core.Path.{◌∙◌}
-use Rattle.cover.specs.laws.Code.{one_code, pair_code, halves_fit}
-use borrow.Author.Rules.{rules}
+use Rattle.cover.proofs.laws.Code.{one_code, pair_code, halves_fit}
 use Rattle.cover.proofs.pieces.Goals as goal
 
 pub returns-then-t-eq0 : goal.returns-then-t-eq0

@@ -1,7 +1,5 @@
 -- `cover::two_pieces` meets its contract. Assumes nothing.
-use Rattle.cover.specs.laws.Lowest.{lowest}
-use Rattle.cover.specs.laws.Code.{pair_is, sum_small}
-use borrow.Author.Rules.{rules}
+use Rattle.cover.proofs.laws.Code.{pair_is, sum_small}
 use Rattle.cover.proofs.two_pieces.Goals as goal
 
 pub overflow_add-result : goal.overflow_add-result

@@ -1,4 +1,4 @@
--- Laws: what is known of settings within their ranges, and of a readable record that is not idle. Assumes nothing.
+-- What is known of settings within their ranges, and of a readable record that is not idle. Their laws: proofs/laws/ActiveLaws.antt. Assumes nothing.
 use Rattle.std.specs.Prelude.{◌≡◌, ◌≢◌, ◌⊎◌, ℕ, ◌≤◌, ◌<◌, length}
 use Rattle.tree.specs.rules.Lists.{ancestors, notify_list, check_list}
 use Rattle.cover.specs.rules.Cover.{Meets}

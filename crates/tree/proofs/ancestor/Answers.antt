@@ -1,8 +1,6 @@
 -- `tree::ancestor` meets its contract. Assumes nothing.
 use mathlib.Core.Path.{◌∙◌}
-use Rattle.tree.specs.rules.Tree.{climb, level}
-use Rattle.tree.specs.laws.Code.{ancestor_code}
-use borrow.Author.Rules.{rules}
+use Rattle.tree.proofs.laws.Code.{ancestor_code}
 use Rattle.tree.proofs.ancestor.Goals as goal
 
 pub returns : goal.returns

@@ -1,9 +1,8 @@
 -- `tree::ancestor_at` meets its contract. Assumes nothing.
 use mathlib.Core.Path.{◌∙◌}
 use native.Mathlib.Omega.{arith}
-use Rattle.tree.specs.rules.Tree.{climb}
-use Rattle.tree.specs.laws.Ancestors.{ancestors_count}
-use Rattle.tree.specs.laws.Code.{ancestor_at_code}
+use Rattle.tree.proofs.laws.Ancestors.{ancestors_count}
+use Rattle.tree.proofs.laws.Code.{ancestor_at_code}
 use Rattle.tree.proofs.ancestor_at.Goals as goal
 
 pub overflow_add-i : goal.overflow_add-i

@@ -2,10 +2,9 @@
 use mathlib.Core.Path.{ap, ◌∙◌}
 use Prim.Native.Nat.{ℕ, ◌+◌, ◌-◌}
 use native.Mathlib.Omega.{arith}
-use Rattle.tree.specs.rules.Tree.{first, level, left}
-use Rattle.tree.specs.laws.Climb.{first_pos}
-use Rattle.tree.specs.laws.Code.{check_count_m, check_count_h}
-use borrow.Author.Rules.{rules}
+use Rattle.tree.specs.rules.Tree.{first}
+use Rattle.tree.proofs.laws.Climb.{first_pos}
+use Rattle.tree.proofs.laws.Code.{check_count_m, check_count_h}
 use Rattle.tree.proofs.check_count.Goals as goal
 
 pub overflow_sub-result : goal.overflow_sub-result

@@ -1,9 +1,8 @@
 -- `tree::check_node` meets its contract. Assumes nothing.
 use Prim.Native.Nat.{◌+◌}
 use native.Mathlib.Omega.{arith}
-use Rattle.tree.specs.laws.Closed.{node_small}
-use Rattle.tree.specs.laws.Code.{place_node, place_level, check_small, check_code}
-use borrow.Author.Rules.{rules}
+use Rattle.tree.proofs.laws.Closed.{node_small}
+use Rattle.tree.proofs.laws.Code.{place_node, place_level, check_small, check_code}
 use Rattle.tree.proofs.check_node.Goals as goal
 
 pub overflow_add-i : goal.overflow_add-i

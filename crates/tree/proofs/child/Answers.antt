@@ -1,7 +1,6 @@
 -- `tree::child` meets its contract. Assumes nothing.
 use native.Mathlib.Omega.{arith}
-use Rattle.tree.specs.laws.Closed.{node_small}
-use borrow.Author.Rules.{rules}
+use Rattle.tree.proofs.laws.Closed.{node_small}
 use Rattle.tree.proofs.child.Goals as goal
 
 pub overflow_mul-result : goal.overflow_mul-result

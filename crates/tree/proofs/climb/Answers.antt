@@ -3,11 +3,10 @@ use Prim.Native.Nat.{◌+◌, ◌-◌, ◌*◌}
 use native.Mathlib.Omega.{arith}
 use lib.Pow.{shr_le}
 use Rattle.tree.specs.rules.Tree.{level}
-use Rattle.tree.specs.laws.Climb.{first_mono}
-use Rattle.tree.specs.laws.Level.{level_range}
-use Rattle.tree.specs.laws.Closed.{node_small}
-use Rattle.tree.specs.laws.Code.{climb_code}
-use borrow.Author.Rules.{rules}
+use Rattle.tree.proofs.laws.Climb.{first_mono}
+use Rattle.tree.proofs.laws.Level.{level_range}
+use Rattle.tree.proofs.laws.Closed.{node_small}
+use Rattle.tree.proofs.laws.Code.{climb_code}
 use Rattle.tree.proofs.climb.Goals as goal
 
 pub overflow_sub-result : goal.overflow_sub-result

@@ -1,6 +1,5 @@
 -- `tree::first_node` meets its contract. Assumes nothing.
-use Rattle.tree.specs.laws.Code.{first_code}
-use borrow.Author.Rules.{rules}
+use Rattle.tree.proofs.laws.Code.{first_code}
 use Rattle.tree.proofs.first_node.Goals as goal
 
 pub returns : goal.returns

@@ -1,9 +1,8 @@
 -- `tree::last_node` meets its contract. Assumes nothing.
 use Prim.Native.Nat.{◌+◌}
 use native.Mathlib.Omega.{arith}
-use Rattle.tree.specs.laws.Climb.{first_pos}
-use Rattle.tree.specs.laws.Code.{last_code}
-use borrow.Author.Rules.{rules}
+use Rattle.tree.proofs.laws.Climb.{first_pos}
+use Rattle.tree.proofs.laws.Code.{last_code}
 use Rattle.tree.proofs.last_node.Goals as goal
 
 pub overflow_sub-result : goal.overflow_sub-result

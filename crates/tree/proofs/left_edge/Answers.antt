@@ -3,11 +3,10 @@ use mathlib.Core.Path.{◌≡◌, ap, ◌∙◌}
 use Prim.Native.Nat.{ℕ, ◌-◌}
 use native.Mathlib.Omega.{arith}
 use Rattle.tree.specs.rules.Tree.{leftmost, level}
-use Rattle.tree.specs.laws.Level.{level_pos}
-use Rattle.tree.specs.laws.Range.{leaves_from}
-use Rattle.tree.specs.laws.Closed.{left_small}
-use Rattle.tree.specs.laws.Code.{left_edge_code}
-use borrow.Author.Rules.{rules}
+use Rattle.tree.proofs.laws.Level.{level_pos}
+use Rattle.tree.proofs.laws.Range.{leaves_from}
+use Rattle.tree.proofs.laws.Closed.{left_small}
+use Rattle.tree.proofs.laws.Code.{left_edge_code}
 use Rattle.tree.proofs.left_edge.Goals as goal
 
 pub first_node-requires : goal.first_node-requires

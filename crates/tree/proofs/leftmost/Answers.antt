@@ -1,8 +1,7 @@
 -- `tree::leftmost` meets its contract. Assumes nothing.
 use native.Mathlib.Omega.{arith}
-use Rattle.tree.specs.laws.Closed.{left_small}
-use Rattle.tree.specs.laws.Code.{left_code}
-use borrow.Author.Rules.{rules}
+use Rattle.tree.proofs.laws.Closed.{left_small}
+use Rattle.tree.proofs.laws.Code.{left_code}
 use Rattle.tree.proofs.leftmost.Goals as goal
 
 pub overflow_add-result : goal.overflow_add-result

@@ -1,8 +1,7 @@
 -- `tree::level` meets its contract. Assumes nothing.
 use native.Mathlib.Omega.{arith}
-use Rattle.tree.specs.laws.Closed.{node_small}
-use Rattle.tree.specs.laws.Code.{level_code}
-use borrow.Author.Rules.{rules}
+use Rattle.tree.proofs.laws.Closed.{node_small}
+use Rattle.tree.proofs.laws.Code.{level_code}
 use Rattle.tree.proofs.level.Goals as goal
 
 pub overflow_mul-result : goal.overflow_mul-result

@@ -1,8 +1,7 @@
 -- `tree::notify_count` meets its contract. Assumes nothing.
 use native.Mathlib.Omega.{arith}
-use Rattle.tree.specs.laws.Level.{level_pos}
-use Rattle.tree.specs.laws.Code.{count_code}
-use borrow.Author.Rules.{rules}
+use Rattle.tree.proofs.laws.Level.{level_pos}
+use Rattle.tree.proofs.laws.Code.{count_code}
 use Rattle.tree.proofs.notify_count.Goals as goal
 
 pub overflow_sub-result : goal.overflow_sub-result

@@ -1,9 +1,8 @@
 -- `tree::notify_node` meets its contract. Assumes nothing.
 use mathlib.Core.Path.{◌∙◌}
 use native.Mathlib.Omega.{arith}
-use Rattle.tree.specs.laws.Level.{level_pos}
-use Rattle.tree.specs.laws.Code.{bounded, count_small, steps_code}
-use borrow.Author.Rules.{rules}
+use Rattle.tree.proofs.laws.Level.{level_pos}
+use Rattle.tree.proofs.laws.Code.{bounded, count_small, steps_code}
 use Rattle.tree.proofs.notify_node.Goals as goal
 
 pub notify_steps-requires : goal.notify_steps-requires

@@ -1,7 +1,6 @@
 -- `tree::notify_steps` meets its contract. Assumes nothing.
 use native.Mathlib.Omega.{arith}
-use Rattle.tree.specs.laws.Code.{steps_near, steps_far, place_small}
-use borrow.Author.Rules.{rules}
+use Rattle.tree.proofs.laws.Code.{steps_near, steps_far}
 use Rattle.tree.proofs.notify_steps.Goals as goal
 
 pub returns-then-d-m : goal.returns-then-d-m

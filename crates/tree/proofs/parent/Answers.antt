@@ -1,7 +1,6 @@
 -- `tree::parent` meets its contract. Assumes nothing.
 use native.Mathlib.Omega.{arith}
-use Rattle.tree.specs.laws.Closed.{node_small}
-use borrow.Author.Rules.{rules}
+use Rattle.tree.proofs.laws.Closed.{node_small}
 use Rattle.tree.proofs.parent.Goals as goal
 
 pub overflow_add-result : goal.overflow_add-result

@@ -1,7 +1,5 @@
 -- `tree::size` meets its contract. Assumes nothing.
-use Rattle.tree.specs.rules.Tree.{level}
-use Rattle.tree.specs.laws.Code.{size_code}
-use borrow.Author.Rules.{rules}
+use Rattle.tree.proofs.laws.Code.{size_code}
 use Rattle.tree.proofs.size.Goals as goal
 
 pub returns : goal.returns

@@ -1,7 +1,5 @@
 -- `word::add_field` meets its contract. Assumes nothing.
-use Prim.Native.Nat.{◌/◌, ◌^◌}
-use borrow.Author.Rules.{rules}
-use Rattle.word.proofs.Masks.{one_shl, one_le_shl, sum_lt, added}
+use Rattle.word.proofs.Masks.{one_shl, added}
 use Rattle.word.proofs.add_field.Goals as goal
 
 pub returns : goal.returns

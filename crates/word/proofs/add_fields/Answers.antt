@@ -1,7 +1,6 @@
 -- `word::add_fields` meets its contract. Assumes nothing.
 use mathlib.Core.List.{[], ◌∷◌}
-use lib.Dec.{lit<}
-use Rattle.word.proofs.FieldsAtOnce.{low_sum_lt, tops, lows, widths, fields_at_once}
+use Rattle.word.proofs.FieldsAtOnce.{tops, lows, widths, fields_at_once}
 use Rattle.word.proofs.add_fields.Goals as goal
 
 pub returns : goal.returns

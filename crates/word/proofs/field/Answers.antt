@@ -1,8 +1,7 @@
 -- `word::field` meets its contract. Assumes nothing.
-use borrow.Author.Rules.{rules}
 use lib.Bits.{and_mask}
 use Rattle.word.specs.rules.Word.{field}
-use Rattle.word.proofs.Masks.{one_shl, one_le_shl}
+use Rattle.word.proofs.Masks.{one_shl}
 use Rattle.word.proofs.field.Goals as goal
 
 pub returns : goal.returns

@@ -1,5 +1,4 @@
 -- `word::give_bits` meets its contract. Assumes nothing.
-use borrow.Author.Rules.{rules}
 use Rattle.word.specs.rules.Word.{give_bits}
 use Rattle.word.proofs.give_bits.Goals as goal
 

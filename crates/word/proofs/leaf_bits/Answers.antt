@@ -1,6 +1,5 @@
 -- `word::leaf_bits` meets its contract. Assumes nothing.
 use Rattle.word.proofs.Masks.{leaf_made}
-use borrow.Author.Rules.{rules}
 use Rattle.word.proofs.leaf_bits.Goals as goal
 
 pub returns : goal.returns

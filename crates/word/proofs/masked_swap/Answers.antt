@@ -1,7 +1,7 @@
 -- `word::masked_swap` meets its contract. Assumes nothing.
 use borrow.Author.Tests.{eq-eqb, ne_eqb}
 use Rattle.word.specs.rules.Word.{matches, replaced}
-use Rattle.word.specs.laws.Swap.{swap_done, swap_failed}
+use Rattle.word.proofs.laws.Swap.{swap_done, swap_failed}
 use Rattle.word.proofs.masked_swap.Goals as goal
 
 pub returns-then-word-compared : goal.returns-then-word-compared

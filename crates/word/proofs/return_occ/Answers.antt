@@ -1,7 +1,6 @@
 -- `word::return_occ` meets its contract. Assumes nothing.
 use mathlib.Core.Path.{◌∙◌}
-use borrow.Author.Rules.{rules}
-use Rattle.word.specs.laws.Inner.{return_occ_one_add}
+use Rattle.word.proofs.laws.Inner.{return_occ_one_add}
 use Rattle.word.proofs.return_occ.Goals as goal
 
 pub returns : goal.returns

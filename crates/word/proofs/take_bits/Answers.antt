@@ -1,5 +1,4 @@
 -- `word::take_bits` meets its contract. Assumes nothing.
-use borrow.Author.Rules.{rules}
 use Rattle.word.specs.rules.Word.{take_bits}
 use Rattle.word.proofs.take_bits.Goals as goal
 

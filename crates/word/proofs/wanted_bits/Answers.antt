@@ -1,7 +1,6 @@
 -- `word::wanted_bits` meets its contract. Assumes nothing.
 use mathlib.Core.Path.{ap₂, ◌∙◌}
 use native.Mathlib.Omega.{arith}
-use borrow.Author.Rules.{rules}
 use Rattle.word.specs.rules.Word.{leaf_bits, wanted_bits}
 use Rattle.word.proofs.wanted_bits.Goals as goal
 

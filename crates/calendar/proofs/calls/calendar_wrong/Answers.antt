@@ -1,9 +1,8 @@
 -- `calendar::calls::calendar_wrong` meets its contract. Assumes nothing.
 use mathlib.Core.Path.{sym, ap₂, ◌∙◌}
 use mathlib.Core.Bool.{◌||◌}
-use Rattle.calendar.specs.laws.Figures.{to_inside}
-use Rattle.calendar.specs.laws.Code.{wrong_figures, wrong_hours, wrong_ends}
-use borrow.Author.Rules.{rules}
+use Rattle.calendar.proofs.laws.Figures.{to_inside}
+use Rattle.calendar.proofs.laws.Code.{wrong_figures, wrong_hours, wrong_ends}
 use Rattle.calendar.proofs.calls.calendar_wrong.Goals as goal
 
 pub returns-then-figures_outside : goal.returns-then-figures_outside

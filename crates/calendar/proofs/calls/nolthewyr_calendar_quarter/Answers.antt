@@ -2,12 +2,10 @@
 use mathlib.Core.Path.{sym, ◌∙◌}
 use native.Mathlib.Omega.{arith}
 use Rattle.cover.specs.rules.Answer.{levels_outside}
-use Rattle.cover.specs.laws.Code.{levels_inside}
 use Rattle.calendar.specs.rules.Calendar.{unit_count}
 use Rattle.calendar.specs.rules.Back.{quarter_found}
-use Rattle.calendar.specs.laws.Figures.{to_inside}
-use Rattle.calendar.specs.laws.Code.{quarter_1, quarter_12, quarter_past, quarter_0}
-use borrow.Author.Rules.{rules}
+use Rattle.calendar.proofs.laws.Figures.{to_inside}
+use Rattle.calendar.proofs.laws.Code.{quarter_1, quarter_12, quarter_past, quarter_0}
 use borrow.Author.Tests.{le-leb, lt-leb}
 use Rattle.calendar.proofs.calls.nolthewyr_calendar_quarter.Goals as goal
 

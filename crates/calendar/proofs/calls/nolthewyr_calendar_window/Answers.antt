@@ -1,9 +1,7 @@
 -- `calendar::calls::nolthewyr_calendar_window` meets its contract. Assumes nothing.
 use mathlib.Core.Path.{sym, ◌∙◌}
 use Rattle.cover.specs.rules.Answer.{levels_outside}
-use Rattle.cover.specs.laws.Code.{levels_inside}
-use Rattle.calendar.specs.laws.Code.{to_right, to_ordered, first_small, last_small, window_1, window_12, window_13, window_14, window_0}
-use borrow.Author.Rules.{rules}
+use Rattle.calendar.proofs.laws.Code.{to_right, to_ordered, first_small, last_small, window_1, window_12, window_13, window_14, window_0}
 use Rattle.calendar.proofs.calls.nolthewyr_calendar_window.Goals as goal
 
 pub returns-then-calendar : goal.returns-then-calendar

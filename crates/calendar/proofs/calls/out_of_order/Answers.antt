@@ -4,7 +4,6 @@ use mathlib.Core.Bool.{not, ◌||◌}
 use Prim.Native.Nat.{ℕ}
 use lib.Dec.{ltb, eqb}
 use Rattle.calendar.specs.rules.Windows.{out_of_order}
-use borrow.Author.Rules.{rules}
 use Rattle.calendar.proofs.calls.out_of_order.Goals as goal
 
 pub returns : goal.returns

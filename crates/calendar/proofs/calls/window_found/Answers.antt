@@ -2,8 +2,7 @@
 use Prim.Native.Nat.{◌+◌}
 use native.Mathlib.Omega.{arith}
 use Rattle.calendar.specs.rules.Windows.{window_found}
-use Rattle.calendar.specs.laws.Figures.{unit_small}
-use borrow.Author.Rules.{rules}
+use Rattle.calendar.proofs.laws.Figures.{unit_small}
 use Rattle.calendar.proofs.calls.window_found.Goals as goal
 
 pub overflow_add-result : goal.overflow_add-result

@@ -2,7 +2,6 @@
 use mathlib.Core.Path.{refl}
 use Rattle.calendar.specs.rules.Hours.{opening, closing}
 use Rattle.calendar.specs.laws.Closed.{closed_in_day}
-use borrow.Author.Rules.{rules}
 use Rattle.calendar.proofs.closed.closed_in_day.Goals as goal
 
 pub returns : goal.returns

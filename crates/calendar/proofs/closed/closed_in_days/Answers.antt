@@ -1,9 +1,6 @@
 -- `calendar::closed::closed_in_days` meets its contract: the invariant has what is found of the first days. Assumes nothing.
-use mathlib.Core.Path.{◌≡◌, ap, ◌∙◌}
-use Prim.Native.Nat.{◌-◌, ◌≤◌}
 use native.Mathlib.Omega.{arith}
-use borrow.Author.Rules.{rules}
-use Rattle.calendar.specs.laws.Closed.{closed_in_days, no_days, next_day}
+use Rattle.calendar.proofs.laws.Closed.{no_days, next_day}
 use Rattle.calendar.proofs.closed.closed_in_days.Goals as goal
 
 pub loop-after-init : goal.loop-after-init

@@ -1,9 +1,7 @@
 -- `calendar::closed::closed_in_days` meets its contract: the invariant has what is found of the first days. Assumes nothing.
-use mathlib.Core.Path.{◌≡◌, ap, ◌∙◌}
+use mathlib.Core.Path.{◌≡◌}
 use Prim.Native.Nat.{◌-◌, ◌≤◌}
-use native.Mathlib.Omega.{arith}
-use borrow.Author.Rules.{rules}
-use Rattle.calendar.specs.laws.Closed.{closed_in_days, no_days, next_day}
+use Rattle.calendar.specs.laws.Closed.{closed_in_days}
 use Rattle.calendar.proofs.closed.closed_in_days.Given as goal
 
 abbrev pub invariant-loop-after : goal.invariant-loop-after

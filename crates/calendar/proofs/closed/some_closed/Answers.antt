@@ -1,8 +1,8 @@
 -- `calendar::closed::some_closed` meets its contract. Assumes nothing.
 use mathlib.Core.Path.{ap, ◌∙◌}
 use mathlib.Core.Bool.{◌||◌}
-use Rattle.calendar.specs.laws.Closed.{closed_in_days, days_in_order, closed_within, closed_over}
-use borrow.Author.Rules.{rules}
+use Rattle.calendar.specs.laws.Closed.{closed_in_days}
+use Rattle.calendar.proofs.laws.Closed.{days_in_order, closed_within, closed_over}
 use Rattle.calendar.proofs.closed.some_closed.Goals as goal
 
 pub overflow_sub-days : goal.overflow_sub-days

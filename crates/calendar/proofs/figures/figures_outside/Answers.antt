@@ -1,8 +1,7 @@
 -- `calendar::figures::figures_outside` meets its contract. Assumes nothing.
 use mathlib.Core.Path.{ap₂, ◌∙◌}
 use lib.Dec.{ltb}
-use Rattle.calendar.specs.laws.Figures.{ranges_refused, count_tested, in_ranges}
-use borrow.Author.Rules.{rules}
+use Rattle.calendar.proofs.laws.Figures.{ranges_refused, count_tested}
 use Rattle.calendar.proofs.figures.figures_outside.Goals as goal
 
 pub returns-then-calendar : goal.returns-then-calendar

@@ -1,7 +1,6 @@
 -- `calendar::figures::tree_units` meets its contract. Assumes nothing.
 use native.Mathlib.Omega.{arith}
-use Rattle.cover.specs.laws.Code.{units_code}
-use borrow.Author.Rules.{rules}
+use Rattle.cover.proofs.laws.Code.{units_code}
 use Rattle.calendar.proofs.figures.tree_units.Goals as goal
 
 pub returns : goal.returns

@@ -1,8 +1,6 @@
 -- `calendar::figures::unit_count` meets its contract. Assumes nothing.
 use mathlib.Core.Path.{refl}
-use native.Mathlib.Omega.{arith}
 use Rattle.calendar.specs.rules.Calendar.{unit_count}
-use Rattle.calendar.specs.laws.Figures.{all_weeks}
 use Rattle.calendar.proofs.figures.unit_count.Goals as goal
 
 pub returns : goal.returns

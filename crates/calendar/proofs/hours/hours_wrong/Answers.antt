@@ -1,7 +1,6 @@
 -- `calendar::hours::hours_wrong` meets its contract. Assumes nothing.
 use mathlib.Core.Path.{◌∙◌}
-use Rattle.calendar.specs.laws.HoursLaws.{other_length, right_length}
-use borrow.Author.Rules.{rules}
+use Rattle.calendar.proofs.laws.HoursLaws.{other_length, right_length}
 use Rattle.calendar.proofs.hours.hours_wrong.Goals as goal
 
 pub returns-then-hours-wards : goal.returns-then-hours-wards

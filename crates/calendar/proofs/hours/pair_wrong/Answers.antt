@@ -1,5 +1,5 @@
 -- `calendar::hours::pair_wrong` meets its contract. Assumes nothing.
-use Rattle.calendar.specs.laws.HoursLaws.{pair_tested}
+use Rattle.calendar.proofs.laws.HoursLaws.{pair_tested}
 use Rattle.calendar.proofs.hours.pair_wrong.Goals as goal
 
 pub returns : goal.returns

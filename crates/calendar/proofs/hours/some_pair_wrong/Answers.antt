@@ -1,10 +1,7 @@
 -- `calendar::hours::some_pair_wrong` meets its contract: the invariant says that none of the first pairs is wrong. Assumes nothing.
-use mathlib.Core.Path.{◌≡◌, sym, ap, ◌∙◌}
-use mathlib.Core.Bool.{false}
-use Prim.Native.Nat.{◌-◌, ◌≤◌}
+use mathlib.Core.Path.{sym, ◌∙◌}
 use native.Mathlib.Omega.{arith}
-use borrow.Author.Rules.{rules}
-use Rattle.calendar.specs.laws.HoursLaws.{some_pair_wrong, no_pairs, right_pair, wrong_pair}
+use Rattle.calendar.proofs.laws.HoursLaws.{no_pairs, right_pair, wrong_pair}
 use Rattle.calendar.proofs.hours.some_pair_wrong.Goals as goal
 
 pub loop-pair-init : goal.loop-pair-init

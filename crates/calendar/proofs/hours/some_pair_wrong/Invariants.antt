@@ -1,10 +1,8 @@
 -- `calendar::hours::some_pair_wrong` meets its contract: the invariant says that none of the first pairs is wrong. Assumes nothing.
-use mathlib.Core.Path.{◌≡◌, sym, ap, ◌∙◌}
+use mathlib.Core.Path.{◌≡◌}
 use mathlib.Core.Bool.{false}
 use Prim.Native.Nat.{◌-◌, ◌≤◌}
-use native.Mathlib.Omega.{arith}
-use borrow.Author.Rules.{rules}
-use Rattle.calendar.specs.laws.HoursLaws.{some_pair_wrong, no_pairs, right_pair, wrong_pair}
+use Rattle.calendar.specs.laws.HoursLaws.{some_pair_wrong}
 use Rattle.calendar.proofs.hours.some_pair_wrong.Given as goal
 
 abbrev pub invariant-loop-pair : goal.invariant-loop-pair

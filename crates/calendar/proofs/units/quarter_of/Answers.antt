@@ -1,7 +1,6 @@
 -- `calendar::units::quarter_of` meets its contract. Assumes nothing.
 use mathlib.Core.Path.{refl}
 use Rattle.calendar.specs.rules.Calendar.{quarter_of}
-use borrow.Author.Rules.{rules}
 use Rattle.calendar.proofs.units.quarter_of.Goals as goal
 
 -- UNKNOWN nonzero-div-t4

@@ -1,7 +1,7 @@
 -- `lock::Client::cause` meets its contract. Assumes nothing.
 use mathlib.Core.Path.{sym, ◌∙◌}
-use Rattle.lock.specs.laws.SettledLaws.{settled}
-use Rattle.lock.specs.laws.OperationLaws.{cause_0, cause_1, cause_5, cause_6}
+use Rattle.lock.proofs.laws.SettledLaws.{settled}
+use Rattle.lock.proofs.laws.OperationLaws.{cause_0, cause_1, cause_5, cause_6}
 use borrow.Author.Tests.{lt-ltb, le-ltb}
 use borrow.Author.Rules.{rules}
 use Rattle.lock.proofs.Client.cause.Goals as goal

@@ -1,9 +1,9 @@
 -- `lock::Client::operation` meets its contract. Assumes nothing.
 use mathlib.Core.Path.{◌∙◌}
 use native.Mathlib.Omega.{arith}
-use Rattle.lock.specs.laws.Touched.{readable}
-use Rattle.lock.specs.laws.SettledLaws.{settled}
-use Rattle.lock.specs.laws.OperationLaws.{post_tested, operation_refused, operation_found}
+use Rattle.lock.proofs.laws.Touched.{readable}
+use Rattle.lock.proofs.laws.SettledLaws.{settled}
+use Rattle.lock.proofs.laws.OperationLaws.{post_tested, operation_refused, operation_found}
 use borrow.Author.Rules.{rules}
 use Rattle.lock.proofs.Client.operation.Goals as goal
 

@@ -3,8 +3,8 @@ use mathlib.Core.Path.{◌∙◌}
 use Rattle.lock.specs.rules.Records.{client_with}
 use Rattle.lock.specs.rules.Calls.{cancelled, cancel_tests}
 use Rattle.lock.specs.rules.Operations.{own_cancel_answer}
-use Rattle.lock.specs.laws.CallLaws.{refused_by}
-use Rattle.lock.specs.laws.OperationLaws.{own_refused, own_answered}
+use Rattle.lock.proofs.laws.CallLaws.{refused_by}
+use Rattle.lock.proofs.laws.OperationLaws.{own_refused, own_answered}
 use borrow.Author.Rules.{rules}
 use Rattle.lock.proofs.Client.own_cancel.Goals as goal
 

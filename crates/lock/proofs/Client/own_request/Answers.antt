@@ -3,9 +3,9 @@ use mathlib.Core.Path.{◌∙◌}
 use Rattle.lock.specs.rules.Records.{client_with}
 use Rattle.lock.specs.rules.Calls.{requested, request_tests}
 use Rattle.lock.specs.rules.Operations.{own_request_answer}
-use Rattle.lock.specs.laws.CallLaws.{refused_by}
-use Rattle.lock.specs.laws.SettledLaws.{settled}
-use Rattle.lock.specs.laws.OperationLaws.{post_tested, own_refused, own_answered}
+use Rattle.lock.proofs.laws.CallLaws.{refused_by}
+use Rattle.lock.proofs.laws.SettledLaws.{settled}
+use Rattle.lock.proofs.laws.OperationLaws.{post_tested, own_refused, own_answered}
 use borrow.Author.Rules.{rules}
 use Rattle.lock.proofs.Client.own_request.Goals as goal
 

@@ -1,7 +1,7 @@
 -- `lock::Operation::applied` meets its contract. Assumes nothing.
 use mathlib.Core.Path.{sym, ap, ◌∙◌}
 use Rattle.lock.specs.rules.Steps.{applied}
-use Rattle.lock.specs.laws.OperationLaws.{kind_add, kind_swap, kind_leaves}
+use Rattle.lock.proofs.laws.OperationLaws.{kind_add, kind_swap, kind_leaves}
 use borrow.Author.Rules.{rules}
 use Rattle.lock.proofs.Operation.applied.Goals as goal
 

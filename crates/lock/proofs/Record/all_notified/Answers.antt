@@ -4,7 +4,7 @@ use Prim.Native.Nat.{ℕ, ◌-◌}
 use Rattle.tree.specs.rules.Tree.{Node}
 use Rattle.lock.specs.declared.Record.{Record}
 use Rattle.lock.specs.rules.Records.{is_leaf}
-use Rattle.lock.specs.laws.StepLaws.{notified_late, notified_leaf, notified_inner}
+use Rattle.lock.proofs.laws.StepLaws.{notified_late, notified_leaf, notified_inner}
 use borrow.Author.Rules.{rules}
 use Rattle.lock.proofs.Record.all_notified.Goals as goal
 

@@ -3,7 +3,7 @@ use mathlib.Core.Path.{sym, ap, ◌∙◌, subst}
 use Prim.Native.Nat.{ℕ}
 use Rattle.tree.specs.rules.Tree.{Node}
 use Rattle.lock.specs.rules.Steps.{start_phase}
-use Rattle.lock.specs.laws.StepLaws.{begin_is}
+use Rattle.lock.proofs.laws.StepLaws.{begin_is}
 use borrow.Author.Rules.{rules}
 use Rattle.lock.proofs.Record.begin.Goals as goal
 

@@ -6,7 +6,7 @@ use lib.ListN.{length}
 use Rattle.tree.specs.rules.Tree.{Node}
 use Rattle.tree.specs.rules.Lists.{check_list}
 use Rattle.lock.specs.rules.Records.{current_piece}
-use Rattle.lock.specs.laws.StepLaws.{check_stays, check_more, check_last, check_small}
+use Rattle.lock.proofs.laws.StepLaws.{check_stays, check_more, check_last, check_small}
 use borrow.Author.Rules.{rules}
 use Rattle.lock.proofs.Record.check_passed.Goals as goal
 

@@ -6,9 +6,9 @@ use Rattle.cover.specs.rules.Cover.{Meets}
 use Rattle.lock.specs.rules.Records.{is_leaf}
 use Rattle.lock.specs.rules.Steps.{wanted, swap}
 use Rattle.lock.specs.rules.Operations.{operation_at}
-use Rattle.lock.specs.laws.Placed.{pieced}
-use Rattle.lock.specs.laws.ReturnLaws.{leaf_level}
-use Rattle.lock.specs.laws.OperationLaws.{claim_swap, claim_add}
+use Rattle.lock.proofs.laws.Placed.{pieced}
+use Rattle.lock.proofs.laws.ReturnLaws.{leaf_level}
+use Rattle.lock.proofs.laws.OperationLaws.{claim_swap, claim_add}
 use borrow.Author.Rules.{rules}
 use Rattle.lock.proofs.Record.claim_operation.Goals as goal
 

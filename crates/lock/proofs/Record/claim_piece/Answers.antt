@@ -7,9 +7,9 @@ use Rattle.lock.specs.rules.Steps.{taken, wanted}
 use Rattle.lock.specs.laws.Rows.{leaves}
 use Rattle.word.specs.rules.Word.{take_bits}
 use Rattle.cover.specs.rules.Cover.{Meets}
-use Rattle.lock.specs.laws.Placed.{pieced}
-use Rattle.lock.specs.laws.ReturnLaws.{leaf_level}
-use Rattle.lock.specs.laws.MoveLaws.{claim_leaf, claim_inner}
+use Rattle.lock.proofs.laws.Placed.{pieced}
+use Rattle.lock.proofs.laws.ReturnLaws.{leaf_level}
+use Rattle.lock.proofs.laws.MoveLaws.{claim_leaf, claim_inner}
 use borrow.Author.Rules.{rules}
 use Rattle.lock.proofs.Record.claim_piece.Goals as goal
 

@@ -2,7 +2,7 @@
 use mathlib.Core.Path.{sym, ap, ◌∙◌}
 use Rattle.word.specs.rules.Word.{occ}
 use Rattle.lock.specs.rules.Steps.{taken, go_up}
-use Rattle.lock.specs.laws.StepLaws.{noted_parent, climb_set, climb_clear}
+use Rattle.lock.proofs.laws.StepLaws.{noted_parent, climb_set, climb_clear}
 use borrow.Author.Rules.{rules}
 use Rattle.lock.proofs.Record.climbed.Goals as goal
 

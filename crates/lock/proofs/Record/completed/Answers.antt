@@ -1,7 +1,7 @@
 -- `lock::Record::completed` meets its contract. Assumes nothing.
 use mathlib.Core.Path.{sym, ap, ◌∙◌}
 use Rattle.lock.specs.laws.Rows.{leaves}
-use Rattle.lock.specs.laws.PatienceLaws.{own_moved_lem, sent_back_moved}
+use Rattle.lock.proofs.laws.PatienceLaws.{own_moved_lem, sent_back_moved}
 use borrow.Author.Rules.{rules}
 use Rattle.lock.proofs.Record.completed.Goals as goal
 

@@ -7,8 +7,8 @@ use Rattle.tree.specs.rules.Tree.{Node, left}
 use Rattle.lock.specs.rules.Records.{pieces, is_leaf, given_piece}
 use Rattle.lock.specs.rules.Steps.{taken}
 use Rattle.lock.specs.laws.Rows.{leaves}
-use Rattle.lock.specs.laws.Placed.{pieced}
-use Rattle.lock.specs.laws.ReturnLaws.{own_leaf, own_inner, own_notice, leaf_level}
+use Rattle.lock.proofs.laws.Placed.{pieced}
+use Rattle.lock.proofs.laws.ReturnLaws.{own_leaf, own_inner, own_notice, leaf_level}
 use borrow.Author.Rules.{rules}
 use Rattle.lock.proofs.Record.give_back.Goals as goal
 

@@ -2,7 +2,7 @@
 use mathlib.Core.Path.{sym}
 use native.Mathlib.Omega.{arith}
 use Rattle.lock.specs.rules.Steps.{taken}
-use Rattle.lock.specs.laws.StepLaws.{up_more, up_last, up_small}
+use Rattle.lock.proofs.laws.StepLaws.{up_more, up_last, up_small}
 use Rattle.lock.proofs.Record.go_up.Goals as goal
 
 pub returns-then-n-eq1 : goal.returns-then-n-eq1

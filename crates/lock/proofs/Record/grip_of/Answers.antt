@@ -1,7 +1,7 @@
 -- `lock::Record::grip_of` meets its contract. Assumes nothing.
 use mathlib.Core.Path.{sym}
 use native.Mathlib.Omega.{arith}
-use Rattle.lock.specs.laws.Pieces.{grip_before, grip_current, grip_after}
+use Rattle.lock.proofs.laws.Pieces.{grip_before, grip_current, grip_after}
 use Rattle.lock.proofs.Record.grip_of.Goals as goal
 
 pub returns-then-i-self : goal.returns-then-i-self

@@ -1,7 +1,7 @@
 -- `lock::Record::late` meets its contract. Assumes nothing.
 use Prim.Native.Nat.{◌-◌}
 use Rattle.lock.specs.declared.Record.{Record}
-use Rattle.lock.specs.laws.LateLaws.{late_waited, late_by}
+use Rattle.lock.proofs.laws.LateLaws.{late_waited, late_by}
 use borrow.Author.Rules.{rules}
 use Rattle.lock.proofs.Record.late.Goals as goal
 

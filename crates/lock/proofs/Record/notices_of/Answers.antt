@@ -4,7 +4,7 @@ use Prim.Native.Nat.{ℕ}
 use lib.ListN.{length}
 use Rattle.tree.specs.rules.Tree.{Node}
 use Rattle.tree.specs.rules.Lists.{notify_list}
-use Rattle.lock.specs.laws.Pieces.{notices_before, notices_current}
+use Rattle.lock.proofs.laws.Pieces.{notices_before, notices_current}
 use borrow.Author.Rules.{rules}
 use Rattle.lock.proofs.Record.notices_of.Goals as goal
 

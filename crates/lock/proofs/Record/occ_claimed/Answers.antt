@@ -1,7 +1,7 @@
 -- `lock::Record::occ_claimed` meets its contract. Assumes nothing.
 use mathlib.Core.Path.{sym, ◌∙◌}
 use Rattle.lock.specs.rules.Steps.{taken}
-use Rattle.lock.specs.laws.StepLaws.{occ_root, occ_other}
+use Rattle.lock.proofs.laws.StepLaws.{occ_root, occ_other}
 use borrow.Author.Rules.{rules}
 use Rattle.lock.proofs.Record.occ_claimed.Goals as goal
 

@@ -4,9 +4,9 @@ use native.Mathlib.Omega.{arith}
 use mathlib.Core.Logic.{inl}
 use Rattle.lock.specs.rules.Steps.{touched_in, climbed, unblocked, waited}
 use Rattle.lock.specs.laws.Rows.{leaves, moved_in}
-use Rattle.lock.specs.laws.Placed.{pieced, sound_placed}
-use Rattle.lock.specs.laws.Phases.{at_ticket, at_turn, at_climb, at_blocked, at_claim, at_notify, at_wait, at_check, at_returning}
-use Rattle.lock.specs.laws.MoveLaws.{moved_none}
+use Rattle.lock.proofs.laws.Placed.{pieced, sound_placed}
+use Rattle.lock.proofs.laws.Phases.{at_ticket, at_turn, at_climb, at_blocked, at_claim, at_notify, at_wait, at_check, at_returning}
+use Rattle.lock.proofs.laws.MoveLaws.{moved_none}
 use borrow.Author.Rules.{rules}
 use Rattle.lock.proofs.Record.own_moved.Goals as goal
 

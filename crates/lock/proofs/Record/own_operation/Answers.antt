@@ -3,10 +3,10 @@ use mathlib.Core.Path.{sym, ap, ap₂, ◌∙◌}
 use native.Mathlib.Omega.{arith}
 use Rattle.lock.specs.rules.Steps.{access_in, touched_in}
 use Rattle.lock.specs.rules.Operations.{operation_at}
-use Rattle.lock.specs.laws.Placed.{sound_placed}
-use Rattle.lock.specs.laws.MoveLaws.{touched_none}
-use Rattle.lock.specs.laws.Phases.{at_ticket, at_turn, at_climb, at_blocked, at_claim, at_notify, at_check, at_returning}
-use Rattle.lock.specs.laws.OperationLaws.{access_none}
+use Rattle.lock.proofs.laws.Placed.{sound_placed}
+use Rattle.lock.proofs.laws.MoveLaws.{touched_none}
+use Rattle.lock.proofs.laws.Phases.{at_ticket, at_turn, at_climb, at_blocked, at_claim, at_notify, at_check, at_returning}
+use Rattle.lock.proofs.laws.OperationLaws.{access_none}
 use borrow.Author.Rules.{rules}
 use Rattle.lock.proofs.Record.own_operation.Goals as goal
 

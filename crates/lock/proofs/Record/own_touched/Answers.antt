@@ -7,9 +7,9 @@ use Rattle.tree.specs.rules.Tree.{Node}
 use Rattle.tree.specs.rules.Lists.{ancestors, notify_list, check_list}
 use mathlib.Core.Logic.{inl, inr}
 use Rattle.lock.specs.rules.Steps.{touched_in}
-use Rattle.lock.specs.laws.Placed.{pieced, sound_placed}
-use Rattle.lock.specs.laws.Phases.{at_ticket, at_turn, at_climb, at_blocked, at_claim, at_notify, at_check, at_returning}
-use Rattle.lock.specs.laws.MoveLaws.{touched_none}
+use Rattle.lock.proofs.laws.Placed.{pieced, sound_placed}
+use Rattle.lock.proofs.laws.Phases.{at_ticket, at_turn, at_climb, at_blocked, at_claim, at_notify, at_check, at_returning}
+use Rattle.lock.proofs.laws.MoveLaws.{touched_none}
 use Rattle.lock.proofs.Record.own_touched.Goals as goal
 
 pub returns-in-1 : goal.returns-in-1

@@ -8,9 +8,9 @@ use Rattle.cover.specs.rules.Cover.{Meets}
 use Rattle.lock.specs.rules.Records.{is_leaf, pieces}
 use Rattle.lock.specs.rules.Steps.{wanted, swap}
 use Rattle.lock.specs.rules.Operations.{operation_at}
-use Rattle.lock.specs.laws.Placed.{pieced}
-use Rattle.lock.specs.laws.ReturnLaws.{leaf_level}
-use Rattle.lock.specs.laws.OperationLaws.{own_swap, own_occ, own_turn, own_read}
+use Rattle.lock.proofs.laws.Placed.{pieced}
+use Rattle.lock.proofs.laws.ReturnLaws.{leaf_level}
+use Rattle.lock.proofs.laws.OperationLaws.{own_swap, own_occ, own_turn, own_read}
 use borrow.Author.Rules.{rules}
 use Rattle.lock.proofs.Record.own_word_operation.Goals as goal
 

@@ -4,10 +4,10 @@ use Prim.Native.Nat.{ℕ}
 use native.Mathlib.Omega.{arith}
 use lib.Dec.{eqb}
 use Rattle.tree.specs.rules.Tree.{level}
-use Rattle.tree.specs.laws.Level.{level_pos}
+use Rattle.tree.proofs.laws.Level.{level_pos}
 use Rattle.lock.specs.rules.Records.{is_leaf}
-use Rattle.lock.specs.laws.ReadableLaws.{piece_node_12, grip_ticket, grip_turn}
-use Rattle.lock.specs.laws.PhaseTests.{own_asking, own_climbing, own_claiming}
+use Rattle.lock.proofs.laws.ReadableLaws.{piece_node_12, grip_ticket, grip_turn}
+use Rattle.lock.proofs.laws.PhaseTests.{own_asking, own_climbing, own_claiming}
 use borrow.Author.Rules.{rules}
 use Rattle.lock.proofs.Record.own_wrong.Goals as goal
 

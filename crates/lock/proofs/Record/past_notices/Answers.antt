@@ -5,8 +5,8 @@ use native.Mathlib.Omega.{arith}
 use lib.Dec.{ltb}
 use lib.ListN.{length}
 use Rattle.tree.specs.rules.Lists.{notify_list}
-use Rattle.lock.specs.laws.Pieces.{notices_before, notices_current}
-use Rattle.lock.specs.laws.ReadableLaws.{piece_node_12}
+use Rattle.lock.proofs.laws.Pieces.{notices_before, notices_current}
+use Rattle.lock.proofs.laws.ReadableLaws.{piece_node_12}
 use borrow.Author.Rules.{rules}
 use Rattle.lock.proofs.Record.past_notices.Goals as goal
 

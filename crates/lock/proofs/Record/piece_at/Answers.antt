@@ -2,7 +2,7 @@
 use mathlib.Core.Path.{◌≡◌, sym, ap, ◌∙◌}
 use native.Mathlib.Omega.{arith}
 use Rattle.lock.specs.rules.Records.{piece_at}
-use Rattle.lock.specs.laws.Pieces.{piece_first, piece_second, few_pieces}
+use Rattle.lock.proofs.laws.Pieces.{piece_first, piece_second, few_pieces}
 use Rattle.lock.proofs.Record.piece_at.Goals as goal
 
 pub returns-then-i-eq0 : goal.returns-then-i-eq0

@@ -1,6 +1,6 @@
 -- `lock::Record::piece_count` meets its contract. Assumes nothing.
 use mathlib.Core.Path.{sym}
-use Rattle.lock.specs.laws.Pieces.{count_one, count_two}
+use Rattle.lock.proofs.laws.Pieces.{count_one, count_two}
 use Rattle.lock.proofs.Record.piece_count.Goals as goal
 
 pub returns-then-self-eq0 : goal.returns-then-self-eq0

@@ -2,9 +2,9 @@
 use mathlib.Core.Path.{sym, ◌∙◌}
 use native.Mathlib.Omega.{arith}
 use Rattle.lock.specs.rules.Steps.{taken}
-use Rattle.lock.specs.laws.Pieces.{few_pieces}
+use Rattle.lock.proofs.laws.Pieces.{few_pieces}
 use Rattle.tree.specs.rules.Tree.{left}
-use Rattle.lock.specs.laws.ReturnLaws.{piece_last, piece_next}
+use Rattle.lock.proofs.laws.ReturnLaws.{piece_last, piece_next}
 use borrow.Author.Rules.{rules}
 use Rattle.lock.proofs.Record.piece_returned.Goals as goal
 

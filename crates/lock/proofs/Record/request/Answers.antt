@@ -7,8 +7,8 @@ use Rattle.cover.specs.rules.Answer.{window_outside}
 use Rattle.lock.specs.rules.Records.{client_with}
 use Rattle.lock.specs.rules.Unreadable.{differ}
 use Rattle.lock.specs.rules.Calls.{answered}
-use Rattle.lock.specs.laws.CallLaws.{cause_hit, cause_skip, refused_by}
-use Rattle.lock.specs.laws.CoverLaws.{inside_window}
+use Rattle.lock.proofs.laws.CallLaws.{cause_hit, cause_skip, refused_by}
+use Rattle.lock.proofs.laws.CoverLaws.{inside_window}
 use Rattle.lock.specs.laws.ByKind.{stepped_of}
 use borrow.Author.Rules.{rules}
 use Rattle.lock.proofs.Record.request.Goals as goal

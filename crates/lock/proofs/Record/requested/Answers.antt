@@ -3,7 +3,7 @@ use mathlib.Core.Path.{◌≡◌, ap, ◌∙◌}
 use lib.ListN.{get_or}
 use Rattle.lock.specs.rules.Steps.{start_phase}
 use Rattle.lock.specs.rules.Calls.{requested}
-use Rattle.lock.specs.laws.CoverLaws.{first_node}
+use Rattle.lock.proofs.laws.CoverLaws.{first_node}
 use Rattle.lock.specs.rules.Records.{cover_of, windowed}
 use Rattle.lock.proofs.Record.requested.Goals as goal
 

@@ -6,8 +6,8 @@ use Rattle.lock.specs.rules.Steps.{taken, wanted}
 use Rattle.lock.specs.laws.Rows.{leaves}
 use Rattle.word.specs.rules.Word.{give_bits}
 use Rattle.cover.specs.rules.Cover.{Meets}
-use Rattle.lock.specs.laws.Placed.{pieced}
-use Rattle.lock.specs.laws.ReturnLaws.{bits_returned_lem, bits_clear}
+use Rattle.lock.proofs.laws.Placed.{pieced}
+use Rattle.lock.proofs.laws.ReturnLaws.{bits_returned_lem, bits_clear}
 use borrow.Author.Rules.{rules}
 use Rattle.lock.proofs.Record.return_bits.Goals as goal
 

@@ -3,7 +3,7 @@ use mathlib.Core.Path.{sym, ap, ap₂, ◌∙◌}
 use Rattle.lock.specs.rules.Steps.{taken}
 use Rattle.lock.specs.laws.Rows.{leaves}
 use Rattle.tree.specs.rules.Tree.{left}
-use Rattle.lock.specs.laws.ReturnLaws.{inner_occ, inner_turn, inner_ticket}
+use Rattle.lock.proofs.laws.ReturnLaws.{inner_occ, inner_turn, inner_ticket}
 use borrow.Author.Rules.{rules}
 use Rattle.lock.proofs.Record.return_inner.Goals as goal
 

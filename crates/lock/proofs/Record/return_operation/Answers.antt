@@ -1,8 +1,8 @@
 -- `lock::Record::return_operation` meets its contract. Assumes nothing.
 use mathlib.Core.Path.{sym, ap, ◌∙◌}
 use Rattle.lock.specs.rules.Operations.{operation_at}
-use Rattle.lock.specs.laws.MoveLaws.{touched_own}
-use Rattle.lock.specs.laws.OperationLaws.{return_own, return_notice}
+use Rattle.lock.proofs.laws.MoveLaws.{touched_own}
+use Rattle.lock.proofs.laws.OperationLaws.{return_own, return_notice}
 use borrow.Author.Rules.{rules}
 use Rattle.lock.proofs.Record.return_operation.Goals as goal
 

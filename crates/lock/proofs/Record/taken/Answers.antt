@@ -4,9 +4,9 @@ use Prim.Native.Nat.{◌+◌, ◌-◌}
 use native.Mathlib.Omega.{arith}
 use Rattle.lock.specs.rules.Records.{to_phase}
 use Rattle.lock.specs.rules.Steps.{begin, taken}
-use Rattle.lock.specs.laws.Pieces.{few_pieces}
-use Rattle.lock.specs.laws.PatienceLaws.{noted_pieced}
-use Rattle.lock.specs.laws.StepLaws.{taken_more, taken_last}
+use Rattle.lock.proofs.laws.Pieces.{few_pieces}
+use Rattle.lock.proofs.laws.PatienceLaws.{noted_pieced}
+use Rattle.lock.proofs.laws.StepLaws.{taken_more, taken_last}
 use borrow.Author.Rules.{rules}
 use Rattle.lock.proofs.Record.taken.Goals as goal
 

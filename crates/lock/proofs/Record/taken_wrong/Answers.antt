@@ -4,9 +4,9 @@ use Prim.Native.Nat.{ℕ}
 use native.Mathlib.Omega.{arith}
 use lib.ListN.{length}
 use Rattle.tree.specs.rules.Lists.{notify_list, check_list}
-use Rattle.lock.specs.laws.Pieces.{few_pieces}
-use Rattle.lock.specs.laws.ReadableLaws.{piece_node, piece_node_12}
-use Rattle.lock.specs.laws.PhaseTests.{own_notifying, own_waiting, own_checking, own_holding, own_unknown}
+use Rattle.lock.proofs.laws.Pieces.{few_pieces}
+use Rattle.lock.proofs.laws.ReadableLaws.{piece_node, piece_node_12}
+use Rattle.lock.proofs.laws.PhaseTests.{own_notifying, own_waiting, own_checking, own_holding, own_unknown}
 use borrow.Author.Rules.{rules}
 use Rattle.lock.proofs.Record.taken_wrong.Goals as goal
 

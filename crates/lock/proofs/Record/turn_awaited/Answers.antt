@@ -2,7 +2,7 @@
 use mathlib.Core.Path.{sym, ◌∙◌}
 use Rattle.word.specs.rules.Word.{tcnt}
 use Rattle.lock.specs.rules.Steps.{taken}
-use Rattle.lock.specs.laws.StepLaws.{turn_stays, turn_root, turn_other}
+use Rattle.lock.proofs.laws.StepLaws.{turn_stays, turn_root, turn_other}
 use borrow.Author.Rules.{rules}
 use Rattle.lock.proofs.Record.turn_awaited.Goals as goal
 

@@ -3,7 +3,7 @@ use mathlib.Core.Path.{sym, ◌∙◌}
 use Rattle.word.specs.rules.Word.{tcnt}
 use Rattle.lock.specs.rules.Steps.{taken}
 use Rattle.tree.specs.rules.Tree.{left}
-use Rattle.lock.specs.laws.ReturnLaws.{turn_mine, turn_not_mine}
+use Rattle.lock.proofs.laws.ReturnLaws.{turn_mine, turn_not_mine}
 use borrow.Author.Rules.{rules}
 use Rattle.lock.proofs.Record.turn_returned.Goals as goal
 

@@ -2,7 +2,7 @@
 use mathlib.Core.Path.{sym, ◌∙◌}
 use Rattle.word.specs.rules.Word.{occ}
 use Rattle.lock.specs.rules.Steps.{taken}
-use Rattle.lock.specs.laws.StepLaws.{unblocked_now, unblocked_not}
+use Rattle.lock.proofs.laws.StepLaws.{unblocked_now, unblocked_not}
 use borrow.Author.Rules.{rules}
 use Rattle.lock.proofs.Record.unblocked.Goals as goal
 

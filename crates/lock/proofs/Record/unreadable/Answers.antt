@@ -3,8 +3,9 @@ use mathlib.Core.Path.{sym, ap, ◌∙◌}
 use mathlib.Core.Bool.{Bool, ◌||◌}
 use native.Mathlib.Omega.{arith}
 use lib.Dec.{ltb}
-use Rattle.lock.specs.laws.OwnTests.{own_wrong, unreadable_parts, unreadable_idle}
-use Rattle.lock.specs.laws.WhenReadable.{asked_begun}
+use Rattle.lock.specs.laws.OwnTests.{own_wrong}
+use Rattle.lock.proofs.laws.OwnTests.{unreadable_parts, unreadable_idle}
+use Rattle.lock.proofs.laws.WhenReadable.{asked_begun}
 use borrow.Author.Rules.{rules}
 use Rattle.lock.proofs.Record.unreadable.Goals as goal
 

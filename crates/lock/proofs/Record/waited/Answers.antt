@@ -2,7 +2,7 @@
 use mathlib.Core.Path.{sym}
 use native.Mathlib.Omega.{arith}
 use Rattle.lock.specs.rules.Steps.{taken}
-use Rattle.lock.specs.laws.StepLaws.{wait_over, wait_on}
+use Rattle.lock.proofs.laws.StepLaws.{wait_over, wait_on}
 use borrow.Author.Rules.{rules}
 use Rattle.lock.proofs.Record.waited.Goals as goal
 

@@ -4,7 +4,7 @@ use Prim.Native.Nat.{ℕ, ◌+◌, ◌^◌, ◌<◌}
 use native.Mathlib.Omega.{arith}
 use Rattle.tree.specs.rules.Tree.{left}
 use Rattle.word.specs.rules.Word.{wanted_bits}
-use Rattle.lock.specs.laws.Placed.{clipped}
+use Rattle.lock.proofs.laws.Placed.{clipped}
 use borrow.Author.Rules.{rules}
 use Rattle.lock.proofs.Record.wanted.Goals as goal
 

@@ -3,7 +3,7 @@ use mathlib.Core.Path.{sym, ◌∙◌}
 use native.Mathlib.Omega.{arith}
 use Rattle.lock.specs.rules.Steps.{taken}
 use Rattle.tree.specs.rules.Tree.{left}
-use Rattle.lock.specs.laws.ReturnLaws.{word_more, word_last}
+use Rattle.lock.proofs.laws.ReturnLaws.{word_more, word_last}
 use borrow.Author.Rules.{rules}
 use Rattle.lock.proofs.Record.word_returned.Goals as goal
 

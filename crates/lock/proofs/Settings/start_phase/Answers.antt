@@ -1,7 +1,7 @@
 -- `lock::Settings::start_phase` meets its contract. Assumes nothing.
 use mathlib.Core.Path.{sym, ◌∙◌}
 use Rattle.lock.specs.rules.Steps.{taken}
-use Rattle.lock.specs.laws.StepLaws.{start_leaf, start_inner}
+use Rattle.lock.proofs.laws.StepLaws.{start_leaf, start_inner}
 use borrow.Author.Rules.{rules}
 use Rattle.lock.proofs.Settings.start_phase.Goals as goal
 

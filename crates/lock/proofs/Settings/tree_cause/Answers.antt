@@ -4,9 +4,9 @@ use native.Mathlib.Omega.{arith}
 use borrow.Author.Rules.{rules}
 use mathlib.Core.List.{[]}
 use Rattle.lock.specs.rules.Calls.{first_cause, tree_tests}
-use Rattle.lock.specs.laws.CallLaws.{tree_settings, tree_count, tree_passed}
-use Rattle.lock.specs.laws.SettledLaws.{settled}
-use Rattle.lock.specs.laws.WordLaws.{last_is_count}
+use Rattle.lock.proofs.laws.CallLaws.{tree_settings, tree_count, tree_passed}
+use Rattle.lock.proofs.laws.SettledLaws.{settled}
+use Rattle.lock.proofs.laws.WordLaws.{last_is_count}
 use Rattle.lock.proofs.Settings.tree_cause.Goals as goal
 
 pub returns-then-outside : goal.returns-then-outside

@@ -1,7 +1,7 @@
 -- `lock::calls::put_word` meets its contract. Assumes nothing.
 use mathlib.Core.Path.{sym}
 use native.Mathlib.Omega.{arith}
-use Rattle.lock.specs.laws.WordLaws.{written_none, written_some}
+use Rattle.lock.proofs.laws.WordLaws.{written_none, written_some}
 use borrow.Author.Rules.{rules}
 use Rattle.lock.proofs.calls.put_word.Goals as goal
 

@@ -1,7 +1,7 @@
 -- `lock::calls::word_at` meets its contract. Assumes nothing.
 use mathlib.Core.Path.{sym}
 use native.Mathlib.Omega.{arith}
-use Rattle.lock.specs.laws.WordLaws.{word_none, word_some}
+use Rattle.lock.proofs.laws.WordLaws.{word_none, word_some}
 use borrow.Author.Rules.{rules}
 use Rattle.lock.proofs.calls.word_at.Goals as goal
 

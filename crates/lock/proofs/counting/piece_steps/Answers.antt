@@ -1,9 +1,9 @@
 -- `lock::counting::piece_steps` meets its contract. Assumes nothing.
 use native.Mathlib.Omega.{arith}
-use Rattle.lock.specs.laws.PieceSteps.{leaf_code, inner_code, claim_few}
-use Rattle.lock.specs.laws.StepLaws.{check_small}
-use Rattle.tree.specs.laws.Code.{bounded}
-use Rattle.lock.specs.laws.Placed.{widen}
+use Rattle.lock.proofs.laws.PieceSteps.{leaf_code, inner_code, claim_few}
+use Rattle.lock.proofs.laws.StepLaws.{check_small}
+use Rattle.tree.proofs.laws.Code.{bounded}
+use Rattle.lock.proofs.laws.Placed.{widen}
 use borrow.Author.Rules.{rules}
 use Rattle.lock.proofs.counting.piece_steps.Goals as goal
 

@@ -1,9 +1,9 @@
 -- `lock::counting::pieces_steps` meets its contract. Assumes nothing.
 use mathlib.Core.Path.{◌∙◌}
 use native.Mathlib.Omega.{arith}
-use Rattle.lock.specs.laws.PieceSteps.{pieces_one, pieces_two, steps_few}
-use Rattle.tree.specs.laws.Code.{bounded}
-use Rattle.lock.specs.laws.Placed.{widen}
+use Rattle.lock.proofs.laws.PieceSteps.{pieces_one, pieces_two, steps_few}
+use Rattle.tree.proofs.laws.Code.{bounded}
+use Rattle.lock.proofs.laws.Placed.{widen}
 use borrow.Author.Rules.{rules}
 use Rattle.lock.proofs.counting.pieces_steps.Goals as goal
 

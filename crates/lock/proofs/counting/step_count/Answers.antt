@@ -2,10 +2,10 @@
 use mathlib.Core.Path.{sym, subst, ◌∙◌}
 use native.Mathlib.Omega.{arith}
 use Rattle.tree.specs.rules.Tree.{Node}
-use Rattle.cover.specs.laws.Code.{window_inside}
+use Rattle.cover.proofs.laws.Code.{window_inside}
 use Rattle.lock.specs.laws.PieceSteps.{pieces_steps}
-use Rattle.lock.specs.laws.SettledLaws.{shape_inside}
-use Rattle.lock.specs.claim.StepCountLaws.{counts_refused, counts_outside, counts_accepted, window_steps}
+use Rattle.lock.proofs.laws.SettledLaws.{shape_inside}
+use Rattle.lock.proofs.claim.StepCountLaws.{counts_refused, counts_outside, counts_accepted, window_steps}
 use borrow.Author.Rules.{rules}
 use Rattle.lock.proofs.counting.step_count.Goals as goal
 

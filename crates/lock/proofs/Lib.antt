@@ -1,0 +1,3 @@
+pub mod laws
+pub mod claim
+pub mod examples
