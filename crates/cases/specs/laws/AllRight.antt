@@ -1,7 +1,7 @@
 -- The theorem that every case marked P is right. Assumes nothing.
 use Rattle.std.specs.Prelude.{refl}
 use Rattle.base.specs.rules.Choice.{choose}
-use Rattle.word.specs.laws.Inner.{largest_tcnt_returned}
+use Rattle.word.proofs.laws.Inner.{largest_tcnt_returned}
 use Rattle.tree.specs.rules.Tree.{climb, leftmost, first, level, level_within, size, left, units, holder}
 use Rattle.tree.specs.rules.Lists.{notifies, notified_from, notify_levels}
 use Rattle.cover.specs.rules.Cover.{part, over, total, rank}

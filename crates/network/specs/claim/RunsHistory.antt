@@ -9,11 +9,11 @@ use Rattle.lock.specs.declared.Settings.{Settings}
 use Rattle.lock.specs.rules.Table.{State, Call, client_at, record_at, opening, call}
 use Rattle.lock.specs.rules.History.{run, events, SingleHolding, Clean}
 use Rattle.lock.specs.rules.Readings.{ReadApart}
-use Rattle.lock.specs.claim.Invariant.{Invariant}
-use Rattle.lock.specs.claim.Keeping.{run_keeps}
-use Rattle.lock.specs.claim.Parts.{parts_of}
-use Rattle.lock.specs.claim.Start.{opening_invariant}
-use Rattle.lock.specs.claim.Demand3.{records_apart, read_apart_holding, records_clean}
+use Rattle.lock.proofs.claim.Invariant.{Invariant}
+use Rattle.lock.proofs.claim.Keeping.{run_keeps}
+use Rattle.lock.proofs.claim.Parts.{parts_of}
+use Rattle.lock.proofs.claim.Start.{opening_invariant}
+use Rattle.lock.proofs.claim.Demand3.{records_apart, read_apart_holding, records_clean}
 use Rattle.network.specs.rules.Clocks.{TrueClock, InTime}
 use Rattle.network.specs.rules.Network.{Network, free, run_at, client_on, started, Act, act, acts, calls_of, history_of, HoldsOwn, IdleOwn, shown}
 use Rattle.network.specs.laws.CallsInTime.{acts_read}

@@ -15,7 +15,7 @@ use Rattle.lock.specs.rules.Steps.{touched_in, start_phase, begin, first_noted, 
 use Rattle.lock.specs.rules.Calls.{first_cause, settings_outside, tree_tests, clients_outside, client_tests, request_tests, step_tests, release_tests, cancel_tests, requested, released, cancelled, answered}
 use Rattle.lock.specs.rules.Table.{request, step, release, client_of, client_at, own_tests, number_of, after, call, opening_number, opened, opening}
 use Rattle.lock.specs.rules.Operations.{operation_at, access_of, post_tests, operation_answer, completed_tests, completed_answer, own_request_answer, own_release_answer}
-use Rattle.lock.specs.examples.WholeCase.{settings, lent, calls}
+use Rattle.lock.proofs.examples.WholeCase.{settings, lent, calls}
 use Rattle.runs.specs.rules.Ahead.{standing, walk, gives_back, ahead_in, ahead_of, same, along, first_number, completed_all_answer}
 use Rattle.network.specs.rules.Clocks.{claims, completing, TrueClock, OwnRead, ClocksRead, moment_after, InTime}
 use Rattle.network.specs.rules.Network.{Network, run_at, client_on, started, Act, own, post, carry, complete, touches_none, own_next, own_calls, same_list, asks, posts, between, carries, completes, act, acts, asked_by, counts, carried_by, calls_of, history_of, HoldsOwn}

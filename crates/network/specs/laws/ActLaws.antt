@@ -19,8 +19,8 @@ use Rattle.lock.specs.rules.Operations.{access_of, operation_answer, completed_a
 use Rattle.lock.specs.rules.Table.{State, Call, request, step, release, cancel, client_of, client_at, Out, opening_number, call}
 use Rattle.lock.specs.rules.ByValue.{answer_to, words_after}
 use Rattle.lock.specs.rules.History.{run}
-use Rattle.lock.specs.claim.Parts.{parts_of}
-use Rattle.lock.specs.claim.Invariant.{Invariant}
+use Rattle.lock.proofs.claim.Parts.{parts_of}
+use Rattle.lock.proofs.claim.Invariant.{Invariant}
 use Rattle.table.specs.laws.CauseLaws.{table_client}
 use Rattle.table.specs.laws.CallLaws.{table_refuses}
 use Rattle.runs.specs.rules.Ahead.{ahead_of, Counted, completed_all_answer}

@@ -20,10 +20,10 @@ use Rattle.lock.specs.rules.Records.{Phase, ticket, turn, returning, phase_of, p
 use Rattle.lock.specs.rules.Unreadable.{list_length}
 use Rattle.lock.specs.rules.Steps.{Completion, access_in, wanted, word_returned, piece_returned, bits_returned, grip_returned, given_back, completed_in}
 use Rattle.lock.specs.rules.Operations.{operation_at}
-use Rattle.lock.specs.laws.Phases.{on_phase, at_returning}
-use Rattle.lock.specs.laws.PatienceLaws.{patient_taken}
-use Rattle.lock.specs.laws.Pieces.{grip_before, grip_current, grip_after, notices_current}
-use Rattle.lock.specs.laws.Ready.{Ready}
+use Rattle.lock.proofs.laws.Phases.{on_phase, at_returning}
+use Rattle.lock.proofs.laws.PatienceLaws.{patient_taken}
+use Rattle.lock.proofs.laws.Pieces.{grip_before, grip_current, grip_after, notices_current}
+use Rattle.lock.proofs.laws.Ready.{Ready}
 use Rattle.runs.specs.rules.Ahead.{standing, walk, gives_back, ahead_in}
 use Rattle.network.specs.rules.Clocks.{claims}
 use Rattle.runs.specs.laws.OperationLists.{Leads, Reads, none_some, rest_same, reads_rest, nothing_behind, joined, past_place}

@@ -18,12 +18,12 @@ use Rattle.lock.specs.rules.Table.{State, Call, request, step, release, cancel, 
 use Rattle.lock.specs.rules.History.{run}
 use Rattle.lock.specs.rules.Readings.{LateAt}
 use Rattle.lock.specs.rules.Operations.{operation_answer}
-use Rattle.lock.specs.laws.PatienceLaws.{out_of_patience_lem}
-use Rattle.lock.specs.laws.Ready.{Ready}
-use Rattle.lock.specs.claim.Fit.{later_below, fit_ready}
-use Rattle.lock.specs.claim.Invariant.{Invariant}
-use Rattle.lock.specs.claim.Keeping.{run_keeps}
-use Rattle.lock.specs.claim.Parts.{parts_of, record_at_lem}
+use Rattle.lock.proofs.laws.PatienceLaws.{out_of_patience_lem}
+use Rattle.lock.proofs.laws.Ready.{Ready}
+use Rattle.lock.proofs.claim.Fit.{later_below, fit_ready}
+use Rattle.lock.proofs.claim.Invariant.{Invariant}
+use Rattle.lock.proofs.claim.Keeping.{run_keeps}
+use Rattle.lock.proofs.claim.Parts.{parts_of, record_at_lem}
 use Rattle.network.specs.rules.Clocks.{claims, completing, OwnRead, ClocksRead, moment_after, InTime}
 use Rattle.network.specs.rules.Network.{Flight, free, flying, Network, run_at, client_on, Act, own, post, carry, complete, own_calls, touches_none, between, act, asked_by, counts, carried_by, calls_of, history_of, shown}
 use Rattle.network.specs.laws.ActLaws.{Fair, Kept, act_kept, act_shown}

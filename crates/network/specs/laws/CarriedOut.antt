@@ -15,7 +15,7 @@ use Rattle.lock.specs.declared.Stepped.{Stepped}
 use Rattle.lock.specs.rules.Calls.{first_cause}
 use Rattle.lock.specs.rules.Steps.{completed, moved}
 use Rattle.lock.specs.rules.Operations.{post_tests, operation_answer, completed_answer}
-use Rattle.lock.specs.laws.OperationLaws.{completed_taken}
+use Rattle.lock.proofs.laws.OperationLaws.{completed_taken}
 use Rattle.runs.specs.laws.FirstDue.{not_empty, first_due, same_itself, same_equal}
 use Rattle.runs.specs.rules.Ahead.{ahead_of, same, Counted, nothing_more, one_more, along}
 use Rattle.network.specs.rules.Clocks.{claims}

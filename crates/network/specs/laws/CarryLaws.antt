@@ -23,12 +23,12 @@ use Rattle.lock.specs.rules.Calls.{first_cause, answered}
 use Rattle.lock.specs.rules.Operations.{access_of, post_tests, operation_answer, completed_tests, completed_answer}
 use Rattle.lock.specs.rules.Table.{State, step, client_at, opening_number, call}
 use Rattle.lock.specs.rules.History.{run}
-use Rattle.lock.specs.claim.ClearBit.{step_accepted}
-use Rattle.lock.specs.claim.Keeping.{call_keeps}
-use Rattle.lock.specs.claim.Parts.{parts_of}
-use Rattle.lock.specs.claim.Readable.{invariant_readable}
-use Rattle.lock.specs.claim.Invariant.{Invariant}
-use Rattle.lock.specs.laws.OperationLaws.{kind_leaves, operation_found, cause_0}
+use Rattle.lock.proofs.claim.ClearBit.{step_accepted}
+use Rattle.lock.proofs.claim.Keeping.{call_keeps}
+use Rattle.lock.proofs.claim.Parts.{parts_of}
+use Rattle.lock.proofs.claim.Readable.{invariant_readable}
+use Rattle.lock.proofs.claim.Invariant.{Invariant}
+use Rattle.lock.proofs.laws.OperationLaws.{kind_leaves, operation_found, cause_0}
 use Rattle.runs.specs.rules.Ahead.{completed_all_answer}
 use Rattle.network.specs.rules.Network.{Flight, free, flying, Run, Network, run_at, client_on, with_run, counts, seen_by, seen, shown}
 use Rattle.network.specs.laws.CarriedOut.{seen_after, Underway, sofar, Counting, Dropped, carried_out}

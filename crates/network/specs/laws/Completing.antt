@@ -16,7 +16,7 @@ use Rattle.lock.specs.rules.Steps.{out_of_patience, late}
 use Rattle.lock.specs.rules.Calls.{first_cause, settings_outside}
 use Rattle.lock.specs.rules.Operations.{post_tests}
 use Rattle.runs.specs.rules.Ahead.{ahead_in, ahead_of}
-use Rattle.lock.specs.laws.PatienceLaws.{out_of_patience_lem}
+use Rattle.lock.proofs.laws.PatienceLaws.{out_of_patience_lem}
 use Rattle.network.specs.rules.Clocks.{claims, completing}
 use Rattle.network.specs.rules.Network.{same_list}
 use Rattle.network.specs.laws.SameOperation.{list_itself}

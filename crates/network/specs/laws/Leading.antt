@@ -20,8 +20,8 @@ use Rattle.lock.specs.rules.Records.{Phase, climb, claim, notify, check, returni
 use Rattle.lock.specs.rules.Unreadable.{list_length}
 use Rattle.lock.specs.rules.Steps.{touched_in, access_in, claim_access, out_of_patience, wanted, bits_claimed, piece_claimed, occ_claimed, notice_given}
 use Rattle.lock.specs.rules.Operations.{operation_at}
-use Rattle.lock.specs.laws.Phases.{on_phase, at_notify}
-use Rattle.lock.specs.laws.Ready.{Ready}
+use Rattle.lock.proofs.laws.Phases.{on_phase, at_notify}
+use Rattle.lock.proofs.laws.Ready.{Ready}
 use Rattle.runs.specs.rules.Ahead.{standing, walk, gives_back, ahead_in}
 use Rattle.network.specs.rules.Clocks.{claims}
 use Rattle.runs.specs.laws.OperationLists.{Leads, Reads, none_some, first_same, reads_mapped, nothing_behind, by_place, past_place}

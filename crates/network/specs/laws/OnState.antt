@@ -14,7 +14,7 @@ use Rattle.lock.specs.rules.Calls.{Tests, first_cause, settings_outside, tree_te
 use Rattle.lock.specs.rules.Operations.{access_of, operation_answer, completed_answer, own_request_answer, own_release_answer, own_cancel_answer}
 use Rattle.lock.specs.rules.Table.{State, Call, step, client_of, client_at, Out, opening_number, call}
 use Rattle.lock.specs.rules.ByValue.{answer_to, words_after}
-use Rattle.lock.specs.laws.CallLaws.{cause_skip, tree_passed, cause_tested}
+use Rattle.lock.proofs.laws.CallLaws.{cause_skip, tree_passed, cause_tested}
 use Rattle.table.specs.laws.Causes.{table_cause}
 use Rattle.table.specs.laws.CauseLaws.{both_none, table_client, table_passed}
 use Rattle.table.specs.laws.CallLaws.{set_same, table_refuses, table_takes}

@@ -19,9 +19,10 @@ use Rattle.lock.specs.rules.Calls.{Tests, first_cause, settings_outside, tree_te
 use Rattle.lock.specs.rules.Operations.{operation_at, refused_operation, access_of, post_tests, operation_answer, completed_tests, completed_answer}
 use Rattle.lock.specs.rules.Table.{State, step, client_of, client_at, call}
 use Rattle.lock.specs.rules.ByValue.{answer_to, words_after}
-use Rattle.lock.specs.laws.CallLaws.{cause_hit, cause_skip, tree_passed, cause_tested, answer_refused}
-use Rattle.lock.specs.laws.OperationLaws.{access_back, PostTested, post_tested, operation_refused, operation_found}
-use Rattle.lock.specs.laws.Rows.{claim_piece, return_bits, return_inner, give_back, moved_in, on_moved}
+use Rattle.lock.proofs.laws.CallLaws.{cause_hit, cause_skip, tree_passed, cause_tested, answer_refused}
+use Rattle.lock.proofs.laws.OperationLaws.{access_back, PostTested, post_tested, operation_refused, operation_found}
+use Rattle.lock.specs.laws.Rows.{claim_piece, return_bits, return_inner, give_back, moved_in}
+use Rattle.lock.proofs.laws.Rows.{on_moved}
 use Rattle.table.specs.laws.Causes.{table_cause}
 use Rattle.table.specs.laws.CauseLaws.{both_none}
 use Rattle.table.specs.laws.CallLaws.{set_same, table_refuses, table_takes}

@@ -16,11 +16,11 @@ use Rattle.lock.specs.rules.Records.{Phase, claim, notify, phase_of, current_pie
 use Rattle.lock.specs.rules.Steps.{Access, none, touched, access, access_in, claim_access, out_of_patience, Completion, goes_to, given_up, completed, completed_in, moved}
 use Rattle.lock.specs.rules.Calls.{first_cause}
 use Rattle.lock.specs.rules.Operations.{operation_at, post_tests, operation_answer, completed_answer}
-use Rattle.lock.specs.laws.OperationLaws.{post_tested, operation_found, operation_refused, completed_taken, patient_access, impatient_access}
-use Rattle.lock.specs.laws.PatienceLaws.{own_touched_lem}
-use Rattle.lock.specs.laws.Phases.{at_idle, at_claim, at_notify}
-use Rattle.lock.specs.laws.Ready.{Ready, ready}
-use Rattle.lock.specs.laws.SettledLaws.{settled}
+use Rattle.lock.proofs.laws.OperationLaws.{post_tested, operation_found, operation_refused, completed_taken, patient_access, impatient_access}
+use Rattle.lock.proofs.laws.PatienceLaws.{own_touched_lem}
+use Rattle.lock.proofs.laws.Phases.{at_idle, at_claim, at_notify}
+use Rattle.lock.proofs.laws.Ready.{Ready, ready}
+use Rattle.lock.proofs.laws.SettledLaws.{settled}
 use Rattle.runs.specs.laws.FirstDue.{NotEmpty, ahead_is, is_ready}
 use Rattle.runs.specs.rules.Ahead.{ahead_in, ahead_of}
 use Rattle.network.specs.rules.Clocks.{claims}

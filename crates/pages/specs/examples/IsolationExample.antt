@@ -17,7 +17,7 @@ use Rattle.lock.specs.rules.Calls.{first_cause, settings_outside, tree_tests, cl
 use Rattle.lock.specs.rules.Table.{Call, request, step, client_of, client_at, own_tests, number_of, after, call, opening_number, opened, opening}
 use Rattle.lock.specs.declared.Client.{Client}
 use Rattle.lock.specs.rules.History.{run}
-use Rattle.lock.specs.examples.HistoryExample.{settings, fresh}
+use Rattle.lock.proofs.examples.HistoryExample.{settings, fresh}
 use Rattle.pages.specs.declared.RunPage.{RunPage}
 use Rattle.pages.specs.rules.Pages.{any_unreadable, in_phase9, held_count, own_client, run_tests, run_number, run_page}
 use Rattle.pages.specs.laws.Isolation.{isolation}

@@ -15,8 +15,8 @@ use Rattle.lock.specs.rules.Calls.{first_cause, settings_outside, tree_tests, cl
 use Rattle.lock.specs.rules.Table.{State, client_of, client_at, own_tests, number_of, after, call, opening_number, opened, opening}
 use Rattle.lock.specs.rules.History.{run}
 use Rattle.lock.specs.rules.StepCount.{next_clock, counted, step_count}
-use Rattle.lock.specs.examples.HistoryExample.{settings as wide}
-use Rattle.lock.specs.examples.WholeCase.{settings, lent, calls}
+use Rattle.lock.proofs.examples.HistoryExample.{settings as wide}
+use Rattle.lock.proofs.examples.WholeCase.{settings, lent, calls}
 use Rattle.pages.specs.declared.Row.{Row}
 use Rattle.pages.specs.rules.Pages.{row_of, rows_of, any_unreadable, planners_tests, planners_number, page, planners_page}
 

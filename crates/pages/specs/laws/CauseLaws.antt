@@ -9,10 +9,10 @@ use Rattle.lock.specs.declared.Settings.{Settings}
 use Rattle.lock.specs.rules.Unreadable.{differ}
 use Rattle.lock.specs.rules.Calls.{first_cause, settings_outside, clients_outside, client_tests}
 use Rattle.lock.specs.laws.Active.{Settled}
-use Rattle.lock.specs.laws.SettledLaws.{settled}
-use Rattle.lock.specs.laws.ReadableLaws.{same_number}
-use Rattle.lock.specs.laws.CallLaws.{cause_hit, cause_skip}
-use Rattle.lock.specs.laws.Accepted.{test_passed}
+use Rattle.lock.proofs.laws.SettledLaws.{settled}
+use Rattle.lock.proofs.laws.ReadableLaws.{same_number}
+use Rattle.lock.proofs.laws.CallLaws.{cause_hit, cause_skip}
+use Rattle.lock.proofs.laws.Accepted.{test_passed}
 use Rattle.pages.specs.laws.Causes.{planners_cause, run_cause}
 
 -- ---- planners: 1, 2, 3

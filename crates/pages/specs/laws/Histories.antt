@@ -13,10 +13,10 @@ use Rattle.lock.specs.rules.Unreadable.{unreadable}
 use Rattle.lock.specs.rules.Calls.{settings_outside, clients_outside, client_tests}
 use Rattle.lock.specs.rules.Table.{State, Call, client_at, opened, opening}
 use Rattle.lock.specs.rules.History.{run}
-use Rattle.lock.specs.laws.CallLaws.{NotNamed, never_named}
-use Rattle.lock.specs.laws.Accepted.{opening_tested}
-use Rattle.lock.specs.claim.HistoryRecord.{count_run}
-use Rattle.lock.specs.claim.Readable.{every_readable}
+use Rattle.lock.proofs.laws.CallLaws.{NotNamed, never_named}
+use Rattle.lock.proofs.laws.Accepted.{opening_tested}
+use Rattle.lock.proofs.claim.HistoryRecord.{count_run}
+use Rattle.lock.proofs.claim.Readable.{every_readable}
 use Rattle.pages.specs.declared.Row.{Row}
 use Rattle.pages.specs.rules.Pages.{rows_of, any_unreadable, planners_tests, planners_number, page, planners_page, held_count, own_client, run_tests, run_number, run_page}
 use Rattle.pages.specs.laws.CauseLaws.{planners_passed, run_passed}

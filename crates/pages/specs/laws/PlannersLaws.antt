@@ -8,7 +8,7 @@ use Rattle.lock.specs.declared.Client.{Client}
 use Rattle.lock.specs.declared.Settings.{Settings}
 use Rattle.lock.specs.rules.Unreadable.{differ}
 use Rattle.lock.specs.rules.Calls.{Tests, first_cause, settings_outside, clients_outside}
-use Rattle.lock.specs.laws.CallLaws.{cause_hit, cause_skip}
+use Rattle.lock.proofs.laws.CallLaws.{cause_hit, cause_skip}
 use Rattle.table.specs.laws.CauseLaws.{first_hits, first_passes}
 use Rattle.pages.specs.declared.Row.{Row}
 use Rattle.pages.specs.rules.Pages.{rows_of, any_unreadable, planners_tests, planners_number, page, planners_page}

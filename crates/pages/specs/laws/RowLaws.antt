@@ -8,7 +8,7 @@ use Rattle.tree.specs.rules.Tree.{Node}
 use Rattle.cover.specs.declared.Answer.{Answer}
 use Rattle.cover.specs.rules.Cover.{total}
 use Rattle.cover.specs.rules.Answer.{window_outside, accepted, answer}
-use Rattle.cover.specs.laws.Code.{window_covered, levels_right, window_right}
+use Rattle.cover.proofs.laws.Code.{window_covered, levels_right, window_right}
 use Rattle.lock.specs.declared.Client.{Client}
 use Rattle.lock.specs.declared.Record.{Record}
 use Rattle.lock.specs.declared.Settings.{Settings}
@@ -16,10 +16,10 @@ use Rattle.lock.specs.rules.Records.{cover_of, pieces}
 use Rattle.lock.specs.rules.StepCount.{step_count}
 use Rattle.lock.specs.rules.Unreadable.{unreadable}
 use Rattle.lock.specs.laws.Active.{Settled}
-use Rattle.lock.specs.laws.ActiveLaws.{active}
+use Rattle.lock.proofs.laws.ActiveLaws.{active}
 use Rattle.lock.specs.laws.PieceSteps.{pieces_steps}
-use Rattle.lock.specs.laws.SettledLaws.{shape_right}
-use Rattle.lock.specs.claim.StepCountLaws.{window_steps}
+use Rattle.lock.proofs.laws.SettledLaws.{shape_right}
+use Rattle.lock.proofs.claim.StepCountLaws.{window_steps}
 use Rattle.pages.specs.declared.Row.{Row}
 use Rattle.pages.specs.rules.Pages.{row_of, any_unreadable}
 

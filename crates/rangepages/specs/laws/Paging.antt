@@ -11,9 +11,9 @@ use Rattle.lock.specs.rules.Records.{idle_client}
 use Rattle.lock.specs.rules.Unreadable.{unreadable}
 use Rattle.lock.specs.rules.Table.{client_at, opening}
 use Rattle.lock.specs.rules.History.{AllReadable}
-use Rattle.lock.specs.laws.Accepted.{opened_accepted}
+use Rattle.lock.proofs.laws.Accepted.{opened_accepted}
 use Rattle.lock.specs.laws.Active.{Settled}
-use Rattle.lock.specs.claim.Readable.{every_readable}
+use Rattle.lock.proofs.claim.Readable.{every_readable}
 use Rattle.pages.specs.declared.Row.{Row}
 use Rattle.pages.specs.rules.Pages.{row_of, in_phase9, held_count, own_client}
 use Rattle.pages.specs.laws.Histories.{same_count}

@@ -18,7 +18,7 @@ use Rattle.lock.specs.declared.Stepped.{Stepped}
 use Rattle.lock.specs.rules.Calls.{first_cause}
 use Rattle.lock.specs.rules.Steps.{touched, access}
 use Rattle.lock.specs.rules.Operations.{operation_at, post_tests, operation_answer, completed_answer}
-use Rattle.lock.specs.laws.OperationLaws.{operation_found, completed_refused}
+use Rattle.lock.proofs.laws.OperationLaws.{operation_found, completed_refused}
 use Rattle.runs.specs.declared.CompletedAll.{CompletedAll}
 use Rattle.runs.specs.rules.Ahead.{same, Counted, nothing_more, along, ahead_of, first_number, completed_all_answer}
 use Rattle.runs.specs.laws.FirstDue.{same_itself, not_empty, first_due}

@@ -14,9 +14,9 @@ use Rattle.lock.specs.rules.Calls.{first_cause}
 use Rattle.lock.specs.rules.Operations.{post_tests}
 use Rattle.lock.specs.laws.Active.{Settled}
 use Rattle.lock.specs.laws.Placed.{Sound}
-use Rattle.lock.specs.laws.SettledLaws.{settled}
-use Rattle.lock.specs.laws.Touched.{readable}
-use Rattle.lock.specs.laws.OperationLaws.{post_tested}
+use Rattle.lock.proofs.laws.SettledLaws.{settled}
+use Rattle.lock.proofs.laws.Touched.{readable}
+use Rattle.lock.proofs.laws.OperationLaws.{post_tested}
 use Rattle.runs.specs.rules.Ahead.{ahead_in, ahead_of, ahead_answer}
 
 module _ (s : Settings) (c : Client) (clock n : ℕ) (e : n ≡ first_cause (post_tests s c clock)) where

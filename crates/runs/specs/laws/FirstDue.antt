@@ -15,16 +15,16 @@ use Rattle.lock.specs.rules.Records.{Phase, climb, notify, check, returning, pha
 use Rattle.lock.specs.rules.Unreadable.{list_length}
 use Rattle.lock.specs.rules.Steps.{touched_in, access_in, claim_access, out_of_patience}
 use Rattle.lock.specs.rules.Operations.{operation_at, post_tests, operation_answer}
-use Rattle.lock.specs.laws.Phases.{on_phase, at_idle}
-use Rattle.lock.specs.laws.Ready.{Ready, ready}
+use Rattle.lock.proofs.laws.Phases.{on_phase, at_idle}
+use Rattle.lock.proofs.laws.Ready.{Ready, ready}
 use Rattle.runs.specs.rules.Ahead.{standing, walk, gives_back, ahead_in, ahead_of, same}
 use Rattle.runs.specs.laws.OperationLists.{none_some, first_same, by_place}
 use Rattle.base.specs.laws.TestLaws.{by_test, both_true}
 use Rattle.lock.specs.declared.Client.{Client}
 use Rattle.lock.specs.rules.Calls.{first_cause}
-use Rattle.lock.specs.laws.OperationLaws.{post_tested, operation_found, patient_access}
-use Rattle.lock.specs.laws.PatienceLaws.{own_touched_lem}
-use Rattle.lock.specs.laws.SettledLaws.{settled}
+use Rattle.lock.proofs.laws.OperationLaws.{post_tested, operation_found, patient_access}
+use Rattle.lock.proofs.laws.PatienceLaws.{own_touched_lem}
+use Rattle.lock.proofs.laws.SettledLaws.{settled}
 
 -- ---- operations that are the same
 

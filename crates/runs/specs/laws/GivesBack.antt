@@ -16,7 +16,7 @@ use Rattle.lock.specs.declared.Settings.{Settings}
 use Rattle.lock.specs.rules.Records.{returning, phase_of, pieces, piece_at, grip_of, notices_of, with_giving, with_place}
 use Rattle.lock.specs.rules.Unreadable.{list_length}
 use Rattle.lock.specs.laws.Placed.{Placed}
-use Rattle.lock.specs.laws.Pieces.{few_pieces, grip_after}
+use Rattle.lock.proofs.laws.Pieces.{few_pieces, grip_after}
 use Rattle.runs.specs.rules.Ahead.{standing, walk, gives_back, ahead_in}
 use Rattle.runs.specs.laws.Standing.{no_operation, standing_at, stands_in, walk_count, walk_at}
 

@@ -7,8 +7,8 @@ use native.Mathlib.Omega.{arith}
 use Rattle.base.specs.rules.Choice.{choose}
 use Rattle.base.specs.laws.ChoiceLaws.{by_lt}
 use Rattle.tree.specs.rules.Lists.{ancestors, notify_list, check_list, row}
-use Rattle.tree.specs.laws.Ancestors.{ancestors_count}
-use Rattle.tree.specs.laws.Code.{bounded}
+use Rattle.tree.proofs.laws.Ancestors.{ancestors_count}
+use Rattle.tree.proofs.laws.Code.{bounded}
 use Rattle.lock.specs.declared.Operation.{Operation}
 use Rattle.lock.specs.declared.Record.{Record}
 use Rattle.lock.specs.declared.Settings.{Settings}
@@ -17,10 +17,11 @@ use Rattle.lock.specs.rules.Unreadable.{list_length}
 use Rattle.lock.specs.rules.Steps.{none, touched_in, access_in, claim_access, return_access, own_word_access}
 use Rattle.lock.specs.rules.Operations.{operation_at}
 use Rattle.lock.specs.laws.Active.{Settled}
-use Rattle.lock.specs.laws.Placed.{Placed, pieced}
-use Rattle.lock.specs.laws.Pieces.{notices_before, notices_current}
-use Rattle.lock.specs.laws.PieceSteps.{claim_few}
-use Rattle.lock.specs.laws.StepLaws.{check_small}
+use Rattle.lock.specs.laws.Placed.{Placed}
+use Rattle.lock.proofs.laws.Placed.{pieced}
+use Rattle.lock.proofs.laws.Pieces.{notices_before, notices_current}
+use Rattle.lock.proofs.laws.PieceSteps.{claim_few}
+use Rattle.lock.proofs.laws.StepLaws.{check_small}
 use Rattle.runs.specs.rules.Ahead.{standing, walk}
 
 abbrev pub no_operation : Operation

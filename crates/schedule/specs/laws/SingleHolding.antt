@@ -4,7 +4,7 @@ use Rattle.std.specs.Prelude.{◌≡◌, refl, List, ◌∷◌, ◌++◌, ℕ, s
 use Rattle.lock.specs.declared.Settings.{Settings}
 use Rattle.lock.specs.rules.Table.{State, Call, client_of, record_at, call}
 use Rattle.lock.specs.rules.History.{event, Demand3}
-use Rattle.lock.specs.claim.Demand3.{demand_3}
+use Rattle.lock.proofs.claim.Demand3.{demand_3}
 use Rattle.schedule.specs.rules.Format.{settings_in, clients_in, calls_from, lent_for}
 use Rattle.schedule.specs.rules.Running.{opening_in}
 use Rattle.schedule.specs.rules.Log.{line, lines}

@@ -3,7 +3,7 @@ use Rattle.std.proofs.Common.{◌≡◌, ◌<◌, ℕ, List, length, sym, ap, �
 use lib.ListN.{set}
 use Rattle.lock.specs.declared.Client.{Client}
 use Rattle.lock.specs.declared.Settings.{Settings}
-use Rattle.lock.specs.laws.ByKind.{client_of_kind}
+use Rattle.lock.proofs.laws.ByKind.{client_of_kind}
 use Rattle.lock.specs.rules.ByValue.{call_of}
 use Rattle.lock.specs.rules.Table.{client_at}
 use Rattle.table.specs.rules.Lent.{left_with}

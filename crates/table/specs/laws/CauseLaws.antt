@@ -10,7 +10,7 @@ use Rattle.base.specs.laws.ChoiceLaws.{choose_le, choose_gt}
 use Rattle.lock.specs.declared.Settings.{Settings}
 use Rattle.lock.specs.rules.Calls.{Tests, first_cause, tree_tests, clients_outside, client_tests}
 use Rattle.lock.specs.rules.Table.{opening_number}
-use Rattle.lock.specs.laws.CallLaws.{TreeTested, tree_passed, cause_hit, cause_skip}
+use Rattle.lock.proofs.laws.CallLaws.{TreeTested, tree_passed, cause_hit, cause_skip}
 use Rattle.table.specs.laws.Causes.{table_cause}
 
 -- ---- a chain behind another

@@ -3,7 +3,7 @@ use Rattle.std.specs.Prelude.{◌≡◌, true, false, ℕ}
 use Rattle.std.proofs.Common.{sym, ◌∙◌}
 use Rattle.base.specs.rules.Choice.{choose}
 use Rattle.tree.specs.rules.Tree.{last}
-use Rattle.tree.specs.laws.Level.{word_count_lem}
+use Rattle.tree.proofs.laws.Level.{word_count_lem}
 use Rattle.cover.specs.rules.Answer.{levels_outside}
 use Rattle.table.specs.rules.Wanted.{words_wanted}
 

@@ -5,9 +5,9 @@ use native.Mathlib.Omega.{arith}
 use Rattle.lock.specs.declared.Operation.{Operation}
 use Rattle.lock.specs.declared.Stepped.{Stepped}
 use Rattle.lock.specs.rules.Operations.{completed_answer}
-use Rattle.lock.specs.laws.OperationLaws.{post_tested}
-use Rattle.lock.specs.laws.SettledLaws.{settled}
-use Rattle.lock.specs.laws.Touched.{readable}
+use Rattle.lock.proofs.laws.OperationLaws.{post_tested}
+use Rattle.lock.proofs.laws.SettledLaws.{settled}
+use Rattle.lock.proofs.laws.Touched.{readable}
 use Rattle.runs.specs.rules.Ahead.{same}
 use Rattle.runs.specs.laws.AlongLaws.{not_same, not_taken, is_taken, passed, its_operation}
 use borrow.Author.Rules.{rules}

@@ -4,9 +4,9 @@ use Prim.Native.Nat.{ℕ}
 use native.Mathlib.Omega.{arith}
 use lib.ListN.{length}
 use Rattle.lock.specs.rules.Records as P
-use Rattle.lock.specs.laws.SettledLaws.{settled}
-use Rattle.lock.specs.laws.Touched.{readable}
-use Rattle.lock.specs.laws.OperationLaws.{post_tested}
+use Rattle.lock.proofs.laws.SettledLaws.{settled}
+use Rattle.lock.proofs.laws.Touched.{readable}
+use Rattle.lock.proofs.laws.OperationLaws.{post_tested}
 use Rattle.runs.specs.laws.GivesBack.{left}
 use Rattle.runs.specs.laws.AnswerLaws.{none_refused, none_impatient, found_patient, answer_by}
 use borrow.Author.Rules.{rules}

@@ -7,7 +7,7 @@ use Rattle.tree.specs.rules.Tree.{Node}
 use Rattle.tree.specs.rules.Lists.{notify_list}
 use Rattle.lock.specs.rules.Records as P
 use Rattle.lock.specs.rules.Unreadable.{list_length}
-use Rattle.lock.specs.laws.Placed.{pieced}
+use Rattle.lock.proofs.laws.Placed.{pieced}
 use Rattle.runs.specs.laws.Standing.{list_short}
 use Rattle.runs.specs.laws.AheadLaws.{leaf_count, inner_count}
 use borrow.Author.Rules.{rules}

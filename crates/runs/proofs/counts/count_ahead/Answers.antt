@@ -7,8 +7,8 @@ use Rattle.tree.specs.rules.Tree.{Node}
 use Rattle.tree.specs.rules.Lists.{notify_list, check_list}
 use Rattle.lock.specs.rules.Records.{Phase}
 use Rattle.lock.specs.rules.Records as P
-use Rattle.lock.specs.laws.Placed.{pieced, sound_placed}
-use Rattle.lock.specs.laws.Phases.{at_claim, at_returning}
+use Rattle.lock.proofs.laws.Placed.{pieced, sound_placed}
+use Rattle.lock.proofs.laws.Phases.{at_claim, at_returning}
 use Rattle.runs.specs.rules.Ahead.{ahead_in}
 use Rattle.runs.specs.laws.AheadLaws.{notify_length, check_length, none_length}
 use borrow.Author.Rules.{rules}

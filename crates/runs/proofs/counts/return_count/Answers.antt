@@ -5,8 +5,8 @@ use native.Mathlib.Omega.{arith}
 use native.Mathlib.Numerals.{add-one}
 use lib.ListN.{length}
 use Rattle.lock.specs.rules.Records as P
-use Rattle.lock.specs.laws.Placed.{pieced}
-use Rattle.lock.specs.laws.Pieces.{few_pieces}
+use Rattle.lock.proofs.laws.Placed.{pieced}
+use Rattle.lock.proofs.laws.Pieces.{few_pieces}
 use Rattle.runs.specs.laws.GivesBack.{gripped_begun, last_count, both_count, left}
 use Rattle.runs.specs.laws.Standing.{notices_few}
 use borrow.Author.Rules.{rules}

@@ -7,8 +7,8 @@ use lib.ListN.{length}
 use Rattle.base.specs.rules.Choice.{choose}
 use Rattle.lock.specs.rules.Records.{phase_of}
 use Rattle.lock.specs.rules.Records as P
-use Rattle.lock.specs.laws.Placed.{pieced}
-use Rattle.lock.specs.laws.Pieces.{few_pieces}
+use Rattle.lock.proofs.laws.Placed.{pieced}
+use Rattle.lock.proofs.laws.Pieces.{few_pieces}
 use Rattle.runs.specs.rules.Ahead.{standing}
 use Rattle.runs.specs.laws.GivesBack.{left, front_at, front_stands, back_at_by, back_stands_by}
 use Rattle.runs.specs.laws.Standing.{notices_few}

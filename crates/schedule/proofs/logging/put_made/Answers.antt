@@ -1,5 +1,5 @@
 -- `schedule::logging::put_made` meets its contract. Assumes nothing.
-use Rattle.lock.specs.laws.ByKind.{client_of_kind}
+use Rattle.lock.proofs.laws.ByKind.{client_of_kind}
 use Rattle.schedule.specs.laws.Appended.{restated}
 use Rattle.schedule.specs.laws.FormatLaws.{call_read}
 use Rattle.schedule.specs.laws.Writing.{line_in}

@@ -3,8 +3,8 @@ use mathlib.Core.Path.{sym, ap, ◌∙◌}
 use Prim.Native.Nat.{suc}
 use native.Mathlib.Omega.{arith}
 use Rattle.tree.specs.rules.Tree.{last, word_count}
-use Rattle.tree.specs.laws.Climb.{first_mono, first_closed}
-use Rattle.tree.specs.laws.Level.{word_count_lem}
+use Rattle.tree.proofs.laws.Climb.{first_mono, first_closed}
+use Rattle.tree.proofs.laws.Level.{word_count_lem}
 use borrow.Author.Rules.{rules}
 use Rattle.schedule.proofs.running.word_count.Goals as goal
 

@@ -1,7 +1,7 @@
 -- `schedule::text::put_kind` meets its contract. Assumes nothing.
 use mathlib.Core.Path.{sym, ap}
 use Rattle.schedule.specs.laws.Appended.{restated}
-use Rattle.lock.specs.laws.ByKind.{kind_request, kind_step, kind_release, kind_cancel}
+use Rattle.lock.proofs.laws.ByKind.{kind_request, kind_step, kind_release, kind_cancel}
 use Rattle.schedule.specs.rules.Log.{kind_text}
 use borrow.Author.Rules.{rules}
 use Rattle.schedule.proofs.text.put_kind.Goals as goal

@@ -1,6 +1,6 @@
 -- `schedule::text::put_line` meets its contract. Assumes nothing.
 use native.Mathlib.Omega.{arith}
-use Rattle.lock.specs.laws.ByKind.{client_of_kind}
+use Rattle.lock.proofs.laws.ByKind.{client_of_kind}
 use Rattle.schedule.specs.laws.Appended.{joined, restated}
 use Rattle.schedule.specs.laws.Writing.{line_of_lem}
 use borrow.Author.Rules.{rules}

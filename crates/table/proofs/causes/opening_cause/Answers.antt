@@ -1,6 +1,6 @@
 -- `table::causes::opening_cause` meets its contract. Assumes nothing.
 use mathlib.Core.Path.{sym, ◌∙◌}
-use Rattle.lock.specs.laws.CallLaws.{cause_tested}
+use Rattle.lock.proofs.laws.CallLaws.{cause_tested}
 use Rattle.table.specs.laws.CauseLaws.{opening_tree, opening_clients, opening_passed}
 use borrow.Author.Rules.{rules}
 use Rattle.table.proofs.causes.opening_cause.Goals as goal
