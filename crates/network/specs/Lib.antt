@@ -1,4 +1,1 @@
-pub mod claim
-pub mod examples
-pub mod laws
 pub mod rules

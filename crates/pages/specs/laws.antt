@@ -1,8 +1,2 @@
-pub mod CauseLaws
 pub mod Causes
-pub mod CountLaws
-pub mod Histories
-pub mod Isolation
-pub mod PlannersLaws
-pub mod RowLaws
 pub mod RunLaws

@@ -13,7 +13,7 @@ use Rattle.pages.specs.declared.Row.{Row}
 use Rattle.pages.specs.declared.RunPage.{RunPage}
 use Rattle.pages.specs.rules.Pages.{row_of, rows_of, page, planners_page, held_count, own_client, run_page}
 use Rattle.pages.specs.laws.RunLaws.{accepted_page}
-use Rattle.pages.specs.laws.Histories.{planners_given, run_given}
+use Rattle.pages.proofs.laws.Histories.{planners_given, run_given}
 use Rattle.schedule.specs.rules.Format.{settings_in, clients_in, calls_in, lent_for}
 use Rattle.schedule.specs.rules.Running.{opening_in, after_calls}
 use Rattle.schedule.specs.rules.Refusal.{refusal, unless_refused}

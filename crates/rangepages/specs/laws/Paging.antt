@@ -16,8 +16,8 @@ use Rattle.lock.specs.laws.Active.{Settled}
 use Rattle.lock.proofs.claim.Readable.{every_readable}
 use Rattle.pages.specs.declared.Row.{Row}
 use Rattle.pages.specs.rules.Pages.{row_of, in_phase9, held_count, own_client}
-use Rattle.pages.specs.laws.Histories.{same_count}
-use Rattle.pages.specs.laws.CountLaws.{phase_9_most, held_most}
+use Rattle.pages.proofs.laws.Histories.{same_count}
+use Rattle.pages.proofs.laws.CountLaws.{phase_9_most, held_most}
 use Rattle.schedule.specs.declared.Run.{Run}
 use Rattle.schedule.specs.rules.Format.{settings_in, clients_in, calls_in, lent_for}
 use Rattle.schedule.specs.rules.Running.{opening_in, after_calls}

@@ -1,7 +1,7 @@
 -- `pages::counts::any_unreadable` meets its contract: one client more is asked in a turn. Assumes nothing.
 use Rattle.std.proofs.Common.{◌≡◌, refl, ap, ◌∙◌, Bool, ◌||◌, take, arith}
 use Rattle.pages.specs.rules.Pages.{any_unreadable}
-use Rattle.pages.specs.laws.CountLaws.{unreadable_one, any_next}
+use Rattle.pages.proofs.laws.CountLaws.{unreadable_one, any_next}
 use Rattle.pages.proofs.counts.any_unreadable.Goals as goal
 
 pub loop-client-init : goal.loop-client-init

@@ -6,8 +6,8 @@ use Rattle.lock.specs.laws.Active.{Settled}
 use Rattle.pages.specs.declared.Row.{Row}
 use Rattle.pages.specs.rules.Pages.{page}
 use Rattle.pages.specs.laws.Causes.{planners_cause}
-use Rattle.pages.specs.laws.CauseLaws.{planners_tested}
-use Rattle.pages.specs.laws.PlannersLaws.{planners_refuses, planners_unreadable, planners_takes}
+use Rattle.pages.proofs.laws.CauseLaws.{planners_tested}
+use Rattle.pages.proofs.laws.PlannersLaws.{planners_refuses, planners_unreadable, planners_takes}
 use Rattle.pages.proofs.planners.nolthewyr_planners_page.Goals as goal
 
 none : (s : Settings) (rows clients n : ℕ) → n ≡ planners_cause s rows clients → n ≤ 0 → planners_cause s rows clients ≡ 0

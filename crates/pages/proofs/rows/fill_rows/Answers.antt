@@ -5,7 +5,7 @@ use Rattle.lock.specs.declared.Client.{Client}
 use Rattle.lock.specs.declared.Settings.{Settings}
 use Rattle.pages.specs.declared.Row.{Row}
 use Rattle.pages.specs.rules.Pages.{row_of, rows_of}
-use Rattle.pages.specs.laws.RowLaws.{each_readable}
+use Rattle.pages.proofs.laws.RowLaws.{each_readable}
 use Rattle.table.proofs.Mapped.{mapped, mapped_length, mapped_none, mapped_next, mapped_all}
 use Rattle.pages.proofs.rows.fill_rows.Goals as goal
 

@@ -1,5 +1,5 @@
 -- `pages::rows::row_of` meets its contract. Assumes nothing.
-use Rattle.pages.specs.laws.RowLaws.{row_idle, answer_steps, row_active}
+use Rattle.pages.proofs.laws.RowLaws.{row_idle, answer_steps, row_active}
 use borrow.Author.Rules.{rules}
 use Rattle.pages.proofs.rows.row_of.Goals as goal
 

@@ -2,8 +2,9 @@
 use Rattle.std.proofs.Common.{◌≡◌, ◌≤◌, ◌<◌, ℕ, List, length, sym, ap, ◌∙◌, arith, rules}
 use Rattle.lock.specs.declared.Settings.{Settings}
 use Rattle.pages.specs.laws.Causes.{run_cause}
-use Rattle.pages.specs.laws.CauseLaws.{run_tested}
-use Rattle.pages.specs.laws.RunLaws.{own_page, run_refuses, run_takes}
+use Rattle.pages.proofs.laws.CauseLaws.{run_tested}
+use Rattle.pages.specs.laws.RunLaws.{own_page}
+use Rattle.pages.proofs.laws.RunLaws.{run_refuses, run_takes}
 use Rattle.pages.proofs.run.nolthewyr_run_page.Goals as goal
 
 none : (s : Settings) (clients client n : ℕ) → n ≡ run_cause s clients client → n ≤ 0 → run_cause s clients client ≡ 0

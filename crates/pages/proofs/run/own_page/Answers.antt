@@ -1,7 +1,7 @@
 -- `pages::run::own_page` meets its contract. Assumes nothing.
 use mathlib.Core.Path.{sym, ◌∙◌}
 use borrow.Author.Rules.{rules}
-use Rattle.pages.specs.laws.RunLaws.{own_refused, own_accepted}
+use Rattle.pages.proofs.laws.RunLaws.{own_refused, own_accepted}
 use Rattle.pages.proofs.run.own_page.Goals as goal
 
 pub returns-then-unreadable : goal.returns-then-unreadable

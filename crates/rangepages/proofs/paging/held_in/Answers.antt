@@ -7,7 +7,7 @@ use lib.ListN.{take}
 use Rattle.lock.specs.declared.Client.{Client}
 use Rattle.lock.specs.rules.Records.{idle_client}
 use Rattle.pages.specs.rules.Pages.{in_phase9, held_count}
-use Rattle.pages.specs.laws.CountLaws.{held_next}
+use Rattle.pages.proofs.laws.CountLaws.{held_next}
 use Rattle.schedule.specs.laws.RunLaws.{clients_of}
 use Rattle.rangepages.specs.laws.Paging.{held_few}
 use lib.Seq.{take_all}

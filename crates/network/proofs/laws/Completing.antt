@@ -19,7 +19,7 @@ use Rattle.runs.specs.rules.Ahead.{ahead_in, ahead_of}
 use Rattle.lock.proofs.laws.PatienceLaws.{out_of_patience_lem}
 use Rattle.network.specs.rules.Clocks.{claims, completing}
 use Rattle.network.specs.rules.Network.{same_list}
-use Rattle.network.specs.laws.SameOperation.{list_itself}
+use Rattle.network.proofs.laws.SameOperation.{list_itself}
 
 -- a clock that does not go back tells only whether patience has run out
 same_list_lem : (s : Settings) (c : Client) (p u : ℕ) → c.clock ≤ p → c.clock ≤ u → out_of_patience s c.«record» p ≡ out_of_patience s c.«record» u → same_list (ahead_of s c p) (ahead_of s c u) ≡ true

@@ -14,8 +14,8 @@ use Rattle.lock.specs.rules.History.{run}
 use Rattle.runs.specs.rules.Ahead.{ahead_of}
 use Rattle.network.specs.rules.Clocks.{claims, completing, ClocksRead}
 use Rattle.network.specs.rules.Network.{Flight, free, flying, Run, Network, run_at, client_on, with_run, started, Act, own, post, carry, complete, same_list, asks, posts, between, carries, completes, act, calls_of}
-use Rattle.network.specs.laws.ReadOnce.{Moments}
-use Rattle.network.specs.laws.Shown.{set_past}
+use Rattle.network.proofs.laws.ReadOnce.{Moments}
+use Rattle.network.proofs.laws.Shown.{set_past}
 
 -- ---- the moments of the calls of an act
 

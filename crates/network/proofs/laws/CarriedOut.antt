@@ -20,10 +20,10 @@ use Rattle.runs.specs.laws.FirstDue.{not_empty, first_due, same_itself, same_equ
 use Rattle.runs.specs.rules.Ahead.{ahead_of, same, Counted, nothing_more, one_more, along}
 use Rattle.network.specs.rules.Clocks.{claims}
 use Rattle.runs.specs.laws.AlongLaws.{no_words}
-use Rattle.network.specs.laws.Counted.{due, after, along_one, along_on, along_stopped}
-use Rattle.network.specs.laws.Leading.{Alike}
+use Rattle.network.proofs.laws.Counted.{due, after, along_one, along_on, along_stopped}
+use Rattle.network.proofs.laws.Leading.{Alike}
 use Rattle.runs.specs.laws.OperationLists.{Leads, Reads, joined}
-use Rattle.network.specs.laws.Underway.{then, read_unclaimed}
+use Rattle.network.proofs.laws.Underway.{then, read_unclaimed}
 
 reads_front : (os rest : List Operation) → Reads (os ++ rest) → Reads os
 unfolding Reads

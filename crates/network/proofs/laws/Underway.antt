@@ -24,8 +24,8 @@ use Rattle.lock.proofs.laws.SettledLaws.{settled}
 use Rattle.runs.specs.laws.FirstDue.{NotEmpty, ahead_is, is_ready}
 use Rattle.runs.specs.rules.Ahead.{ahead_in, ahead_of}
 use Rattle.network.specs.rules.Clocks.{claims}
-use Rattle.network.specs.laws.Behind.{behind}
-use Rattle.network.specs.laws.Leading.{Alike}
+use Rattle.network.proofs.laws.Behind.{behind}
+use Rattle.network.proofs.laws.Leading.{Alike}
 use Rattle.runs.specs.laws.OperationLists.{Leads, Reads, none_some}
 
 module _ (s : Settings) (c : Client) (u : ℕ) (o : Operation) (l : List Operation) (v : NotEmpty s c u o l) where

@@ -26,12 +26,12 @@ use Rattle.lock.proofs.claim.Keeping.{run_keeps}
 use Rattle.lock.proofs.claim.Parts.{parts_of, record_at_lem}
 use Rattle.network.specs.rules.Clocks.{claims, completing, OwnRead, ClocksRead, moment_after, InTime}
 use Rattle.network.specs.rules.Network.{Flight, free, flying, Network, run_at, client_on, Act, own, post, carry, complete, own_calls, touches_none, between, act, asked_by, counts, carried_by, calls_of, history_of, shown}
-use Rattle.network.specs.laws.ActLaws.{Fair, Kept, act_kept, act_shown}
-use Rattle.network.specs.laws.CarryLaws.{outcome, is_seen, counting_counts, dropped_counts}
-use Rattle.network.specs.laws.CarriedOut.{Underway, Counting}
-use Rattle.network.specs.laws.Leading.{Alike}
-use Rattle.network.specs.laws.ReadOnce.{Moments, ReadOne, EachRead, each_earlier}
-use Rattle.network.specs.laws.InTimeLaws.{reading_of, moments_by, moments_of, moments_in, ReadFlight, AllRead, act_read}
+use Rattle.network.proofs.laws.ActLaws.{Fair, Kept, act_kept, act_shown}
+use Rattle.network.proofs.laws.CarryLaws.{outcome, is_seen, counting_counts, dropped_counts}
+use Rattle.network.proofs.laws.CarriedOut.{Underway, Counting}
+use Rattle.network.proofs.laws.Leading.{Alike}
+use Rattle.network.proofs.laws.ReadOnce.{Moments, ReadOne, EachRead, each_earlier}
+use Rattle.network.proofs.laws.InTimeLaws.{reading_of, moments_by, moments_of, moments_in, ReadFlight, AllRead, act_read}
 
 -- ---- whether a record claims
 

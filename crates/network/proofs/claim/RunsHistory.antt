@@ -16,11 +16,11 @@ use Rattle.lock.proofs.claim.Start.{opening_invariant}
 use Rattle.lock.proofs.claim.Demand3.{records_apart, read_apart_holding, records_clean}
 use Rattle.network.specs.rules.Clocks.{TrueClock, InTime}
 use Rattle.network.specs.rules.Network.{Network, free, run_at, client_on, started, Act, act, acts, calls_of, history_of, HoldsOwn, IdleOwn, shown}
-use Rattle.network.specs.laws.CallsInTime.{acts_read}
-use Rattle.network.specs.laws.InTimeLaws.{moments_in, started_read}
-use Rattle.network.specs.laws.ReadOnce.{Moments, moments_at, EachRead, read_apart}
-use Rattle.network.specs.laws.Shown.{shown_free, shown_started, shown_held, started_counts}
-use Rattle.network.specs.laws.ActLaws.{Kept, act_kept, act_shown, started_fair}
+use Rattle.network.proofs.laws.CallsInTime.{acts_read}
+use Rattle.network.proofs.laws.InTimeLaws.{moments_in, started_read}
+use Rattle.network.proofs.laws.ReadOnce.{Moments, moments_at, EachRead, read_apart}
+use Rattle.network.proofs.laws.Shown.{shown_free, shown_started, shown_held, started_counts}
+use Rattle.network.proofs.laws.ActLaws.{Kept, act_kept, act_shown, started_fair}
 
 run_on : (s : Settings) (st : State) (ks js : List Call) → run s st (ks ++ js) ≡ run s (run s st ks) js
 unfolding run

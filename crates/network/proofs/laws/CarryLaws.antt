@@ -31,10 +31,10 @@ use Rattle.lock.proofs.claim.Invariant.{Invariant}
 use Rattle.lock.proofs.laws.OperationLaws.{kind_leaves, operation_found, cause_0}
 use Rattle.runs.specs.rules.Ahead.{completed_all_answer}
 use Rattle.network.specs.rules.Network.{Flight, free, flying, Run, Network, run_at, client_on, with_run, counts, seen_by, seen, shown}
-use Rattle.network.specs.laws.CarriedOut.{seen_after, Underway, sofar, Counting, Dropped, carried_out}
-use Rattle.network.specs.laws.Shown.{shown_flying, shown_with}
-use Rattle.network.specs.laws.StepByOperation.{node_at, written_same}
-use Rattle.network.specs.laws.OnState.{unchanged, carried, passed, inside}
+use Rattle.network.proofs.laws.CarriedOut.{seen_after, Underway, sofar, Counting, Dropped, carried_out}
+use Rattle.network.proofs.laws.Shown.{shown_flying, shown_with}
+use Rattle.network.proofs.laws.StepByOperation.{node_at, written_same}
+use Rattle.network.proofs.laws.OnState.{unchanged, carried, passed, inside}
 
 -- ---- what is in flight
 

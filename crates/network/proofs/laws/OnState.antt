@@ -20,8 +20,8 @@ use Rattle.table.specs.laws.CauseLaws.{both_none, table_client, table_passed}
 use Rattle.table.specs.laws.CallLaws.{set_same, table_refuses, table_takes}
 use Rattle.network.specs.rules.ByOperation.{by_operation}
 use Rattle.network.specs.rules.Network.{Network, counts, seen, shown}
-use Rattle.network.specs.laws.Shown.{set_past}
-use Rattle.network.specs.laws.StepByOperation.{step_by_operation}
+use Rattle.network.proofs.laws.Shown.{set_past}
+use Rattle.network.proofs.laws.StepByOperation.{step_by_operation}
 
 -- ---- the calls that touch no word, by value and on lent words
 

@@ -27,7 +27,7 @@ use Rattle.lock.proofs.laws.Ready.{Ready}
 use Rattle.runs.specs.rules.Ahead.{standing, walk, gives_back, ahead_in}
 use Rattle.network.specs.rules.Clocks.{claims}
 use Rattle.runs.specs.laws.OperationLists.{Leads, Reads, none_some, rest_same, reads_rest, nothing_behind, joined, past_place}
-use Rattle.network.specs.laws.Leading.{Onward, Behind, reads_climb, reads_check, read_behind, claim_behind, notify_behind}
+use Rattle.network.proofs.laws.Leading.{Onward, Behind, reads_climb, reads_check, read_behind, claim_behind, notify_behind}
 
 -- 10: what more pieces would add stands behind
 back_longer : (s : Settings) (count : ℕ) (q : Record) → Leads (gives_back count s q) (gives_back (suc count) s q)

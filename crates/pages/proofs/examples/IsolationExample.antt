@@ -20,7 +20,7 @@ use Rattle.lock.specs.rules.History.{run}
 use Rattle.lock.proofs.examples.HistoryExample.{settings, fresh}
 use Rattle.pages.specs.declared.RunPage.{RunPage}
 use Rattle.pages.specs.rules.Pages.{any_unreadable, in_phase9, held_count, own_client, run_tests, run_number, run_page}
-use Rattle.pages.specs.laws.Isolation.{isolation}
+use Rattle.pages.proofs.laws.Isolation.{isolation}
 
 -- ---- the histories, with the settings of lock's HistoryExample.antt and two clients
 

@@ -19,9 +19,10 @@ use Rattle.lock.proofs.claim.HistoryRecord.{count_run}
 use Rattle.lock.proofs.claim.Readable.{every_readable}
 use Rattle.pages.specs.declared.Row.{Row}
 use Rattle.pages.specs.rules.Pages.{rows_of, any_unreadable, planners_tests, planners_number, page, planners_page, held_count, own_client, run_tests, run_number, run_page}
-use Rattle.pages.specs.laws.CauseLaws.{planners_passed, run_passed}
-use Rattle.pages.specs.laws.PlannersLaws.{planners_takes}
-use Rattle.pages.specs.laws.RunLaws.{refused_page, accepted_page, own_page, run_takes}
+use Rattle.pages.proofs.laws.CauseLaws.{planners_passed, run_passed}
+use Rattle.pages.proofs.laws.PlannersLaws.{planners_takes}
+use Rattle.pages.specs.laws.RunLaws.{refused_page, accepted_page, own_page}
+use Rattle.pages.proofs.laws.RunLaws.{run_takes}
 
 none_unreadable : (s : Settings) (cs : List Client) → ((i : ℕ) → unreadable s (own_client cs i).«record» (own_client cs i).clock ≡ false) → any_unreadable s cs ≡ false
 unfolding any_unreadable

@@ -25,12 +25,12 @@ use Rattle.table.specs.laws.CauseLaws.{table_client}
 use Rattle.table.specs.laws.CallLaws.{table_refuses}
 use Rattle.runs.specs.rules.Ahead.{ahead_of, Counted, completed_all_answer}
 use Rattle.network.specs.rules.Network.{Flight, free, flying, Run, Network, run_at, client_on, with_run, started, Act, own, post, carry, complete, touches_none, own_next, own_calls, same_list, asks, posts, between, carries, completes, act, asked_by, counts, carried_by, calls_of, seen_by, shown}
-use Rattle.network.specs.laws.CarriedOut.{Underway, begun}
+use Rattle.network.proofs.laws.CarriedOut.{Underway, begun}
 use Rattle.runs.specs.laws.AlongLaws.{no_words}
-use Rattle.network.specs.laws.SameOperation.{lists_equal}
-use Rattle.network.specs.laws.Shown.{set_past, shown_free, shown_flying, shown_with, written_count}
-use Rattle.network.specs.laws.CarryLaws.{outcome, out_shown}
-use Rattle.network.specs.laws.OnState.{request_same, release_same, cancel_same, unchanged, quiet, carried, passed, inside, count}
+use Rattle.network.proofs.laws.SameOperation.{lists_equal}
+use Rattle.network.proofs.laws.Shown.{set_past, shown_free, shown_flying, shown_with, written_count}
+use Rattle.network.proofs.laws.CarryLaws.{outcome, out_shown}
+use Rattle.network.proofs.laws.OnState.{request_same, release_same, cancel_same, unchanged, quiet, carried, passed, inside, count}
 use Rattle.base.specs.laws.Sum.{on_set}
 use Rattle.base.specs.laws.TestLaws.{test_true}
 

@@ -1,0 +1,7 @@
+pub mod CauseLaws
+pub mod CountLaws
+pub mod Histories
+pub mod Isolation
+pub mod PlannersLaws
+pub mod RowLaws
+pub mod RunLaws
