@@ -12,7 +12,7 @@ use Rattle.word.specs.rules.Word.{occ, tcnt, dcnt, dmax, take_bits}
 use Rattle.word.proofs.laws.Fields.{field_lt}
 use Rattle.word.proofs.laws.Leaf.{wanted_lt}
 use Rattle.word.proofs.laws.Swap.{take_done}
-use Rattle.tree.specs.rules.Tree.{climb, first, left, level, Above, Holds, Node}
+use Rattle.tree.specs.rules.Tree.{climb, left, level, Above, Holds, Node}
 use Rattle.tree.specs.rules.Lists.{ancestor, ancestors, notify_list, check_list}
 use Rattle.tree.proofs.laws.Climb.{climb_add, left_pos}
 use Rattle.tree.proofs.laws.Level.{climb_level}

@@ -5,7 +5,7 @@ use Rattle.base.specs.laws.Sum.{sum_zero}
 use Rattle.base.specs.laws.Tickets.{none_own}
 use Rattle.word.proofs.laws.Fields.{field_lt}
 use Rattle.word.proofs.laws.Bits.{bit_zero, bits_ext}
-use Rattle.tree.specs.rules.Tree.{leaf, level, Node}
+use Rattle.tree.specs.rules.Tree.{level, Node}
 use Rattle.lock.specs.declared.Settings.{Settings}
 use Rattle.lock.specs.rules.Records.{word_at}
 use Rattle.lock.specs.rules.History.{CleanInner, Clean}

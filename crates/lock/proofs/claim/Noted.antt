@@ -9,7 +9,6 @@ use Rattle.lock.specs.declared.Settings.{Settings}
 use Rattle.lock.specs.rules.Records.{current_piece}
 use Rattle.lock.specs.rules.History.{Event, StepAt}
 use Rattle.lock.specs.rules.Readings.{RequestAt, NotSlow, NotFast, LateAt}
-use Rattle.lock.proofs.claim.InnerWords.{nobody}
 use Rattle.lock.proofs.claim.Parts.{Parts, record_in}
 use Rattle.lock.proofs.claim.Stage.{passing, checked_stage}
 use Rattle.lock.proofs.claim.Timed.{Timed}

@@ -32,7 +32,6 @@ use Rattle.lock.specs.laws.PieceSteps.{piece_steps, cover_steps}
 use Rattle.lock.proofs.laws.PieceSteps.{steps_few}
 use Rattle.lock.proofs.laws.Progress.{made, all_steps, Going, made_at, start_made}
 use Rattle.lock.proofs.laws.PromptLaws.{Prompt, prompt_begun}
-use Rattle.lock.proofs.laws.Ready.{ready}
 use Rattle.lock.proofs.laws.SettledLaws.{in_range}
 use Rattle.lock.proofs.laws.ShortPatience.{Unwaited, Waits, unwaited_first}
 use Rattle.lock.proofs.laws.StepsLeft.{all_cover}

@@ -1,5 +1,5 @@
 -- Law: a step of a claim or a notice after which the piece is still claimed and not checked. It keeps t1, and it goes to the wait only from the root's claim, or from a last notice that is in time. Assumes nothing.
-use Rattle.std.specs.Prelude.{◌≡◌, ◌⊎◌, not, ℕ, suc, ◌+◌, ◌≤◌, ◌<◌, eqb, ltb, length}
+use Rattle.std.specs.Prelude.{◌≡◌, ◌⊎◌, ℕ, suc, ◌+◌, ◌≤◌, ◌<◌, eqb, ltb, length}
 use Rattle.std.proofs.Math.Path.{refl, subst}
 use Rattle.std.proofs.Common.{sym, ⊎_elim, arith}
 use Rattle.std.proofs.Math.Logic.{inl, inr}
@@ -11,7 +11,7 @@ use Rattle.word.specs.rules.Word.{take_bits}
 use Rattle.lock.specs.declared.Moved.{Moved}
 use Rattle.lock.specs.declared.Record.{Record}
 use Rattle.lock.specs.declared.Settings.{Settings}
-use Rattle.lock.specs.rules.Records.{Phase, claim, current_piece, is_leaf, is_root, pieces, piece_at, to_phase, with_notices}
+use Rattle.lock.specs.rules.Records.{Phase, current_piece, is_leaf, is_root, pieces, piece_at, to_phase, with_notices}
 use Rattle.lock.specs.rules.Steps.{wanted, start_phase, begin, first_noted, taken, bits_claimed, occ_claimed, late, all_notified, notice_given, moved}
 use Rattle.lock.proofs.laws.LateLaws.{not_late}
 use Rattle.lock.proofs.laws.Phases.{at_claim, at_notify}

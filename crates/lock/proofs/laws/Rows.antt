@@ -1,5 +1,4 @@
--- The rows of the phase table as the code and the claim meet them: what a step leaves at the touched node, and the next record, in one. That this is the step of the rules, its operation applied and
--- completed, is `moved_row`. Assumes nothing.
+-- Laws of the rows of the phase table (specs/laws/Rows.antt): each is its operation, applied, and its completion. That it is the step of the rules is `moved_row`. Assumes nothing.
 use Rattle.std.specs.Prelude.{◌≡◌, Bool, ◌||◌, ℕ, eqb}
 use Rattle.std.proofs.Math.Path.{refl, ap, ap₂}
 use Rattle.std.proofs.Common.{sym, ◌∙◌, subst}

@@ -5,16 +5,13 @@ use Rattle.std.proofs.Math.Path.{ap}
 use Prim.Native.Nat.{ℕ, suc, ◌+◌, ◌<◌}
 use native.Mathlib.Omega.{arith}
 use Rattle.std.proofs.Math.ListN.{length}
-use Rattle.base.specs.laws.ChoiceLaws.{by_eq}
 use Rattle.base.specs.laws.Sum.{sum_to, to_more, to_places}
-use Rattle.tree.specs.rules.Tree.{level}
-use Rattle.tree.specs.rules.Lists.{ancestors, notify_list, check_list}
 use Rattle.lock.specs.declared.Record.{Record}
 use Rattle.lock.specs.declared.Settings.{Settings}
-use Rattle.lock.specs.rules.Records.{Phase, phase_of, pieces, piece_at, current_piece}
+use Rattle.lock.specs.rules.Records.{Phase, phase_of, pieces, piece_at}
 use Rattle.lock.proofs.laws.Phases.{at_held, on_phase}
 use Rattle.lock.specs.laws.PieceSteps.{piece_steps, cover_steps}
-use Rattle.lock.proofs.laws.Progress.{made_in, steps_at, steps_before, made, all_steps, Going, claim_is, either, made_at}
+use Rattle.lock.proofs.laws.Progress.{made_in, steps_at, made, all_steps, Going, claim_is, either, made_at}
 use Rattle.lock.proofs.laws.Ready.{Ready}
 
 -- the steps of all pieces, as a sum over their list

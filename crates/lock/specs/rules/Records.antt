@@ -1,6 +1,6 @@
 -- To be believed: document 01, section "Phases", and document 02, requests 2.2 and 2.3: the client record's pieces, grips and lists, the changes of its fields, and the
 -- clock beside it. Settings, Record and Client are the structs of src/lib.rt. Assumes nothing.
-use Rattle.std.specs.Prelude.{Bool, List, [], ◌∷◌, ℕ, zero, suc, ◌-◌, eqb, ltb, length, get_or, set}
+use Rattle.std.specs.Prelude.{Bool, List, [], ◌∷◌, ℕ, zero, suc, eqb, ltb, length, get_or, set}
 use Rattle.base.specs.rules.Choice.{choose}
 use Rattle.tree.specs.rules.Tree.{level}
 use Rattle.tree.specs.rules.Lists.{notify_list}

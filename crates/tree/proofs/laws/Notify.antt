@@ -11,7 +11,7 @@ use Rattle.tree.specs.rules.Lists.{ancestor, notifies, notified_from, notify_lev
 use Rattle.tree.proofs.laws.Level.{climb_level}
 use Rattle.tree.specs.laws.Notify.{notify_level}
 
--- the list by count and place
+-- the list by count; by place it is `notify_level`
 unfoldable pub notify_count : ℕ → ℕ → ℕ
 notify_count m d = choose (leb d 1) 0 (choose (leb d m) 1 ((d - 2) / m + 1))
 

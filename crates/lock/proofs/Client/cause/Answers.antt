@@ -3,7 +3,6 @@ use mathlib.Core.Path.{sym, ◌∙◌}
 use Rattle.lock.proofs.laws.SettledLaws.{settled}
 use Rattle.lock.proofs.laws.OperationLaws.{cause_0, cause_1, cause_5, cause_6}
 use borrow.Author.Tests.{lt-ltb, le-ltb}
-use borrow.Author.Rules.{rules}
 use Rattle.lock.proofs.Client.cause.Goals as goal
 
 pub returns-then-outside : goal.returns-then-outside

@@ -4,7 +4,6 @@ use native.Mathlib.Omega.{arith}
 use Rattle.lock.proofs.laws.Touched.{readable}
 use Rattle.lock.proofs.laws.SettledLaws.{settled}
 use Rattle.lock.proofs.laws.OperationLaws.{post_tested, completed_refused, completed_clear, completed_taken}
-use borrow.Author.Rules.{rules}
 use Rattle.lock.proofs.Client.completed.Goals as goal
 
 pub returns-then-cause-ne0 : goal.returns-then-cause-ne0

@@ -5,7 +5,6 @@ use Rattle.lock.specs.rules.Calls.{cancelled, cancel_tests}
 use Rattle.lock.specs.rules.Operations.{own_cancel_answer}
 use Rattle.lock.proofs.laws.CallLaws.{refused_by}
 use Rattle.lock.proofs.laws.OperationLaws.{own_refused, own_answered}
-use borrow.Author.Rules.{rules}
 use Rattle.lock.proofs.Client.own_cancel.Goals as goal
 
 pub returns-then-cause-ne0 : goal.returns-then-cause-ne0

@@ -6,7 +6,6 @@ use Rattle.lock.specs.rules.Operations.{own_request_answer}
 use Rattle.lock.proofs.laws.CallLaws.{refused_by}
 use Rattle.lock.proofs.laws.SettledLaws.{settled}
 use Rattle.lock.proofs.laws.OperationLaws.{post_tested, own_refused, own_answered}
-use borrow.Author.Rules.{rules}
 use Rattle.lock.proofs.Client.own_request.Goals as goal
 
 pub returns-then-cause-ne0 : goal.returns-then-cause-ne0

@@ -1,6 +1,5 @@
 -- `lock::Operation::adds` meets its contract. Assumes nothing.
 use Rattle.lock.specs.rules.Operations.{operation_at}
-use borrow.Author.Rules.{rules}
 use Rattle.lock.proofs.Operation.adds.Goals as goal
 
 pub returns : goal.returns

@@ -2,7 +2,6 @@
 use mathlib.Core.Path.{sym, ap, ◌∙◌}
 use Rattle.lock.specs.rules.Steps.{applied}
 use Rattle.lock.proofs.laws.OperationLaws.{kind_add, kind_swap, kind_leaves}
-use borrow.Author.Rules.{rules}
 use Rattle.lock.proofs.Operation.applied.Goals as goal
 
 pub returns-in-2 : goal.returns-in-2

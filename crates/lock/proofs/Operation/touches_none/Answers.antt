@@ -1,6 +1,5 @@
 -- `lock::Operation::touches_none` meets its contract. Assumes nothing.
 use Rattle.lock.specs.rules.Operations.{operation_at}
-use borrow.Author.Rules.{rules}
 use Rattle.lock.proofs.Operation.touches_none.Goals as goal
 
 pub returns : goal.returns

@@ -1,14 +1,9 @@
 -- `lock::Record::act` meets its contract. Assumes nothing.
 use mathlib.Core.Path.{refl, sym, ap, ◌∙◌}
-use mathlib.Core.Bool.{◌||◌}
-use mathlib.Core.List.{◌∷◌}
-use Prim.Native.Nat.{◌-◌}
-use Rattle.lock.specs.declared.Record.{Record}
 use Rattle.lock.specs.rules.Records.{client_with}
 use Rattle.lock.specs.rules.Table.{request, step, release, cancel}
 use Rattle.lock.specs.laws.ByKind.{stepped_of}
 use Rattle.lock.proofs.laws.ByKind.{rest_of, next_by, words_by, step_onward, kind_request, kind_step, kind_release, kind_cancel, refuses_tree, settles, counts, refuses_back, refuses_unreadable, gives}
-use borrow.Author.Rules.{rules}
 use Rattle.lock.proofs.Record.act.Goals as goal
 
 pub returns-then-cause-ne0 : goal.returns-then-cause-ne0

@@ -1,11 +1,7 @@
 -- `lock::Record::all_notified` meets its contract. Assumes nothing.
-use mathlib.Core.Path.{sym, ap, subst, ◌∙◌}
-use Prim.Native.Nat.{ℕ, ◌-◌}
-use Rattle.tree.specs.rules.Tree.{Node}
-use Rattle.lock.specs.declared.Record.{Record}
+use mathlib.Core.Path.{sym, ap, ◌∙◌}
 use Rattle.lock.specs.rules.Records.{is_leaf}
 use Rattle.lock.proofs.laws.StepLaws.{notified_late, notified_leaf, notified_inner}
-use borrow.Author.Rules.{rules}
 use Rattle.lock.proofs.Record.all_notified.Goals as goal
 
 pub returns-then-late : goal.returns-then-late

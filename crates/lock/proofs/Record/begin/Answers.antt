@@ -1,10 +1,7 @@
 -- `lock::Record::begin` meets its contract. Assumes nothing.
-use mathlib.Core.Path.{sym, ap, ◌∙◌, subst}
-use Prim.Native.Nat.{ℕ}
-use Rattle.tree.specs.rules.Tree.{Node}
+use mathlib.Core.Path.{ap, ◌∙◌}
 use Rattle.lock.specs.rules.Steps.{start_phase}
 use Rattle.lock.proofs.laws.StepLaws.{begin_is}
-use borrow.Author.Rules.{rules}
 use Rattle.lock.proofs.Record.begin.Goals as goal
 
 pub returns : goal.returns

@@ -1,6 +1,5 @@
 -- `lock::Record::bits_claimed` meets its contract. Assumes nothing.
 use mathlib.Core.Path.{sym}
-use Rattle.lock.specs.rules.Steps.{taken}
 use Rattle.lock.proofs.laws.StepLaws.{bits_won, bits_lost}
 use Rattle.lock.proofs.Record.bits_claimed.Goals as goal
 

@@ -3,7 +3,6 @@ use mathlib.Core.Path.{sym, ◌∙◌}
 use Rattle.base.specs.laws.ChoiceLaws.{choose_eq, choose_ne}
 use Rattle.lock.specs.rules.Records.{grip_of, idle_with}
 use Rattle.lock.specs.rules.Calls.{cancelled}
-use borrow.Author.Rules.{rules}
 use Rattle.lock.proofs.Record.cancelled.Goals as goal
 
 pub returns-then-grip_of-eq0 : goal.returns-then-grip_of-eq0

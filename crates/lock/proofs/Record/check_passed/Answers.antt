@@ -1,13 +1,11 @@
 -- `lock::Record::check_passed` meets its contract. Assumes nothing.
-use mathlib.Core.Path.{sym, ap, ◌∙◌, subst}
+use mathlib.Core.Path.{sym, ap, ◌∙◌}
 use Prim.Native.Nat.{ℕ}
 use native.Mathlib.Omega.{arith}
 use lib.ListN.{length}
-use Rattle.tree.specs.rules.Tree.{Node}
 use Rattle.tree.specs.rules.Lists.{check_list}
 use Rattle.lock.specs.rules.Records.{current_piece}
 use Rattle.lock.proofs.laws.StepLaws.{check_stays, check_more, check_last, check_small}
-use borrow.Author.Rules.{rules}
 use Rattle.lock.proofs.Record.check_passed.Goals as goal
 
 pub returns-then-dcnt-dmax : goal.returns-then-dcnt-dmax

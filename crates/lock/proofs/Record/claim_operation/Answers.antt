@@ -1,15 +1,12 @@
 -- `lock::Record::claim_operation` meets its contract. Assumes nothing.
 use mathlib.Core.Path.{sym, ap, ◌∙◌, subst}
 use Prim.Native.Nat.{ℕ}
-use Rattle.tree.specs.rules.Tree.{Node}
 use Rattle.cover.specs.rules.Cover.{Meets}
 use Rattle.lock.specs.rules.Records.{is_leaf}
 use Rattle.lock.specs.rules.Steps.{wanted, swap}
 use Rattle.lock.specs.rules.Operations.{operation_at}
-use Rattle.lock.proofs.laws.Placed.{pieced}
 use Rattle.lock.proofs.laws.ReturnLaws.{leaf_level}
 use Rattle.lock.proofs.laws.OperationLaws.{claim_swap, claim_add}
-use borrow.Author.Rules.{rules}
 use Rattle.lock.proofs.Record.claim_operation.Goals as goal
 
 pub wanted-bits-requires : goal.wanted-bits-requires

@@ -1,9 +1,7 @@
 -- `lock::Record::climbed` meets its contract. Assumes nothing.
 use mathlib.Core.Path.{sym, ap, ◌∙◌}
-use Rattle.word.specs.rules.Word.{occ}
-use Rattle.lock.specs.rules.Steps.{taken, go_up}
+use Rattle.lock.specs.rules.Steps.{go_up}
 use Rattle.lock.proofs.laws.StepLaws.{noted_parent, climb_set, climb_clear}
-use borrow.Author.Rules.{rules}
 use Rattle.lock.proofs.Record.climbed.Goals as goal
 
 pub returns-then-occ-eq1 : goal.returns-then-occ-eq1

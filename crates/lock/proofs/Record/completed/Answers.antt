@@ -2,7 +2,6 @@
 use mathlib.Core.Path.{sym, ap, ◌∙◌}
 use Rattle.lock.specs.laws.Rows.{leaves}
 use Rattle.lock.proofs.laws.PatienceLaws.{own_moved_lem, sent_back_moved}
-use borrow.Author.Rules.{rules}
 use Rattle.lock.proofs.Record.completed.Goals as goal
 
 pub returns-then-out_of_patience : goal.returns-then-out_of_patience

@@ -1,7 +1,6 @@
 -- `lock::Record::go_up` meets its contract. Assumes nothing.
 use mathlib.Core.Path.{sym}
 use native.Mathlib.Omega.{arith}
-use Rattle.lock.specs.rules.Steps.{taken}
 use Rattle.lock.proofs.laws.StepLaws.{up_more, up_last, up_small}
 use Rattle.lock.proofs.Record.go_up.Goals as goal
 

@@ -1,8 +1,5 @@
 -- `lock::Record::late` meets its contract. Assumes nothing.
-use Prim.Native.Nat.{◌-◌}
-use Rattle.lock.specs.declared.Record.{Record}
 use Rattle.lock.proofs.laws.LateLaws.{late_waited, late_by}
-use borrow.Author.Rules.{rules}
 use Rattle.lock.proofs.Record.late.Goals as goal
 
 pub returns-then-settings-elapsed : goal.returns-then-settings-elapsed

@@ -3,7 +3,6 @@ use mathlib.Core.Bool.{◌||◌}
 use lib.Dec.{leb, ltb}
 use Rattle.lock.specs.rules.Unreadable.{not_covered, no_current, ticket_too_large, time_ahead}
 use Rattle.lock.specs.laws.OwnTests.{not_begun}
-use borrow.Author.Rules.{rules}
 use Rattle.lock.proofs.Record.not_begun.Goals as goal
 
 pub returns : goal.returns

@@ -1,15 +1,12 @@
 -- `lock::Record::notice_given` meets its contract. Assumes nothing.
-use mathlib.Core.Path.{refl, sym, ap, ◌∙◌, subst}
+use mathlib.Core.Path.{refl, sym, ap, ◌∙◌}
 use Prim.Native.Nat.{ℕ}
 use native.Mathlib.Omega.{arith}
 use lib.ListN.{length}
-use Rattle.tree.specs.rules.Tree.{Node}
 use Rattle.tree.specs.rules.Lists.{notify_list}
 use Rattle.tree.proofs.laws.Code.{count_small, bounded}
 use Rattle.lock.specs.rules.Records.{current_piece}
-use Rattle.lock.specs.rules.Steps.{taken}
 use Rattle.lock.proofs.laws.StepLaws.{pieced_kept, notice_more, notice_last}
-use borrow.Author.Rules.{rules}
 use Rattle.lock.proofs.Record.notice_given.Goals as goal
 
 pub overflow_add-given : goal.overflow_add-given

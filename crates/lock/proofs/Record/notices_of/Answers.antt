@@ -1,11 +1,9 @@
 -- `lock::Record::notices_of` meets its contract. Assumes nothing.
-use mathlib.Core.Path.{sym, ap, ◌∙◌, subst}
+use mathlib.Core.Path.{sym, ap, ◌∙◌}
 use Prim.Native.Nat.{ℕ}
 use lib.ListN.{length}
-use Rattle.tree.specs.rules.Tree.{Node}
 use Rattle.tree.specs.rules.Lists.{notify_list}
 use Rattle.lock.proofs.laws.Pieces.{notices_before, notices_current}
-use borrow.Author.Rules.{rules}
 use Rattle.lock.proofs.Record.notices_of.Goals as goal
 
 pub returns-then-i-self : goal.returns-then-i-self

@@ -1,8 +1,6 @@
 -- `lock::Record::occ_claimed` meets its contract. Assumes nothing.
 use mathlib.Core.Path.{sym, ◌∙◌}
-use Rattle.lock.specs.rules.Steps.{taken}
 use Rattle.lock.proofs.laws.StepLaws.{occ_root, occ_other}
-use borrow.Author.Rules.{rules}
 use Rattle.lock.proofs.Record.occ_claimed.Goals as goal
 
 pub returns-then-piece-eq1 : goal.returns-then-piece-eq1

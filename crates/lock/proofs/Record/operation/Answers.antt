@@ -3,7 +3,6 @@ use mathlib.Core.Path.{sym, ap₂, ◌∙◌}
 use Rattle.lock.specs.rules.Operations.{operation_at}
 use Rattle.lock.proofs.laws.PatienceLaws.{own_touched_lem, sent_back_touched}
 use Rattle.lock.proofs.laws.OperationLaws.{patient_access, impatient_access}
-use borrow.Author.Rules.{rules}
 use Rattle.lock.proofs.Record.operation.Goals as goal
 
 pub returns-then-out_of_patience : goal.returns-then-out_of_patience

@@ -2,12 +2,11 @@
 use mathlib.Core.Path.{sym, ap, ap₂, ◌∙◌}
 use native.Mathlib.Omega.{arith}
 use mathlib.Core.Logic.{inl}
-use Rattle.lock.specs.rules.Steps.{touched_in, climbed, unblocked, waited}
+use Rattle.lock.specs.rules.Steps.{touched_in}
 use Rattle.lock.specs.laws.Rows.{leaves, moved_in}
 use Rattle.lock.proofs.laws.Placed.{pieced, sound_placed}
 use Rattle.lock.proofs.laws.Phases.{at_ticket, at_turn, at_climb, at_blocked, at_claim, at_notify, at_wait, at_check, at_returning}
 use Rattle.lock.proofs.laws.MoveLaws.{moved_none}
-use borrow.Author.Rules.{rules}
 use Rattle.lock.proofs.Record.own_moved.Goals as goal
 
 pub climbed-requires : goal.climbed-requires

@@ -7,7 +7,6 @@ use Rattle.lock.proofs.laws.Placed.{sound_placed}
 use Rattle.lock.proofs.laws.MoveLaws.{touched_none}
 use Rattle.lock.proofs.laws.Phases.{at_ticket, at_turn, at_climb, at_blocked, at_claim, at_notify, at_check, at_returning}
 use Rattle.lock.proofs.laws.OperationLaws.{access_none}
-use borrow.Author.Rules.{rules}
 use Rattle.lock.proofs.Record.own_operation.Goals as goal
 
 pub claim_operation-requires : goal.claim_operation-requires

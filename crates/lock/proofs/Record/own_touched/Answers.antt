@@ -1,11 +1,9 @@
 -- `lock::Record::own_touched` meets its contract. Assumes nothing.
-use mathlib.Core.Path.{sym, ap, ◌∙◌, subst}
-use Prim.Native.Nat.{ℕ, ◌<◌}
+use mathlib.Core.Path.{sym, ap, ◌∙◌}
+use Prim.Native.Nat.{ℕ}
 use native.Mathlib.Omega.{arith}
-use lib.ListN.{length, get_or}
-use Rattle.tree.specs.rules.Tree.{Node}
+use lib.ListN.{get_or}
 use Rattle.tree.specs.rules.Lists.{ancestors, notify_list, check_list}
-use mathlib.Core.Logic.{inl, inr}
 use Rattle.lock.specs.rules.Steps.{touched_in}
 use Rattle.lock.proofs.laws.Placed.{pieced, sound_placed}
 use Rattle.lock.proofs.laws.Phases.{at_ticket, at_turn, at_climb, at_blocked, at_claim, at_notify, at_check, at_returning}

@@ -3,15 +3,12 @@ use mathlib.Core.Path.{sym, ap, ◌∙◌, subst}
 use Prim.Native.Nat.{ℕ, ◌<◌}
 use native.Mathlib.Omega.{arith}
 use lib.ListN.{length}
-use Rattle.tree.specs.rules.Tree.{Node}
 use Rattle.cover.specs.rules.Cover.{Meets}
 use Rattle.lock.specs.rules.Records.{is_leaf, pieces}
 use Rattle.lock.specs.rules.Steps.{wanted, swap}
 use Rattle.lock.specs.rules.Operations.{operation_at}
-use Rattle.lock.proofs.laws.Placed.{pieced}
 use Rattle.lock.proofs.laws.ReturnLaws.{leaf_level}
 use Rattle.lock.proofs.laws.OperationLaws.{own_swap, own_occ, own_turn, own_read}
-use borrow.Author.Rules.{rules}
 use Rattle.lock.proofs.Record.own_word_operation.Goals as goal
 
 pub wanted-bits-requires : goal.wanted-bits-requires

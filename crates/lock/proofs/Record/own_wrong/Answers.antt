@@ -6,9 +6,8 @@ use lib.Dec.{eqb}
 use Rattle.tree.specs.rules.Tree.{level}
 use Rattle.tree.proofs.laws.Level.{level_pos}
 use Rattle.lock.specs.rules.Records.{is_leaf}
-use Rattle.lock.proofs.laws.ReadableLaws.{piece_node_12, grip_ticket, grip_turn}
+use Rattle.lock.proofs.laws.ReadableLaws.{grip_ticket, grip_turn}
 use Rattle.lock.proofs.laws.PhaseTests.{own_asking, own_climbing, own_claiming}
-use borrow.Author.Rules.{rules}
 use Rattle.lock.proofs.Record.own_wrong.Goals as goal
 
 pub overflow_sub-result : goal.overflow_sub-result

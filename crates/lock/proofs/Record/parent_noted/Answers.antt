@@ -2,7 +2,6 @@
 use mathlib.Core.Path.{sym}
 use Rattle.base.specs.laws.ChoiceLaws.{choose_eq, choose_ne}
 use Rattle.lock.specs.rules.Records.{with_t1}
-use Rattle.lock.specs.rules.Steps.{taken}
 use Rattle.lock.proofs.Record.parent_noted.Goals as goal
 
 pub returns-then-self-eq0 : goal.returns-then-self-eq0

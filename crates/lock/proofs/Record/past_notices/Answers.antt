@@ -1,13 +1,10 @@
 -- `lock::Record::past_notices` meets its contract. Assumes nothing.
 use mathlib.Core.Path.{sym, ap, ◌∙◌}
 use Prim.Native.Nat.{ℕ}
-use native.Mathlib.Omega.{arith}
 use lib.Dec.{ltb}
 use lib.ListN.{length}
 use Rattle.tree.specs.rules.Lists.{notify_list}
 use Rattle.lock.proofs.laws.Pieces.{notices_before, notices_current}
-use Rattle.lock.proofs.laws.ReadableLaws.{piece_node_12}
-use borrow.Author.Rules.{rules}
 use Rattle.lock.proofs.Record.past_notices.Goals as goal
 
 pub returns-then-self : goal.returns-then-self

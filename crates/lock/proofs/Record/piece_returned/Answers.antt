@@ -1,11 +1,8 @@
 -- `lock::Record::piece_returned` meets its contract. Assumes nothing.
 use mathlib.Core.Path.{sym, ◌∙◌}
 use native.Mathlib.Omega.{arith}
-use Rattle.lock.specs.rules.Steps.{taken}
 use Rattle.lock.proofs.laws.Pieces.{few_pieces}
-use Rattle.tree.specs.rules.Tree.{left}
 use Rattle.lock.proofs.laws.ReturnLaws.{piece_last, piece_next}
-use borrow.Author.Rules.{rules}
 use Rattle.lock.proofs.Record.piece_returned.Goals as goal
 
 pub overflow_add-next : goal.overflow_add-next

@@ -5,7 +5,6 @@ use Rattle.lock.specs.declared.Record.{Record}
 use Rattle.lock.specs.rules.Records.{client_with}
 use Rattle.lock.specs.rules.Unreadable.{differ}
 use Rattle.lock.specs.rules.Calls.{first_cause, answered, released}
-use borrow.Author.Rules.{rules}
 use Rattle.lock.proofs.Record.release.Goals as goal
 
 pub returns : goal.returns

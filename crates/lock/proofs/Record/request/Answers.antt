@@ -1,7 +1,6 @@
 -- `lock::Record::request` meets its contract. Assumes nothing.
 use mathlib.Core.Path.{sym, ap, ◌∙◌}
 use mathlib.Core.List.{[], ◌∷◌}
-use Prim.Native.Nat.{◌-◌}
 use native.Mathlib.Omega.{arith}
 use Rattle.cover.specs.rules.Answer.{window_outside}
 use Rattle.lock.specs.rules.Records.{client_with}
@@ -10,7 +9,6 @@ use Rattle.lock.specs.rules.Calls.{answered}
 use Rattle.lock.proofs.laws.CallLaws.{cause_hit, cause_skip, refused_by}
 use Rattle.lock.proofs.laws.CoverLaws.{inside_window}
 use Rattle.lock.specs.laws.ByKind.{stepped_of}
-use borrow.Author.Rules.{rules}
 use Rattle.lock.proofs.Record.request.Goals as goal
 
 pub returns-then-outside : goal.returns-then-outside

@@ -1,14 +1,10 @@
 -- `lock::Record::return_bits` meets its contract. Assumes nothing.
-use mathlib.Core.Path.{◌≡◌, sym, ap, ◌∙◌, subst}
+use mathlib.Core.Path.{sym, ap, ◌∙◌}
 use Prim.Native.Nat.{ℕ}
-use Rattle.tree.specs.rules.Tree.{level, left}
-use Rattle.lock.specs.rules.Steps.{taken, wanted}
+use Rattle.lock.specs.rules.Steps.{wanted}
 use Rattle.lock.specs.laws.Rows.{leaves}
 use Rattle.word.specs.rules.Word.{give_bits}
-use Rattle.cover.specs.rules.Cover.{Meets}
-use Rattle.lock.proofs.laws.Placed.{pieced}
 use Rattle.lock.proofs.laws.ReturnLaws.{bits_returned_lem, bits_clear}
-use borrow.Author.Rules.{rules}
 use Rattle.lock.proofs.Record.return_bits.Goals as goal
 
 pub returns-then-swap : goal.returns-then-swap

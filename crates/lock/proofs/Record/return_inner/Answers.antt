@@ -1,10 +1,7 @@
 -- `lock::Record::return_inner` meets its contract. Assumes nothing.
 use mathlib.Core.Path.{sym, ap, ap₂, ◌∙◌}
-use Rattle.lock.specs.rules.Steps.{taken}
 use Rattle.lock.specs.laws.Rows.{leaves}
-use Rattle.tree.specs.rules.Tree.{left}
 use Rattle.lock.proofs.laws.ReturnLaws.{inner_occ, inner_turn, inner_ticket}
-use borrow.Author.Rules.{rules}
 use Rattle.lock.proofs.Record.return_inner.Goals as goal
 
 pub returns-then-grip-eq3 : goal.returns-then-grip-eq3

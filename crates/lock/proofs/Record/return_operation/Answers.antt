@@ -3,7 +3,6 @@ use mathlib.Core.Path.{sym, ap, ◌∙◌}
 use Rattle.lock.specs.rules.Operations.{operation_at}
 use Rattle.lock.proofs.laws.MoveLaws.{touched_own}
 use Rattle.lock.proofs.laws.OperationLaws.{return_own, return_notice}
-use borrow.Author.Rules.{rules}
 use Rattle.lock.proofs.Record.return_operation.Goals as goal
 
 pub own_word_operation-requires : goal.own_word_operation-requires

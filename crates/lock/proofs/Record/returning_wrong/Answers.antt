@@ -1,7 +1,5 @@
 -- `lock::Record::returning_wrong` meets its contract. Assumes nothing.
-use Prim.Native.Nat.{◌-◌}
 use Rattle.lock.proofs.laws.PhaseTests.{own_returning}
-use borrow.Author.Rules.{rules}
 use Rattle.lock.proofs.Record.returning_wrong.Goals as goal
 
 pub returns : goal.returns

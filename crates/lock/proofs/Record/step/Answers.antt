@@ -1,13 +1,12 @@
 -- `lock::Record::step` meets its contract. Assumes nothing.
 use mathlib.Core.Path.{sym, ap, ◌∙◌}
-use Prim.Native.Nat.{ℕ, ◌-◌}
+use Prim.Native.Nat.{ℕ}
 use native.Mathlib.Omega.{arith}
 use Rattle.lock.specs.rules.Records.{written, client_with}
 use Rattle.lock.proofs.laws.PatienceLaws.{own_touched_lem}
 use Rattle.lock.proofs.laws.Touched.{touched_counted, readable}
 use Rattle.lock.specs.laws.ByKind.{stepped_of}
 use Rattle.lock.proofs.laws.ByKind.{step_work, step_refused, step_taken, step_sent_back}
-use borrow.Author.Rules.{rules}
 use Rattle.lock.proofs.Record.step.Goals as goal
 
 pub out_of_patience-requires : goal.out_of_patience-requires

@@ -1,13 +1,12 @@
 -- `lock::Record::taken` meets its contract. Assumes nothing.
 use mathlib.Core.Path.{sym, ap, ◌∙◌}
-use Prim.Native.Nat.{◌+◌, ◌-◌}
+use Prim.Native.Nat.{◌+◌}
 use native.Mathlib.Omega.{arith}
 use Rattle.lock.specs.rules.Records.{to_phase}
-use Rattle.lock.specs.rules.Steps.{begin, taken}
+use Rattle.lock.specs.rules.Steps.{begin}
 use Rattle.lock.proofs.laws.Pieces.{few_pieces}
 use Rattle.lock.proofs.laws.PatienceLaws.{noted_pieced}
 use Rattle.lock.proofs.laws.StepLaws.{taken_more, taken_last}
-use borrow.Author.Rules.{rules}
 use Rattle.lock.proofs.Record.taken.Goals as goal
 
 pub overflow_add-next : goal.overflow_add-next

@@ -5,9 +5,7 @@ use native.Mathlib.Omega.{arith}
 use lib.ListN.{length}
 use Rattle.tree.specs.rules.Lists.{notify_list, check_list}
 use Rattle.lock.proofs.laws.Pieces.{few_pieces}
-use Rattle.lock.proofs.laws.ReadableLaws.{piece_node, piece_node_12}
 use Rattle.lock.proofs.laws.PhaseTests.{own_notifying, own_waiting, own_checking, own_holding, own_unknown}
-use borrow.Author.Rules.{rules}
 use Rattle.lock.proofs.Record.taken_wrong.Goals as goal
 
 pub overflow_add-early : goal.overflow_add-early

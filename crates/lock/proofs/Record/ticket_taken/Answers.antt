@@ -1,10 +1,8 @@
 -- `lock::Record::ticket_taken` meets its contract. Assumes nothing.
 use mathlib.Core.Path.{ap}
 use Prim.Native.Nat.{ℕ}
-use Rattle.word.specs.rules.Word.{tmax}
 use Rattle.lock.specs.rules.Records.{to_phase, with_grip, with_ticket}
 use Rattle.lock.specs.rules.Steps.{ticket_taken}
-use borrow.Author.Rules.{rules}
 use Rattle.lock.proofs.Record.ticket_taken.Goals as goal
 
 pub returns : goal.returns

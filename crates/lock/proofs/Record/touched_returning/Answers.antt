@@ -6,7 +6,6 @@ use lib.ListN.{length, get_or}
 use Rattle.tree.specs.rules.Tree.{Node}
 use Rattle.tree.specs.rules.Lists.{notify_list}
 use Rattle.lock.specs.rules.Records.{pieces}
-use Rattle.lock.specs.rules.Steps.{taken}
 use Rattle.lock.proofs.laws.Placed.{pieced, given_notices}
 use Rattle.lock.proofs.laws.MoveLaws.{touched_own, touched_notice}
 use Rattle.lock.proofs.Record.touched_returning.Goals as goal

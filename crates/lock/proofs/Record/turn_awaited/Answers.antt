@@ -1,9 +1,6 @@
 -- `lock::Record::turn_awaited` meets its contract. Assumes nothing.
 use mathlib.Core.Path.{sym, ◌∙◌}
-use Rattle.word.specs.rules.Word.{tcnt}
-use Rattle.lock.specs.rules.Steps.{taken}
 use Rattle.lock.proofs.laws.StepLaws.{turn_stays, turn_root, turn_other}
-use borrow.Author.Rules.{rules}
 use Rattle.lock.proofs.Record.turn_awaited.Goals as goal
 
 pub returns-then-tcnt-self : goal.returns-then-tcnt-self

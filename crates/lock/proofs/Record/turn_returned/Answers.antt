@@ -1,10 +1,6 @@
 -- `lock::Record::turn_returned` meets its contract. Assumes nothing.
 use mathlib.Core.Path.{sym, ◌∙◌}
-use Rattle.word.specs.rules.Word.{tcnt}
-use Rattle.lock.specs.rules.Steps.{taken}
-use Rattle.tree.specs.rules.Tree.{left}
 use Rattle.lock.proofs.laws.ReturnLaws.{turn_mine, turn_not_mine}
-use borrow.Author.Rules.{rules}
 use Rattle.lock.proofs.Record.turn_returned.Goals as goal
 
 pub returns-then-tcnt-self : goal.returns-then-tcnt-self

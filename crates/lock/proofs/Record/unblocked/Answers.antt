@@ -1,9 +1,6 @@
 -- `lock::Record::unblocked` meets its contract. Assumes nothing.
 use mathlib.Core.Path.{sym, ◌∙◌}
-use Rattle.word.specs.rules.Word.{occ}
-use Rattle.lock.specs.rules.Steps.{taken}
 use Rattle.lock.proofs.laws.StepLaws.{unblocked_now, unblocked_not}
-use borrow.Author.Rules.{rules}
 use Rattle.lock.proofs.Record.unblocked.Goals as goal
 
 pub returns-then-occ-eq0 : goal.returns-then-occ-eq0

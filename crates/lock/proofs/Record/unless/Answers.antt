@@ -1,13 +1,11 @@
 -- `lock::Record::unless` meets its contract. Assumes nothing.
 use mathlib.Core.Path.{sym, ap, ◌∙◌}
 use mathlib.Core.List.{[]}
-use Prim.Native.Nat.{◌-◌}
 use native.Mathlib.Omega.{arith}
 use Rattle.lock.specs.rules.Records.{client_with}
 use Rattle.lock.specs.rules.Calls.{first_cause}
 use Rattle.lock.proofs.laws.CallLaws.{cause_hit, cause_skip, refused_by, answer_accepted}
 use Rattle.lock.specs.laws.ByKind.{stepped_of}
-use borrow.Author.Rules.{rules}
 use Rattle.lock.proofs.Record.unless.Goals as goal
 
 pub returns-then-wrong : goal.returns-then-wrong

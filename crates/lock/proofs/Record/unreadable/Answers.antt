@@ -6,7 +6,6 @@ use lib.Dec.{ltb}
 use Rattle.lock.specs.laws.OwnTests.{own_wrong}
 use Rattle.lock.proofs.laws.OwnTests.{unreadable_parts, unreadable_idle}
 use Rattle.lock.proofs.laws.WhenReadable.{asked_begun}
-use borrow.Author.Rules.{rules}
 use Rattle.lock.proofs.Record.unreadable.Goals as goal
 
 pub returns-then-self-eq0 : goal.returns-then-self-eq0

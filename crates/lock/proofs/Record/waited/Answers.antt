@@ -1,9 +1,7 @@
 -- `lock::Record::waited` meets its contract. Assumes nothing.
 use mathlib.Core.Path.{sym}
 use native.Mathlib.Omega.{arith}
-use Rattle.lock.specs.rules.Steps.{taken}
 use Rattle.lock.proofs.laws.StepLaws.{wait_over, wait_on}
-use borrow.Author.Rules.{rules}
 use Rattle.lock.proofs.Record.waited.Goals as goal
 
 pub returns-then-settings-clock : goal.returns-then-settings-clock

@@ -1,11 +1,8 @@
 -- `lock::Record::wanted` meets its contract. Assumes nothing.
-use mathlib.Core.Path.{sym, ap, ◌∙◌, subst}
+use mathlib.Core.Path.{sym, subst}
 use Prim.Native.Nat.{ℕ, ◌+◌, ◌^◌, ◌<◌}
 use native.Mathlib.Omega.{arith}
-use Rattle.tree.specs.rules.Tree.{left}
-use Rattle.word.specs.rules.Word.{wanted_bits}
 use Rattle.lock.proofs.laws.Placed.{clipped}
-use borrow.Author.Rules.{rules}
 use Rattle.lock.proofs.Record.wanted.Goals as goal
 
 pub wanted_bits-requires : goal.wanted_bits-requires

@@ -1,10 +1,7 @@
 -- `lock::Record::word_returned` meets its contract. Assumes nothing.
 use mathlib.Core.Path.{sym, ◌∙◌}
 use native.Mathlib.Omega.{arith}
-use Rattle.lock.specs.rules.Steps.{taken}
-use Rattle.tree.specs.rules.Tree.{left}
 use Rattle.lock.proofs.laws.ReturnLaws.{word_more, word_last}
-use borrow.Author.Rules.{rules}
 use Rattle.lock.proofs.Record.word_returned.Goals as goal
 
 pub returns-then-self-notices_of : goal.returns-then-self-notices_of

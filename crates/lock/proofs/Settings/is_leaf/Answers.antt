@@ -2,9 +2,7 @@
 use mathlib.Core.Path.{ap}
 use Prim.Native.Nat.{ℕ}
 use lib.Dec.{eqb}
-use Rattle.tree.specs.rules.Tree.{level}
 use Rattle.lock.specs.rules.Records.{is_leaf}
-use borrow.Author.Rules.{rules}
 use Rattle.lock.proofs.Settings.is_leaf.Goals as goal
 
 pub returns : goal.returns

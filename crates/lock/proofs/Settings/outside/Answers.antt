@@ -3,7 +3,6 @@ use mathlib.Core.Path.{ap}
 use mathlib.Core.Bool.{◌||◌}
 use lib.Dec.{ltb}
 use Rattle.lock.specs.rules.Calls.{settings_outside}
-use borrow.Author.Rules.{rules}
 use Rattle.lock.proofs.Settings.outside.Goals as goal
 
 pub returns : goal.returns

@@ -1,8 +1,6 @@
 -- `lock::Settings::start_phase` meets its contract. Assumes nothing.
 use mathlib.Core.Path.{sym, ◌∙◌}
-use Rattle.lock.specs.rules.Steps.{taken}
 use Rattle.lock.proofs.laws.StepLaws.{start_leaf, start_inner}
-use borrow.Author.Rules.{rules}
 use Rattle.lock.proofs.Settings.start_phase.Goals as goal
 
 pub returns-then-is_leaf : goal.returns-then-is_leaf

@@ -1,7 +1,6 @@
 -- `lock::Settings::tree_cause` meets its contract. Assumes nothing.
 use mathlib.Core.Path.{sym, ◌∙◌}
 use native.Mathlib.Omega.{arith}
-use borrow.Author.Rules.{rules}
 use mathlib.Core.List.{[]}
 use Rattle.lock.specs.rules.Calls.{first_cause, tree_tests}
 use Rattle.lock.proofs.laws.CallLaws.{tree_settings, tree_count, tree_passed}

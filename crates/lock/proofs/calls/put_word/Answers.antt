@@ -2,7 +2,6 @@
 use mathlib.Core.Path.{sym}
 use native.Mathlib.Omega.{arith}
 use Rattle.lock.proofs.laws.WordLaws.{written_none, written_some}
-use borrow.Author.Rules.{rules}
 use Rattle.lock.proofs.calls.put_word.Goals as goal
 
 pub returns-then-n-eq0 : goal.returns-then-n-eq0

@@ -4,7 +4,6 @@ use Rattle.lock.proofs.laws.PieceSteps.{leaf_code, inner_code, claim_few}
 use Rattle.lock.proofs.laws.StepLaws.{check_small}
 use Rattle.tree.proofs.laws.Code.{bounded}
 use Rattle.lock.proofs.laws.Placed.{widen}
-use borrow.Author.Rules.{rules}
 use Rattle.lock.proofs.counting.piece_steps.Goals as goal
 
 pub overflow_add-notified : goal.overflow_add-notified

@@ -4,7 +4,6 @@ use native.Mathlib.Omega.{arith}
 use Rattle.lock.proofs.laws.PieceSteps.{pieces_one, pieces_two, steps_few}
 use Rattle.tree.proofs.laws.Code.{bounded}
 use Rattle.lock.proofs.laws.Placed.{widen}
-use borrow.Author.Rules.{rules}
 use Rattle.lock.proofs.counting.pieces_steps.Goals as goal
 
 pub returns-then-second-eq0 : goal.returns-then-second-eq0

@@ -6,7 +6,6 @@ use Rattle.cover.proofs.laws.Code.{window_inside}
 use Rattle.lock.specs.laws.PieceSteps.{pieces_steps}
 use Rattle.lock.proofs.laws.SettledLaws.{shape_inside}
 use Rattle.lock.proofs.claim.StepCountLaws.{counts_refused, counts_outside, counts_accepted, window_steps}
-use borrow.Author.Rules.{rules}
 use Rattle.lock.proofs.counting.step_count.Goals as goal
 
 pub returns-then-levels_or_distance_outside : goal.returns-then-levels_or_distance_outside
