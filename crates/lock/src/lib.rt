@@ -1,7 +1,6 @@
 // The lock: what each call does to one client's record and to the lent tree.
 #![tactic(auto)]
 
-
 // "H, m and wait T .. travel beside it", and the patience P: the settings of a tree.
 #[repr(C)]
 #[derive(Clone, Copy)]

@@ -24,7 +24,7 @@ use Rattle.lock.proofs.claim.Invariant.{Invariant}
 use Rattle.table.specs.laws.CauseLaws.{table_client}
 use Rattle.table.specs.laws.CallLaws.{table_refuses}
 use Rattle.runs.specs.rules.Ahead.{ahead_of, Counted, completed_all_answer}
-use Rattle.network.specs.rules.Network.{Flight, free, flying, Run, Network, run_at, client_on, with_run, started, Act, own, post, carry, complete, touches_none, own_next, own_calls, same_list, asks, posts, between, carries, completes, act, asked_by, counts, carried_by, calls_of, seen_by, shown}
+use Rattle.network.specs.rules.Network.{Flight, free, flying, Run, Network, run_at, client_on, with_run, started, Act, own, post, carry, complete, touches_none, own_next, own_calls, same_list, asks, posts, between, carries, completes, act, asked_by, carried_by, calls_of, seen_by, shown}
 use Rattle.network.proofs.laws.CarriedOut.{Underway, begun}
 use Rattle.runs.specs.laws.AlongLaws.{no_words}
 use Rattle.network.proofs.laws.SameOperation.{lists_equal}

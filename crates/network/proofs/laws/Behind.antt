@@ -16,7 +16,7 @@ use Rattle.word.specs.rules.Word.{matches}
 use Rattle.lock.specs.declared.Operation.{Operation}
 use Rattle.lock.specs.declared.Record.{Record}
 use Rattle.lock.specs.declared.Settings.{Settings}
-use Rattle.lock.specs.rules.Records.{Phase, ticket, turn, returning, phase_of, pieces, piece_at, given_piece, is_leaf, grip_of, notices_of, with_giving, with_place, idle_with}
+use Rattle.lock.specs.rules.Records.{Phase, returning, phase_of, pieces, piece_at, given_piece, is_leaf, grip_of, notices_of, with_giving, with_place, idle_with}
 use Rattle.lock.specs.rules.Unreadable.{list_length}
 use Rattle.lock.specs.rules.Steps.{Completion, access_in, wanted, word_returned, piece_returned, bits_returned, grip_returned, given_back, completed_in}
 use Rattle.lock.specs.rules.Operations.{operation_at}

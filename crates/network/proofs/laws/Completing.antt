@@ -12,7 +12,7 @@ use Rattle.lock.specs.declared.Record.{Record}
 use Rattle.lock.specs.declared.Settings.{Settings}
 use Rattle.lock.specs.rules.Records.{phase_of}
 use Rattle.lock.specs.rules.Unreadable.{unreadable}
-use Rattle.lock.specs.rules.Steps.{out_of_patience, late}
+use Rattle.lock.specs.rules.Steps.{out_of_patience}
 use Rattle.lock.specs.rules.Calls.{first_cause, settings_outside}
 use Rattle.lock.specs.rules.Operations.{post_tests}
 use Rattle.runs.specs.rules.Ahead.{ahead_in, ahead_of}

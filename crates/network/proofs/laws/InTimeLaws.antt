@@ -10,7 +10,6 @@ use Rattle.lock.specs.declared.Client.{Client}
 use Rattle.lock.specs.declared.Settings.{Settings}
 use Rattle.lock.specs.rules.Records.{idle_client}
 use Rattle.lock.specs.rules.Table.{Call, client_of}
-use Rattle.lock.specs.rules.History.{run}
 use Rattle.runs.specs.rules.Ahead.{ahead_of}
 use Rattle.network.specs.rules.Clocks.{claims, completing, ClocksRead}
 use Rattle.network.specs.rules.Network.{Flight, free, flying, Run, Network, run_at, client_on, with_run, started, Act, own, post, carry, complete, same_list, asks, posts, between, carries, completes, act, calls_of}

@@ -1,10 +1,10 @@
 -- Laws of the lists that are posted together: what stands behind a claim or a notice leads on: it is again what the client would post next. Assumes nothing.
-use Rattle.std.specs.Prelude.{◌≡◌, ◌⊎◌, Bool, ◌&&◌, ◌||◌, ℕ, zero, suc, ◌-◌, ◌≤◌, ◌<◌}
+use Rattle.std.specs.Prelude.{◌≡◌, ◌⊎◌, Bool, ◌&&◌, ◌||◌, ℕ, suc, ◌-◌, ◌≤◌}
 use Rattle.std.proofs.Math.Path.{refl, sym, ap, subst}
 use Rattle.std.proofs.Common.{◌∙◌, arith}
 use Rattle.std.proofs.Math.Logic.{inl, inr}
 use Rattle.std.proofs.Math.Bool.{true, false}
-use mathlib.Core.List.{List, [], ◌∷◌, ◌++◌, map}
+use mathlib.Core.List.{List, [], ◌∷◌, map}
 use borrow.Author.Tests.{eqb-true, le-leb}
 use Rattle.std.proofs.Math.Dec.{eqb, leb, ltb}
 use Rattle.std.proofs.Math.ListN.{length}
@@ -16,15 +16,14 @@ use Rattle.word.specs.rules.Word.{matches}
 use Rattle.lock.specs.declared.Operation.{Operation}
 use Rattle.lock.specs.declared.Record.{Record}
 use Rattle.lock.specs.declared.Settings.{Settings}
-use Rattle.lock.specs.rules.Records.{Phase, climb, claim, notify, check, returning, phase_of, pieces, piece_at, current_piece, is_leaf, is_root, grip_of, to_phase, with_giving, with_grip, with_place, with_notices, with_t0}
+use Rattle.lock.specs.rules.Records.{climb, notify, check, phase_of, pieces, piece_at, current_piece, is_leaf, is_root, to_phase, with_grip, with_place, with_notices, with_t0}
 use Rattle.lock.specs.rules.Unreadable.{list_length}
-use Rattle.lock.specs.rules.Steps.{touched_in, access_in, claim_access, out_of_patience, wanted, bits_claimed, piece_claimed, occ_claimed, notice_given}
+use Rattle.lock.specs.rules.Steps.{touched_in, access_in, out_of_patience, wanted, bits_claimed, piece_claimed, occ_claimed, notice_given}
 use Rattle.lock.specs.rules.Operations.{operation_at}
-use Rattle.lock.proofs.laws.Phases.{on_phase, at_notify}
-use Rattle.lock.proofs.laws.Ready.{Ready}
-use Rattle.runs.specs.rules.Ahead.{standing, walk, gives_back, ahead_in}
+use Rattle.lock.proofs.laws.Phases.{at_notify}
+use Rattle.runs.specs.rules.Ahead.{standing, walk, ahead_in}
 use Rattle.network.specs.rules.Clocks.{claims}
-use Rattle.runs.specs.laws.OperationLists.{Leads, Reads, none_some, first_same, reads_mapped, nothing_behind, by_place, past_place}
+use Rattle.runs.specs.laws.OperationLists.{Leads, Reads, reads_mapped, nothing_behind, by_place, past_place}
 
 module _ (s : Settings) (r : Record) where
   -- ---- climb and check read

@@ -9,7 +9,7 @@ use Rattle.tree.specs.rules.Tree.{word_count}
 use Rattle.lock.specs.declared.Client.{Client}
 use Rattle.lock.specs.declared.Settings.{Settings}
 use Rattle.lock.specs.rules.Records.{word_at, written, client_with, idle_client}
-use Rattle.lock.specs.rules.Steps.{applied, completed}
+use Rattle.lock.specs.rules.Steps.{applied}
 use Rattle.lock.specs.rules.Calls.{Tests, first_cause, settings_outside, tree_tests, clients_outside, answered, requested, released, cancelled, request_tests, release_tests, cancel_tests, request_number, request_answer, release_answer, cancel_answer}
 use Rattle.lock.specs.rules.Operations.{access_of, operation_answer, completed_answer, own_request_answer, own_release_answer, own_cancel_answer}
 use Rattle.lock.specs.rules.Table.{State, Call, step, client_of, client_at, Out, opening_number, call}
@@ -19,7 +19,7 @@ use Rattle.table.specs.laws.Causes.{table_cause}
 use Rattle.table.specs.laws.CauseLaws.{both_none, table_client, table_passed}
 use Rattle.table.specs.laws.CallLaws.{set_same, table_refuses, table_takes}
 use Rattle.network.specs.rules.ByOperation.{by_operation}
-use Rattle.network.specs.rules.Network.{Network, counts, seen, shown}
+use Rattle.network.specs.rules.Network.{Network, seen, shown}
 use Rattle.network.proofs.laws.Shown.{set_past}
 use Rattle.network.proofs.laws.StepByOperation.{step_by_operation}
 

@@ -1,6 +1,6 @@
 -- Laws of operations that are the same, and of lists of them. Assumes nothing.
-use Rattle.std.specs.Prelude.{◌≡◌, refl, true, ◌&&◌, List, [], ◌∷◌, ℕ, T, eqb}
-use Rattle.std.proofs.Common.{sym, ap₂, subst, eqb-true, eq-eqb}
+use Rattle.std.specs.Prelude.{◌≡◌, refl, true, ◌&&◌, List, [], ◌∷◌, T}
+use Rattle.std.proofs.Common.{sym, ap₂, subst}
 use Rattle.base.specs.laws.TestLaws.{both_true}
 use Rattle.lock.specs.declared.Operation.{Operation}
 use Rattle.runs.specs.laws.FirstDue.{same_itself, same_equal}

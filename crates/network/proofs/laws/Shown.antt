@@ -18,7 +18,7 @@ use Rattle.lock.specs.rules.Operations.{post_tests}
 use Rattle.lock.specs.rules.Table.{State, client_at, opening_number, opened, opening}
 use Rattle.lock.proofs.laws.Phases.{at_held}
 use Rattle.runs.specs.rules.Ahead.{ahead_in, ahead_of, along, completed_all_answer}
-use Rattle.network.specs.rules.Network.{Flight, free, flying, Run, Network, run_at, client_on, with_run, started, seen_by, seen, shown}
+use Rattle.network.specs.rules.Network.{Flight, free, flying, Network, run_at, client_on, with_run, started, seen_by, seen, shown}
 
 -- ---- lists
 

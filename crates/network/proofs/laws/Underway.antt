@@ -1,8 +1,8 @@
 -- Laws of a list that is under way: as long as every word found was as hoped, what is left of it is what the client would post next; and once one was not, what is left are reads. So an operation that is carried
 -- out is the client's next step, or it leaves its word as it was. Assumes nothing.
-use Rattle.std.specs.Prelude.{◌≡◌, ◌≢◌, ◌⊎◌, Bool, false, ◌||◌, List, [], ◌∷◌, ℕ, eqb}
+use Rattle.std.specs.Prelude.{◌≡◌, ◌⊎◌, Bool, false, ◌||◌, List, [], ℕ}
 use Rattle.std.proofs.Math.Path.{refl, ap, subst}
-use Rattle.std.proofs.Common.{sym, ap₂, ◌∙◌, arith, eqb-true, eq-eqb, ne_eqb}
+use Rattle.std.proofs.Common.{sym, ap₂, ◌∙◌, arith, ne_eqb}
 use Rattle.std.proofs.Math.Logic.{inl, inr, ⊎_elim}
 use Rattle.base.specs.rules.Choice.{choose}
 use Rattle.base.specs.laws.ChoiceLaws.{on_choose, by_eq}
@@ -16,17 +16,14 @@ use Rattle.lock.specs.rules.Records.{Phase, claim, notify, phase_of, current_pie
 use Rattle.lock.specs.rules.Steps.{Access, none, touched, access, access_in, claim_access, out_of_patience, Completion, goes_to, given_up, completed, completed_in, moved}
 use Rattle.lock.specs.rules.Calls.{first_cause}
 use Rattle.lock.specs.rules.Operations.{operation_at, post_tests, operation_answer, completed_answer}
-use Rattle.lock.proofs.laws.OperationLaws.{post_tested, operation_found, operation_refused, completed_taken, patient_access, impatient_access}
-use Rattle.lock.proofs.laws.PatienceLaws.{own_touched_lem}
-use Rattle.lock.proofs.laws.Phases.{at_idle, at_claim, at_notify}
-use Rattle.lock.proofs.laws.Ready.{Ready, ready}
-use Rattle.lock.proofs.laws.SettledLaws.{settled}
+use Rattle.lock.proofs.laws.OperationLaws.{operation_found, operation_refused, completed_taken, patient_access, impatient_access}
+use Rattle.lock.proofs.laws.Phases.{at_claim, at_notify}
 use Rattle.runs.specs.laws.FirstDue.{NotEmpty, ahead_is, is_ready}
-use Rattle.runs.specs.rules.Ahead.{ahead_in, ahead_of}
+use Rattle.runs.specs.rules.Ahead.{ahead_of}
 use Rattle.network.specs.rules.Clocks.{claims}
 use Rattle.network.proofs.laws.Behind.{behind}
 use Rattle.network.proofs.laws.Leading.{Alike}
-use Rattle.runs.specs.laws.OperationLists.{Leads, Reads, none_some}
+use Rattle.runs.specs.laws.OperationLists.{Leads, Reads}
 
 module _ (s : Settings) (c : Client) (u : ℕ) (o : Operation) (l : List Operation) (v : NotEmpty s c u o l) where
   abbrev of : Record

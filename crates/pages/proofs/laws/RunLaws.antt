@@ -8,11 +8,9 @@ use Rattle.base.specs.laws.ChoiceLaws.{choose_ne}
 use Rattle.lock.specs.declared.Client.{Client}
 use Rattle.lock.specs.declared.Record.{Record}
 use Rattle.lock.specs.declared.Settings.{Settings}
-use Rattle.lock.specs.rules.Records.{idle_with}
 use Rattle.lock.specs.rules.Unreadable.{unreadable}
 use Rattle.lock.specs.rules.Calls.{Tests, first_cause, settings_outside, client_tests}
 use Rattle.table.specs.laws.CauseLaws.{first_hits, first_passes}
-use Rattle.pages.specs.declared.RunPage.{RunPage}
 use Rattle.pages.specs.rules.Pages.{held_count, own_client, run_tests, run_number, run_page}
 use Rattle.pages.specs.laws.Causes.{run_cause}
 use Rattle.pages.specs.laws.RunLaws.{refused_page, accepted_page, own_page}

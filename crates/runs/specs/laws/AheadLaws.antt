@@ -14,9 +14,8 @@ use Rattle.tree.proofs.laws.Ancestors.{ancestors_count}
 use Rattle.lock.specs.declared.Operation.{Operation}
 use Rattle.lock.specs.declared.Record.{Record}
 use Rattle.lock.specs.declared.Settings.{Settings}
-use Rattle.lock.specs.rules.Records.{Phase, idle, ticket, turn, climb, blocked, claim, notify, check, returning, phase_of, current_piece, is_leaf}
+use Rattle.lock.specs.rules.Records.{Phase, ticket, turn, climb, blocked, claim, notify, check, phase_of, current_piece, is_leaf}
 use Rattle.lock.specs.rules.Unreadable.{list_length}
-use Rattle.lock.specs.rules.Steps.{none}
 use Rattle.lock.proofs.laws.Phases.{on_phase, at_ticket, at_turn, at_climb, at_blocked, at_notify, at_check}
 use Rattle.runs.specs.rules.Ahead.{standing, walk, ahead_in}
 use Rattle.runs.specs.laws.Standing.{no_operation, walk_count, walk_at}

@@ -1,7 +1,7 @@
 -- To be believed: the operations that a run posts together, and how many of them count when the words found have come back. A card carries out what one connection posts in the order of posting, with
 -- others' operations in between. Two kinds may stand in a list: certain ones, which are the next steps whatever the words found are, and reads ahead, which are the next steps if those before them are good.
 -- Never a write that a word found could forbid. What each operation does is `lock`'s rules/Steps.antt. Assumes nothing.
-use Rattle.std.specs.Prelude.{Bool, true, false, ◌&&◌, List, [], ◌∷◌, ◌++◌, map, ℕ, zero, suc, ◌-◌, min, eqb, length}
+use Rattle.std.specs.Prelude.{Bool, ◌&&◌, List, [], ◌∷◌, ◌++◌, map, ℕ, zero, suc, ◌-◌, min, eqb, length}
 use Rattle.base.specs.rules.Choice.{choose}
 use Rattle.tree.specs.rules.Lists.{row}
 use Rattle.lock.specs.declared.Client.{Client}

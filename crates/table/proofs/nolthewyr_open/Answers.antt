@@ -1,7 +1,6 @@
 -- `table::nolthewyr_open` meets its contract: refused by 1, 2 or 3 with nothing touched, or every word 0 and every client idle. Assumes nothing.
 use Rattle.std.proofs.Common.{◌≡◌, ◌<◌, ℕ, List, length, sym, ap, ◌∙◌, ◌+◌, subst, arith}
-use native.Mathlib.Nat.{le_antisymm}
-use lib.ListN.{set, replicate}
+use lib.ListN.{set}
 use Rattle.lock.specs.declared.Client.{Client}
 use Rattle.lock.specs.rules.Records.{idle_client}
 use Rattle.table.specs.rules.Lent.{left_with}
@@ -24,9 +23,10 @@ loop-client-init c = (sym (filled_none idle_client c.args.clients.now), omega ar
 pub loop-client-preserved : goal.loop-client-preserved
 loop-client-preserved c =
     let l = c.args.clients.now in
-    let e = c.loop-client.invariant.0 in
-    (goes l c.loop-client.clients c.loop-client.client _ c.idle-idle.ensures e c.loop-client-test.true,
-    omega (arith, c.loop-client-test.true, ap length e ∙ filled_length idle_client l c.loop-client.client))
+    let e = c.loop-client.invariant.0 in (
+      goes l c.loop-client.clients c.loop-client.client _ c.idle-idle.ensures e c.loop-client-test.true,
+      omega (arith, c.loop-client-test.true, ap length e ∙ filled_length idle_client l c.loop-client.client),
+    )
 
 pub returns : goal.returns
 returns c =

@@ -1,6 +1,5 @@
 -- `table::nolthewyr_open`: the first clients are idle, and the words are all 0. Assumes nothing.
 use Rattle.std.proofs.Common.{◌≡◌, ◌≤◌, ◌-◌, length}
-use Rattle.std.specs.Prelude.{replicate}
 use Rattle.lock.specs.rules.Records.{idle_client}
 use Rattle.table.proofs.Filled.{filled}
 use Rattle.table.proofs.nolthewyr_open.Given as goal

@@ -1,7 +1,6 @@
 -- `table::table_act` meets its contract: where `table_cause` refuses nothing is touched; else the client is below the count, and what the call by value gives is put back. Assumes nothing.
-use Rattle.std.proofs.Common.{◌≡◌, ◌<◌, ℕ, List, length, sym, ap, ◌∙◌, arith, rules}
+use Rattle.std.proofs.Common.{◌≡◌, ◌<◌, ℕ, length, sym, ap, ◌∙◌, arith, rules}
 use lib.ListN.{set}
-use Rattle.lock.specs.declared.Client.{Client}
 use Rattle.lock.specs.declared.Settings.{Settings}
 use Rattle.lock.proofs.laws.ByKind.{client_of_kind}
 use Rattle.lock.specs.rules.ByValue.{call_of}

@@ -1,7 +1,6 @@
 -- `pages::causes::planners_cause` meets its contract. Assumes nothing.
 use mathlib.Core.Path.{sym, ◌∙◌}
 use Rattle.pages.proofs.laws.CauseLaws.{planners_settings, planners_rows, planners_clients, planners_passed}
-use borrow.Author.Rules.{rules}
 use Rattle.pages.proofs.causes.planners_cause.Goals as goal
 
 pub returns-then-outside : goal.returns-then-outside

@@ -1,7 +1,6 @@
 -- `pages::causes::run_cause` meets its contract. Assumes nothing.
 use mathlib.Core.Path.{sym, ◌∙◌}
 use Rattle.pages.proofs.laws.CauseLaws.{run_settings, run_clients, run_client, run_passed}
-use borrow.Author.Rules.{rules}
 use Rattle.pages.proofs.causes.run_cause.Goals as goal
 
 pub returns-then-outside : goal.returns-then-outside

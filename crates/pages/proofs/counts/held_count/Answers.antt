@@ -1,5 +1,5 @@
 -- `pages::counts::held_count` meets its contract: one client more is counted in a turn, and no more are held than there are. Assumes nothing.
-use Rattle.std.proofs.Common.{◌≡◌, refl, ap₂, ◌∙◌, ℕ, ◌+◌, ◌≤◌, length, take, arith}
+use Rattle.std.proofs.Common.{◌≡◌, refl, ap₂, ◌∙◌, ℕ, ◌+◌, ◌≤◌, arith}
 use Rattle.pages.specs.rules.Pages.{in_phase9, held_count}
 use Rattle.pages.proofs.laws.CountLaws.{phase_9_most, held_most, held_next}
 use Rattle.pages.proofs.counts.held_count.Goals as goal

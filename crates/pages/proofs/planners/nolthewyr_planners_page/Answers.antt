@@ -1,9 +1,6 @@
 -- `pages::planners::nolthewyr_planners_page` meets its contract. Assumes nothing.
-use Rattle.std.proofs.Common.{◌≡◌, ◌≤◌, ℕ, List, length, sym, ap, ◌∙◌, arith}
-use Rattle.lock.specs.declared.Client.{Client}
+use Rattle.std.proofs.Common.{◌≡◌, ◌≤◌, ℕ, sym, ap, ◌∙◌, arith}
 use Rattle.lock.specs.declared.Settings.{Settings}
-use Rattle.lock.specs.laws.Active.{Settled}
-use Rattle.pages.specs.declared.Row.{Row}
 use Rattle.pages.specs.rules.Pages.{page}
 use Rattle.pages.specs.laws.Causes.{planners_cause}
 use Rattle.pages.proofs.laws.CauseLaws.{planners_tested}

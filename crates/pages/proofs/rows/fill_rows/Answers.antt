@@ -1,6 +1,6 @@
 -- `pages::rows::fill_rows` meets its contract: a turn writes the row of one client more. Assumes nothing.
-use Rattle.std.proofs.Common.{◌≡◌, ◌<◌, ℕ, List, length, sym, ap, ◌∙◌, subst, arith}
-use lib.ListN.{set, get_or}
+use Rattle.std.proofs.Common.{◌≡◌, ℕ, List, length, sym, ap, ◌∙◌, arith}
+use lib.ListN.{set}
 use Rattle.lock.specs.declared.Client.{Client}
 use Rattle.lock.specs.declared.Settings.{Settings}
 use Rattle.pages.specs.declared.Row.{Row}
@@ -28,9 +28,10 @@ loop-client-preserved c =
     let ys = c.args.rows.now in
     let i = c.loop-client.client in
     let e = c.loop-client.invariant.0 in
-    let n = ap length e ∙ mapped_length (f s) i xs ys in
-    (ap (λ (z : List Row). set z i c.row_of.result) e ∙ ap (set (mapped (f s) i xs ys) i) c.row_of.ensures ∙ mapped_next (f s) i xs ys _ (omega (arith, c.requires.1, n, c.loop-client-test.true)),
-    omega (arith, n, c.loop-client-test.true))
+    let n = ap length e ∙ mapped_length (f s) i xs ys in (
+      ap (λ (z : List Row). set z i c.row_of.result) e ∙ ap (set (mapped (f s) i xs ys) i) c.row_of.ensures ∙ mapped_next (f s) i xs ys _ (omega (arith, c.requires.1, n, c.loop-client-test.true)),
+      omega (arith, n, c.loop-client-test.true),
+    )
 
 pub returns : goal.returns
 unfolding rows_of

@@ -1,5 +1,5 @@
 -- `pages::run::nolthewyr_run_page` meets its contract. Assumes nothing.
-use Rattle.std.proofs.Common.{◌≡◌, ◌≤◌, ◌<◌, ℕ, List, length, sym, ap, ◌∙◌, arith, rules}
+use Rattle.std.proofs.Common.{◌≡◌, ◌≤◌, ℕ, ap, ◌∙◌, arith, rules}
 use Rattle.lock.specs.declared.Settings.{Settings}
 use Rattle.pages.specs.laws.Causes.{run_cause}
 use Rattle.pages.proofs.laws.CauseLaws.{run_tested}

@@ -1,6 +1,5 @@
 -- `pages::run::own_page` meets its contract. Assumes nothing.
 use mathlib.Core.Path.{sym, ◌∙◌}
-use borrow.Author.Rules.{rules}
 use Rattle.pages.proofs.laws.RunLaws.{own_refused, own_accepted}
 use Rattle.pages.proofs.run.own_page.Goals as goal
 

@@ -2,7 +2,6 @@
 use native.Mathlib.Omega.{arith}
 use Rattle.rangepages.specs.rules.Printed.{record_line}
 use Rattle.schedule.specs.laws.Appended.{joined}
-use borrow.Author.Rules.{rules}
 use Rattle.rangepages.proofs.lines.put_record.Goals as goal
 
 pub returns : goal.returns

@@ -3,7 +3,6 @@ use native.Mathlib.Omega.{arith}
 use Rattle.schedule.specs.laws.Refusing.{file_passes}
 use Rattle.schedule.specs.laws.WellFormed.{well_formed}
 use Rattle.rangepages.specs.laws.Paging.{full, settled, readable, pages_whole}
-use borrow.Author.Rules.{rules}
 use Rattle.rangepages.proofs.paging.put_both.Goals as goal
 
 pub settings_in-settings-requires : goal.settings_in-settings-requires

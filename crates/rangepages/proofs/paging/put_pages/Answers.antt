@@ -1,10 +1,7 @@
 -- `rangepages::paging::put_pages` meets its contract. Assumes nothing.
-use mathlib.Core.Path.{sym, ◌∙◌}
 use native.Mathlib.Omega.{arith}
-use Prim.Native.Nat.{zero-le}
-use Rattle.schedule.specs.laws.Refusing.{refused_whole, no_room, put_whole, counted}
+use Rattle.schedule.specs.laws.Refusing.{refused_whole, put_whole, counted}
 use Rattle.rangepages.specs.rules.Printed.{pages_of}
-use borrow.Author.Rules.{rules}
 use Rattle.rangepages.proofs.paging.put_pages.Goals as goal
 
 pub returns-then-number-ne0 : goal.returns-then-number-ne0

@@ -1,15 +1,13 @@
 -- `rangepages::paging::put_records` meets its contract. Assumes nothing.
-use borrow.Author.Rules.{rules}
-use mathlib.Core.Path.{◌≡◌, refl, ap, ◌∙◌}
-use Prim.Native.Nat.{◌-◌, ◌≤◌, ◌+◌, ◌*◌, zero-le}
+use mathlib.Core.Path.{refl, ap, ◌∙◌}
+use Prim.Native.Nat.{zero-le}
 use native.Mathlib.Omega.{arith}
-use lib.ListN.{length, take}
 use Rattle.rangepages.specs.rules.Printed.{record_line}
 use Rattle.schedule.specs.laws.Appended.{restated}
 use Rattle.lock.specs.declared.Client.{Client}
 use Rattle.lock.specs.rules.Records.{idle_client}
 use Rattle.schedule.specs.laws.RunLaws.{clients_of}
-use Rattle.rangepages.specs.laws.Lines.{Lined, lined_none, lined_more, lined_all}
+use Rattle.rangepages.specs.laws.Lines.{lined_none, lined_more}
 use Rattle.rangepages.proofs.paging.put_records.Goals as goal
 
 pub loop-client-init : goal.loop-client-init

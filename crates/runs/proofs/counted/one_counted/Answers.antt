@@ -10,12 +10,6 @@ use Rattle.lock.proofs.laws.SettledLaws.{settled}
 use Rattle.lock.proofs.laws.Touched.{readable}
 use Rattle.runs.specs.rules.Ahead.{same}
 use Rattle.runs.specs.laws.AlongLaws.{not_same, not_taken, is_taken, passed, its_operation}
-use borrow.Author.Rules.{rules}
-use Rattle.runs.proofs.counted.one_counted.Reads as reads
-use Rattle.runs.proofs.counted.one_counted.Lts as lts
-use Rattle.lock.proofs.Client.completed.Reads as completed-reads
-use Rattle.lock.proofs.Record.operation.Reads as operation-reads
-use Rattle.runs.proofs.counted.same.Reads as same_Reads
 use Rattle.runs.proofs.counted.one_counted.Goals as goal
 
 pub returns-then-stepped-ne0 : goal.returns-then-stepped-ne0

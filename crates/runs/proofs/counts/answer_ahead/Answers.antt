@@ -3,13 +3,10 @@ use mathlib.Core.Path.{sym, ap, ◌∙◌}
 use Prim.Native.Nat.{ℕ}
 use native.Mathlib.Omega.{arith}
 use lib.ListN.{length}
-use Rattle.lock.specs.rules.Records as P
 use Rattle.lock.proofs.laws.SettledLaws.{settled}
 use Rattle.lock.proofs.laws.Touched.{readable}
 use Rattle.lock.proofs.laws.OperationLaws.{post_tested}
-use Rattle.runs.specs.laws.GivesBack.{left}
 use Rattle.runs.specs.laws.AnswerLaws.{none_refused, none_impatient, found_patient, answer_by}
-use borrow.Author.Rules.{rules}
 use Rattle.runs.proofs.counts.answer_ahead.Goals as goal
 
 pub returns-then-cause-ne0 : goal.returns-then-cause-ne0

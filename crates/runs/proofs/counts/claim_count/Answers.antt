@@ -1,16 +1,13 @@
 -- `runs::counts::claim_count` meets its contract. Assumes nothing.
-use mathlib.Core.Path.{sym, ap, ◌∙◌, subst}
+use mathlib.Core.Path.{sym, ap, ◌∙◌}
 use Prim.Native.Nat.{ℕ}
 use native.Mathlib.Omega.{arith}
 use lib.ListN.{length}
-use Rattle.tree.specs.rules.Tree.{Node}
 use Rattle.tree.specs.rules.Lists.{notify_list}
 use Rattle.lock.specs.rules.Records as P
 use Rattle.lock.specs.rules.Unreadable.{list_length}
-use Rattle.lock.proofs.laws.Placed.{pieced}
 use Rattle.runs.specs.laws.Standing.{list_short}
 use Rattle.runs.specs.laws.AheadLaws.{leaf_count, inner_count}
-use borrow.Author.Rules.{rules}
 use Rattle.runs.proofs.counts.claim_count.Goals as goal
 
 pub overflow_add-all : goal.overflow_add-all

@@ -1,15 +1,14 @@
 -- `runs::counts::climb_count` meets its contract. Assumes nothing.
-use mathlib.Core.Path.{sym, ap, ◌∙◌, subst}
+use mathlib.Core.Path.{ap, ◌∙◌}
 use mathlib.Core.Logic.{inl, inr}
 use native.Mathlib.Omega.{arith}
-use Rattle.tree.specs.rules.Tree.{Node, level}
+use Rattle.tree.specs.rules.Tree.{level}
 use Rattle.tree.proofs.laws.Code.{bounded}
 use Rattle.tree.proofs.laws.Ancestors.{ancestors_count}
 use Rattle.lock.specs.rules.Records as P
 use Rattle.lock.proofs.laws.Placed.{pieced}
 use Rattle.base.specs.laws.ChoiceLaws.{by_lt}
 use Rattle.runs.specs.laws.AheadLaws.{ticket_length, climb_length, other_length}
-use borrow.Author.Rules.{rules}
 use Rattle.runs.proofs.counts.climb_count.Goals as goal
 
 pub overflow_sub-result : goal.overflow_sub-result

@@ -1,17 +1,12 @@
 -- `runs::counts::count_ahead` meets its contract. Assumes nothing.
-use mathlib.Core.Path.{sym, ap, ◌∙◌, subst}
+use mathlib.Core.Path.{sym, ap, ◌∙◌}
 use Prim.Native.Nat.{ℕ, ◌-◌}
-use native.Mathlib.Omega.{arith}
 use lib.ListN.{length}
-use Rattle.tree.specs.rules.Tree.{Node}
 use Rattle.tree.specs.rules.Lists.{notify_list, check_list}
 use Rattle.lock.specs.rules.Records.{Phase}
-use Rattle.lock.specs.rules.Records as P
-use Rattle.lock.proofs.laws.Placed.{pieced, sound_placed}
 use Rattle.lock.proofs.laws.Phases.{at_claim, at_returning}
 use Rattle.runs.specs.rules.Ahead.{ahead_in}
 use Rattle.runs.specs.laws.AheadLaws.{notify_length, check_length, none_length}
-use borrow.Author.Rules.{rules}
 use Rattle.runs.proofs.counts.count_ahead.Goals as goal
 
 pub returns-in-5 : goal.returns-in-5

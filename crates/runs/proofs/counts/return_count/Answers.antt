@@ -7,9 +7,8 @@ use lib.ListN.{length}
 use Rattle.lock.specs.rules.Records as P
 use Rattle.lock.proofs.laws.Placed.{pieced}
 use Rattle.lock.proofs.laws.Pieces.{few_pieces}
-use Rattle.runs.specs.laws.GivesBack.{gripped_begun, last_count, both_count, left}
+use Rattle.runs.specs.laws.GivesBack.{gripped_begun, last_count, both_count}
 use Rattle.runs.specs.laws.Standing.{notices_few}
-use borrow.Author.Rules.{rules}
 use Rattle.runs.proofs.counts.return_count.Goals as goal
 
 pub overflow_add-left : goal.overflow_add-left

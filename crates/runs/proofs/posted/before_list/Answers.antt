@@ -3,11 +3,8 @@ use mathlib.Core.Path.{◌∙◌}
 use Prim.Native.Nat.{◌-◌}
 use native.Mathlib.Omega.{arith}
 use Rattle.lock.specs.rules.Records.{phase_of}
-use Rattle.lock.specs.rules.Records as P
-use Rattle.runs.specs.rules.Ahead.{standing}
-use Rattle.runs.specs.laws.AheadLaws.{behind_first, behind_later}
+use Rattle.runs.specs.laws.AheadLaws.{behind_later}
 use Rattle.runs.specs.laws.Standing.{stands_in}
-use borrow.Author.Rules.{rules}
 use Rattle.runs.proofs.posted.before_list.Goals as goal
 
 pub standing-requires-2 : goal.standing-requires-2

@@ -3,11 +3,8 @@ use mathlib.Core.Path.{◌∙◌}
 use native.Mathlib.Omega.{arith}
 use Rattle.base.specs.rules.Choice.{choose}
 use Rattle.lock.specs.rules.Records.{phase_of}
-use Rattle.lock.specs.rules.Records as P
-use Rattle.runs.specs.rules.Ahead.{standing}
 use Rattle.runs.specs.laws.AheadLaws.{ticket_first, ticket_later, ticket_count}
 use Rattle.runs.specs.laws.Standing.{stands_first}
-use borrow.Author.Rules.{rules}
 use Rattle.runs.proofs.posted.behind_ticket.Goals as goal
 
 pub standing-requires : goal.standing-requires

@@ -1,18 +1,13 @@
 -- `runs::posted::given_back` meets its contract. Assumes nothing.
 use mathlib.Core.Path.{◌≡◌, ◌∙◌}
-use Prim.Native.Nat.{◌+◌, ◌-◌, ◌<◌}
+use Prim.Native.Nat.{◌+◌, ◌-◌}
 use native.Mathlib.Omega.{arith}
 use native.Mathlib.Numerals.{add-one}
-use lib.ListN.{length}
 use Rattle.base.specs.rules.Choice.{choose}
 use Rattle.lock.specs.rules.Records.{phase_of}
-use Rattle.lock.specs.rules.Records as P
-use Rattle.lock.proofs.laws.Placed.{pieced}
 use Rattle.lock.proofs.laws.Pieces.{few_pieces}
-use Rattle.runs.specs.rules.Ahead.{standing}
 use Rattle.runs.specs.laws.GivesBack.{left, front_at, front_stands, back_at_by, back_stands_by}
 use Rattle.runs.specs.laws.Standing.{notices_few}
-use borrow.Author.Rules.{rules}
 use Rattle.runs.proofs.posted.given_back.Goals as goal
 
 pub overflow_add-left : goal.overflow_add-left

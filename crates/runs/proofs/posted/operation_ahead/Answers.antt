@@ -8,11 +8,10 @@ use native.Mathlib.Omega.{arith}
 use lib.ListN.{length, get_or}
 use Rattle.base.specs.rules.Choice.{choose}
 use Rattle.lock.specs.rules.Records.{Phase, phase_of}
-use Rattle.lock.specs.rules.Records as P
 use Rattle.lock.specs.rules.Unreadable.{list_length}
 use Rattle.lock.proofs.laws.Placed.{sound_placed}
 use Rattle.lock.proofs.laws.Phases.{at_ticket, at_turn, at_blocked, at_claim, at_returning}
-use Rattle.runs.specs.rules.Ahead.{ahead_in, standing}
+use Rattle.runs.specs.rules.Ahead.{ahead_in}
 use Rattle.runs.specs.laws.AheadLaws.{turn_count, blocked_count, claim_within, walks_on, phase_some}
 use Rattle.runs.specs.laws.Standing.{no_operation, stands_in, stands_first, walk_at, list_short}
 use Rattle.runs.proofs.posted.operation_ahead.Goals as goal

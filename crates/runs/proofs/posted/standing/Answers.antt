@@ -1,7 +1,5 @@
 -- `runs::posted::standing` meets its contract. Assumes nothing.
 use mathlib.Core.Path.{◌∙◌}
-use mathlib.Core.Logic.{inr}
-use Rattle.lock.specs.rules.Records as P
 use Rattle.runs.specs.laws.Standing.{stands_as}
 use Rattle.runs.proofs.posted.standing.Goals as goal
 

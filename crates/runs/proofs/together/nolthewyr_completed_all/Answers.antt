@@ -6,7 +6,6 @@ use lib.ListN.{length}
 use Rattle.runs.specs.declared.Ahead.{Ahead}
 use Rattle.runs.specs.rules.Ahead.{ahead_of, ahead_answer}
 use Rattle.runs.specs.laws.AlongLaws.{none_counted}
-use borrow.Author.Rules.{rules}
 use Rattle.runs.proofs.together.nolthewyr_completed_all.Goals as goal
 
 pub returns-then-ahead-eq0 : goal.returns-then-ahead-eq0

@@ -1,5 +1,5 @@
 -- `runs::together::nolthewyr_operations_ahead` meets its contract. In a turn the place is below both the posted and the lent operations. Assumes nothing.
-use Rattle.std.proofs.Common.{◌≡◌, ◌<◌, ◌≤◌, ◌+◌, ℕ, List, length, take, sym, ap, ◌∙◌, subst, min, arith, rules}
+use Rattle.std.proofs.Common.{◌≡◌, ◌<◌, ℕ, List, length, take, sym, ap, ◌∙◌, subst, min, arith, rules}
 use lib.ListN.{set, get_or}
 use Rattle.lock.specs.declared.Client.{Client}
 use Rattle.lock.specs.declared.Operation.{Operation}
@@ -49,11 +49,12 @@ loop-i-preserved c =
     let k = c.loop-i.i in
     let n = counted a.settings a.client a.clock (length ws) _ c.answer_ahead-answer.ensures in
     let below : k < length os = omega (arith, n, c.loop-i-test.true) in
-    let p = posting a.settings a.client a.clock k below in
-    (ap (λ (z : List Operation). set z k c.operation_ahead.result) c.loop-i.invariant.0
-    ∙ ap (set (laid (take k os) ws) k) (c.operation_ahead.ensures ∙ sym (ap (λ (l : List Operation). get_or l k no_operation) p.list))
-    ∙ laid_next k os ws no_operation below,
-    omega (arith, c.loop-i-test.true))
+    let p = posting a.settings a.client a.clock k below in (
+      ap (λ (z : List Operation). set z k c.operation_ahead.result) c.loop-i.invariant.0
+          ∙ ap (set (laid (take k os) ws) k) (c.operation_ahead.ensures ∙ sym (ap (λ (l : List Operation). get_or l k no_operation) p.list))
+          ∙ laid_next k os ws no_operation below,
+      omega (arith, c.loop-i-test.true),
+    )
 
 pub returns : goal.returns
 returns c =

@@ -1,11 +1,8 @@
 -- `schedule::format::any_wrong` meets its contract: no call below k is wrong. Assumes nothing.
-use mathlib.Core.Path.{◌≡◌, sym, ◌∙◌, ap}
+use mathlib.Core.Path.{◌≡◌}
 use mathlib.Core.Bool.{false}
 use Prim.Native.Nat.{◌≤◌, ◌-◌}
-use native.Mathlib.Omega.{arith}
-use borrow.Author.Rules.{rules}
 use Rattle.schedule.specs.rules.Format.{any_wrong}
-use Rattle.schedule.specs.laws.FormatLaws.{earlier_inside, none_yet, none_next, wrong_below}
 use Rattle.schedule.proofs.format.any_wrong.Given as goal
 
 abbrev pub invariant-loop-k : goal.invariant-loop-k

@@ -1,7 +1,6 @@
 -- `schedule::format::call_in` meets its contract. Assumes nothing.
 use native.Mathlib.Omega.{arith}
 use Rattle.schedule.specs.laws.FormatLaws.{call_at_place, place_inside}
-use borrow.Author.Rules.{rules}
 use Rattle.schedule.proofs.format.call_in.Goals as goal
 
 pub call_at-requires : goal.call_at-requires

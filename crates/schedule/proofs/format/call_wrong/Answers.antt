@@ -2,7 +2,6 @@
 use mathlib.Core.Path.{◌∙◌}
 use native.Mathlib.Omega.{arith}
 use Rattle.schedule.specs.laws.FormatLaws.{place_inside, wrong_at_place}
-use borrow.Author.Rules.{rules}
 use Rattle.schedule.proofs.format.call_wrong.Goals as goal
 
 pub wrong_at-requires : goal.wrong_at-requires

@@ -2,7 +2,6 @@
 use native.Mathlib.Omega.{arith}
 use Rattle.schedule.specs.rules.Format.{count_in, offset_in, place_of}
 use Rattle.schedule.specs.laws.Little.{little_below}
-use borrow.Author.Rules.{rules}
 use Rattle.schedule.proofs.format.calls_end.Goals as goal
 
 pub overflow_mul-result : goal.overflow_mul-result

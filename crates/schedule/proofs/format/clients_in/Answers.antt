@@ -1,6 +1,5 @@
 -- `schedule::format::clients_in` meets its contract. Assumes nothing.
 use Rattle.schedule.specs.rules.Format.{clients_in}
-use borrow.Author.Rules.{rules}
 use Rattle.schedule.proofs.format.clients_in.Goals as goal
 
 pub returns : goal.returns

@@ -1,6 +1,5 @@
 -- `schedule::format::count_in` meets its contract. Assumes nothing.
 use Rattle.schedule.specs.rules.Format.{count_in}
-use borrow.Author.Rules.{rules}
 use Rattle.schedule.proofs.format.count_in.Goals as goal
 
 pub returns : goal.returns

@@ -1,7 +1,6 @@
 -- `schedule::format::file_cause` meets its contract. Assumes nothing.
 use mathlib.Core.Path.{sym, ◌∙◌}
 use Rattle.schedule.specs.laws.WellFormed.{cause_malformed, cause_large, cause_none, long_enough}
-use borrow.Author.Rules.{rules}
 use Rattle.schedule.proofs.format.file_cause.Goals as goal
 
 pub returns-then-file_malformed : goal.returns-then-file_malformed

@@ -1,6 +1,5 @@
 -- `schedule::format::file_malformed` meets its contract. Assumes nothing.
 use Rattle.schedule.specs.laws.WellFormed.{too_long, too_short, offset_low, calls_outside, calls_tested}
-use borrow.Author.Rules.{rules}
 use Rattle.schedule.proofs.format.file_malformed.Goals as goal
 
 pub returns-then-bytes-gt65536 : goal.returns-then-bytes-gt65536

@@ -1,6 +1,5 @@
 -- `schedule::format::file_too_large` meets its contract. Assumes nothing.
 use Rattle.schedule.specs.laws.WellFormed.{large_tested}
-use borrow.Author.Rules.{rules}
 use Rattle.schedule.proofs.format.file_too_large.Goals as goal
 
 pub returns : goal.returns

@@ -1,6 +1,5 @@
 -- `schedule::format::offset_in` meets its contract. Assumes nothing.
 use Rattle.schedule.specs.rules.Format.{offset_in}
-use borrow.Author.Rules.{rules}
 use Rattle.schedule.proofs.format.offset_in.Goals as goal
 
 pub returns : goal.returns

@@ -1,6 +1,5 @@
 -- `schedule::format::settings_in` meets its contract. Assumes nothing.
 use Rattle.schedule.specs.rules.Format.{settings_in}
-use borrow.Author.Rules.{rules}
 use Rattle.schedule.proofs.format.settings_in.Goals as goal
 
 pub returns : goal.returns

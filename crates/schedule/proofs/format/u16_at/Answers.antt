@@ -1,8 +1,6 @@
 -- `schedule::format::u16_at` meets its contract. Assumes nothing.
-use Prim.Native.Nat.{◌+◌}
 use native.Mathlib.Omega.{arith}
 use Rattle.schedule.specs.laws.Little.{little_two}
-use borrow.Author.Rules.{rules}
 use Rattle.schedule.proofs.format.u16_at.Goals as goal
 
 pub returns : goal.returns

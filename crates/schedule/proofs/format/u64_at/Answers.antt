@@ -2,7 +2,6 @@
 use Prim.Native.Nat.{◌+◌}
 use native.Mathlib.Omega.{arith}
 use Rattle.schedule.specs.laws.Little.{little_eight, little_below}
-use borrow.Author.Rules.{rules}
 use Rattle.schedule.proofs.format.u64_at.Goals as goal
 
 pub overflow_mul-result : goal.overflow_mul-result

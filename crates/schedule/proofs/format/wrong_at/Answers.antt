@@ -1,6 +1,5 @@
 -- `schedule::format::wrong_at` meets its contract. Assumes nothing.
 use Rattle.schedule.specs.laws.FormatLaws.{wrong_tested}
-use borrow.Author.Rules.{rules}
 use Rattle.schedule.proofs.format.wrong_at.Goals as goal
 
 pub returns : goal.returns

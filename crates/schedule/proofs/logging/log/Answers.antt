@@ -1,10 +1,7 @@
 -- `schedule::logging::log` meets its contract. Assumes nothing.
-use mathlib.Core.Path.{sym, ◌∙◌}
-use Prim.Native.Nat.{zero-le}
 use native.Mathlib.Omega.{arith}
 use Rattle.schedule.specs.rules.Log.{log_of}
-use Rattle.schedule.specs.laws.Refusing.{refused_whole, no_room, put_whole, counted}
-use borrow.Author.Rules.{rules}
+use Rattle.schedule.specs.laws.Refusing.{refused_whole, put_whole, counted}
 use Rattle.schedule.proofs.logging.log.Goals as goal
 
 pub returns-then-number-ne0 : goal.returns-then-number-ne0

@@ -1,14 +1,8 @@
 -- `schedule::logging::put_lines` meets its contract. Assumes nothing.
-use mathlib.Core.Path.{◌≡◌, refl, ◌∙◌}
-use mathlib.Core.List.{◌++◌}
-use Prim.Native.Nat.{◌-◌}
+use mathlib.Core.Path.{refl, ◌∙◌}
 use native.Mathlib.Omega.{arith}
-use lib.ListN.{length}
-use Rattle.schedule.specs.rules.Format.{calls_in}
-use Rattle.schedule.specs.rules.Log.{header_line, lines}
-use Rattle.schedule.specs.laws.RunLaws.{state_of}
 use Rattle.schedule.specs.laws.WellFormed.{call_inside}
-use Rattle.schedule.specs.laws.Writing.{Written, written_more, written_all, written_first, few_calls}
+use Rattle.schedule.specs.laws.Writing.{written_more, written_all, written_first, few_calls}
 use borrow.Author.Rules.{rules}
 use Rattle.schedule.proofs.logging.put_lines.Goals as goal
 

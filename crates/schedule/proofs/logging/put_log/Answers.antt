@@ -1,10 +1,8 @@
 -- `schedule::logging::put_log` meets its contract. Assumes nothing.
 use native.Mathlib.Omega.{arith}
-use lib.ListN.{length-take}
 use Rattle.schedule.specs.laws.Refusing.{file_passes}
 use Rattle.schedule.specs.laws.WellFormed.{well_formed}
 use Rattle.schedule.specs.laws.Writing.{log_run}
-use borrow.Author.Rules.{rules}
 use Rattle.schedule.proofs.logging.put_log.Goals as goal
 
 pub put_lines-requires : goal.put_lines-requires

@@ -3,7 +3,6 @@ use Rattle.lock.proofs.laws.ByKind.{client_of_kind}
 use Rattle.schedule.specs.laws.Appended.{restated}
 use Rattle.schedule.specs.laws.FormatLaws.{call_read}
 use Rattle.schedule.specs.laws.Writing.{line_in}
-use borrow.Author.Rules.{rules}
 use Rattle.schedule.proofs.logging.put_made.Goals as goal
 
 pub returns : goal.returns

@@ -7,7 +7,6 @@ use Rattle.schedule.specs.declared.Run.{Run}
 use Rattle.schedule.specs.laws.Refusing.{file_passes}
 use Rattle.schedule.specs.laws.RunLaws.{begun, tree_words}
 use Rattle.schedule.specs.laws.WellFormed.{well_formed}
-use borrow.Author.Rules.{rules}
 use Rattle.schedule.proofs.running.begin.Goals as goal
 
 pub settings_in-settings-requires : goal.settings_in-settings-requires

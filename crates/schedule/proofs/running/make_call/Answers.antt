@@ -1,7 +1,6 @@
 -- `schedule::running::make_call` meets its contract. Assumes nothing.
 use mathlib.Core.Path.{refl, ◌∙◌}
 use Rattle.schedule.specs.laws.RunLaws.{call_made}
-use borrow.Author.Rules.{rules}
 use Rattle.schedule.proofs.running.make_call.Goals as goal
 
 pub returns : goal.returns

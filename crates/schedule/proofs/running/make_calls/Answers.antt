@@ -1,11 +1,7 @@
 -- `schedule::running::make_calls` meets its contract. Assumes nothing.
-use mathlib.Core.Path.{◌≡◌, refl, sym, ◌∙◌}
-use Prim.Native.Nat.{◌-◌}
+use mathlib.Core.Path.{refl, sym, ◌∙◌}
 use native.Mathlib.Omega.{arith}
-use lib.ListN.{length}
-use Rattle.lock.specs.rules.History as History
-use Rattle.schedule.specs.rules.Format.{calls_in}
-use Rattle.schedule.specs.laws.RunLaws.{state_of, run_from, run_all, run_more, run_done}
+use Rattle.schedule.specs.laws.RunLaws.{run_all, run_more, run_done}
 use Rattle.schedule.specs.laws.WellFormed.{call_inside}
 use borrow.Author.Rules.{rules}
 use Rattle.schedule.proofs.running.make_calls.Goals as goal

@@ -1,13 +1,10 @@
 -- `schedule::running::make_calls` meets its contract. Assumes nothing.
-use mathlib.Core.Path.{◌≡◌, refl, sym, ◌∙◌}
+use mathlib.Core.Path.{◌≡◌}
 use Prim.Native.Nat.{◌-◌}
-use native.Mathlib.Omega.{arith}
 use lib.ListN.{length}
 use Rattle.lock.specs.rules.History as History
 use Rattle.schedule.specs.rules.Format.{calls_in}
-use Rattle.schedule.specs.laws.RunLaws.{state_of, run_from, run_all, run_more, run_done}
-use Rattle.schedule.specs.laws.WellFormed.{call_inside}
-use borrow.Author.Rules.{rules}
+use Rattle.schedule.specs.laws.RunLaws.{state_of, run_from}
 use Rattle.schedule.proofs.running.make_calls.Given as goal
 
 abbrev pub invariant-loop-k : goal.invariant-loop-k

@@ -1,6 +1,5 @@
 -- `schedule::running::opening_number` meets its contract. Assumes nothing.
 use Rattle.schedule.specs.laws.RunLaws.{opening_number_lem}
-use borrow.Author.Rules.{rules}
 use Rattle.schedule.proofs.running.opening_number.Goals as goal
 
 pub returns : goal.returns

@@ -8,7 +8,6 @@ use Rattle.schedule.specs.rules.Format.{lent_for}
 use Rattle.schedule.specs.rules.Running.{opening_in}
 use Rattle.schedule.specs.laws.Refusing.{file_refuses, opening_tells}
 use Rattle.schedule.specs.laws.WellFormed.{well_formed}
-use borrow.Author.Rules.{rules}
 use Rattle.schedule.proofs.running.refusal.Goals as goal
 
 pub returns-then-cause-ne0 : goal.returns-then-cause-ne0

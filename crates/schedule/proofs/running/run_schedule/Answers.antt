@@ -1,12 +1,10 @@
 -- `schedule::running::run_schedule` meets its contract. Assumes nothing.
 use mathlib.Core.Path.{ap, ◌∙◌}
 use native.Mathlib.Omega.{arith}
-use lib.ListN.{length-take}
 use Rattle.lock.specs.rules.Table.{State}
 use Rattle.schedule.specs.laws.Refusing.{file_passes}
 use Rattle.schedule.specs.laws.RunLaws.{all_made}
 use Rattle.schedule.specs.laws.WellFormed.{well_formed}
-use borrow.Author.Rules.{rules}
 use Rattle.schedule.proofs.running.run_schedule.Goals as goal
 
 pub make_calls-requires : goal.make_calls-requires

@@ -5,7 +5,6 @@ use native.Mathlib.Omega.{arith}
 use Rattle.tree.specs.rules.Tree.{last, word_count}
 use Rattle.tree.proofs.laws.Climb.{first_mono, first_closed}
 use Rattle.tree.proofs.laws.Level.{word_count_lem}
-use borrow.Author.Rules.{rules}
 use Rattle.schedule.proofs.running.word_count.Goals as goal
 
 pub returns-then-levels-eq0 : goal.returns-then-levels-eq0

@@ -9,10 +9,10 @@ unfolding header_line
 returns c =
     record {
       piece =
-      joined c.put_named-a.ensures.piece
-      (joined c.put_named-b.ensures.piece
-      (joined c.put_named-c.ensures.piece
-      (joined c.put_named-d.ensures.piece
-      c.put_bytes.ensures)));
+          joined c.put_named-a.ensures.piece
+          (joined c.put_named-b.ensures.piece
+          (joined c.put_named-c.ensures.piece
+          (joined c.put_named-d.ensures.piece
+          c.put_bytes.ensures)));
       short = search rules;
     }

@@ -11,7 +11,7 @@ unfolding kind_text
 returns-then-call-eq0 c =
     record {
       piece =
-      restated (sym (ap kind_text (kind_request c.args.call.kind c.args.call.client c.args.call.a c.args.call.b
+          restated (sym (ap kind_text (kind_request c.args.call.kind c.args.call.client c.args.call.a c.args.call.b
           c.if-call-eq0.true)))
           c.put_bytes.ensures;
       short = search rules;
@@ -22,7 +22,7 @@ unfolding kind_text
 returns-then-call-eq1 c =
     record {
       piece =
-      restated (sym (ap kind_text (kind_step c.args.call.kind c.args.call.client c.args.call.a c.args.call.b
+          restated (sym (ap kind_text (kind_step c.args.call.kind c.args.call.client c.args.call.a c.args.call.b
           c.if-call-eq1.true)))
           c.put_bytes-then-call-eq1.ensures;
       short = search rules;
@@ -33,7 +33,7 @@ unfolding kind_text
 returns-then-call-eq2 c =
     record {
       piece =
-      restated (sym (ap kind_text (kind_release c.args.call.kind c.args.call.client c.args.call.a c.args.call.b
+          restated (sym (ap kind_text (kind_release c.args.call.kind c.args.call.client c.args.call.a c.args.call.b
           c.if-call-eq2.true)))
           c.put_bytes-then-call-eq2.ensures;
       short = search rules;
@@ -44,7 +44,7 @@ unfolding kind_text
 returns c =
     record {
       piece =
-      restated (sym (ap kind_text (kind_cancel c.args.call.kind c.args.call.client c.args.call.a c.args.call.b
+          restated (sym (ap kind_text (kind_cancel c.args.call.kind c.args.call.client c.args.call.a c.args.call.b
           c.if-call-eq0.false c.if-call-eq1.false c.if-call-eq2.false)))
           c.put_bytes-2.ensures;
       short = search rules;

@@ -3,7 +3,6 @@ use native.Mathlib.Omega.{arith}
 use Rattle.lock.proofs.laws.ByKind.{client_of_kind}
 use Rattle.schedule.specs.laws.Appended.{joined, restated}
 use Rattle.schedule.specs.laws.Writing.{line_of_lem}
-use borrow.Author.Rules.{rules}
 use Rattle.schedule.proofs.text.put_line.Goals as goal
 
 pub returns : goal.returns

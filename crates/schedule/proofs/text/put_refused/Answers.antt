@@ -1,7 +1,6 @@
 -- `schedule::text::put_refused` meets its contract. Assumes nothing.
 use Rattle.schedule.specs.laws.Appended.{joined}
 use Rattle.schedule.specs.rules.Refusal.{refused_line}
-use borrow.Author.Rules.{rules}
 use Rattle.schedule.proofs.text.put_refused.Goals as goal
 
 pub returns : goal.returns

@@ -1,8 +1,6 @@
 -- `table::by_levels::nolthewyr_word_count` meets its contract. Assumes nothing.
 use mathlib.Core.Path.{◌∙◌}
-use native.Mathlib.Omega.{arith}
 use Rattle.cover.specs.rules.Answer.{levels_outside}
-use Rattle.cover.proofs.laws.Code.{levels_inside}
 use Rattle.table.specs.laws.WantedLaws.{wanted_none, wanted_counted}
 use Rattle.table.proofs.by_levels.nolthewyr_word_count.Goals as goal
 

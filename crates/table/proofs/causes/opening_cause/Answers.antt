@@ -2,7 +2,6 @@
 use mathlib.Core.Path.{sym, ◌∙◌}
 use Rattle.lock.proofs.laws.CallLaws.{cause_tested}
 use Rattle.table.specs.laws.CauseLaws.{opening_tree, opening_clients, opening_passed}
-use borrow.Author.Rules.{rules}
 use Rattle.table.proofs.causes.opening_cause.Goals as goal
 
 pub returns-then-cause-ne0 : goal.returns-then-cause-ne0

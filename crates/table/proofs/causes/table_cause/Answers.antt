@@ -1,6 +1,5 @@
 -- `table::causes::table_cause` meets its contract. Assumes nothing.
 use mathlib.Core.Path.{sym, ◌∙◌}
-use borrow.Author.Rules.{rules}
 use Rattle.table.specs.laws.CauseLaws.{table_opening, table_client, table_passed}
 use Rattle.table.proofs.causes.table_cause.Goals as goal
 

@@ -1,12 +1,8 @@
 -- `table::zeroes::zero_words` meets its contract: the invariant has the words with the first i set to 0. Assumes nothing.
-use mathlib.Core.Path.{◌≡◌, sym, ◌∙◌, ap, subst}
-use mathlib.Core.List.{List}
-use Prim.Native.Nat.{ℕ, ◌<◌, ◌≤◌, ◌-◌, ◌+◌}
-use native.Mathlib.Nat.{le_antisymm}
-use native.Mathlib.Omega.{arith}
-use lib.ListN.{length, set, replicate}
-use borrow.Author.Rules.{rules}
-use Rattle.table.proofs.Filled.{filled, filled_length, filled_none, filled_next, filled_all}
+use mathlib.Core.Path.{◌≡◌}
+use Prim.Native.Nat.{◌≤◌, ◌-◌}
+use lib.ListN.{length}
+use Rattle.table.proofs.Filled.{filled}
 use Rattle.table.proofs.zeroes.zero_words.Given as goal
 
 abbrev pub invariant-loop-i : goal.invariant-loop-i
