@@ -90,7 +90,7 @@ module _ (s : Settings) (rs : List Record) (r : Record) (last now : ℕ) (later 
     whole : suc r.place ≡ length (notify_list m n)
     whole = omega (arith, listed)
 
-    -- late, which "gives outcome 2 and 10": so with each outcome o that a record on its way back may have
+    -- late, which "gives outcome 2 and 10": so with each outcome o from 1 to 3
     late_keeps : (o : ℕ) → o ≢ 0 → o < 4 → Keeps s rs r x w (add_dmax 1 w) (sent_back o p) now
     unfolding pieces piece_at
     late_keeps o some few =

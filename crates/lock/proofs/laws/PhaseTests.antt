@@ -57,9 +57,9 @@ module _ {s : Settings} {r : Record} (v : Begun s r) where
 
   -- ---- at a leaf or above
 
-  module _ {leaf : Bool} (is_Is_leaf : leaf ≡ is_leaf s piece) where
+  module _ {leaf : Bool} (leaf_is : leaf ≡ is_leaf s piece) where
     leaf_elsewhere : 1 ≤ r.phase → r.phase < 9 → (3 ≤ r.phase → r.phase < 7 → ⊥) → leaf ≡ elsewhere s r
-    leaf_elsewhere a b c = is_Is_leaf ∙ elsewhere_leaf s r r.phase a b c
+    leaf_elsewhere a b c = leaf_is ∙ elsewhere_leaf s r r.phase a b c
 
     -- 1 ticket, 2 turn
     pub own_asking : 1 ≤ r.phase → r.phase ≤ 2 → (k : ℕ) → k < 3 → differ r.grip k ≡ lacking s r
@@ -72,7 +72,7 @@ module _ {s : Settings} {r : Record} (v : Begun s r) where
     -- the grip in 3, 4 and 5
     module _ {l : Bool} (g : l ≡ choose leaf (differ r.grip 0) (differ r.grip 2)) (x : 3 ≤ r.phase) (y : r.phase ≤ 5) where
       grip_is : l ≡ differ r.grip (choose (is_leaf s piece) 0 2)
-      grip_is = g ∙ untaken_is leaf r.grip ∙ ap (λ (b : Bool). differ r.grip (choose b 0 2)) is_Is_leaf
+      grip_is = g ∙ untaken_is leaf r.grip ∙ ap (λ (b : Bool). differ r.grip (choose b 0 2)) leaf_is
 
       notices_climbing : l ≡ false → nonzero r.notices ≡ (held_early r || notices_wrong s r)
       notices_climbing z = notices_few s r y (omega (arith, same_number r.grip _ (sym grip_is ∙ z), early_few))
@@ -128,7 +128,7 @@ module _ {s : Settings} {r : Record} (v : Begun s r) where
       own_checking e {m} h =
           taken _ _ (omega arith) (omega arith)
           (λ _. past_or leaf m r.place (λ z.
-          let other = eqb-false (level piece) s.levels (sym is_Is_leaf ∙ z) in
+          let other = eqb-false (level piece) s.levels (sym leaf_is ∙ z) in
           omega (arith, checked s.levels s.distance piece v.settled.distance_some (by_lt (level piece) s.levels (λ q. q) (λ q. absurd (other (omega (arith, here.inside)))))))
           ∙ ap₂ ◌||◌ (leaf_elsewhere (omega arith) (omega arith) (λ a b. omega arith)) (place_is s r m (h ∙ list_checking s r r.phase e)))
           (λ g _. more _ (notices_waiting s r (omega arith) (omega arith) g))
@@ -157,7 +157,7 @@ module _ {s : Settings} {r : Record} (v : Begun s r) where
           let nowhere = elsewhere_none s r r.phase (λ a b. omega arith) (λ a b. omega arith) in
           let held = sym (ap (λ (b : Bool). b && ltb (suc r.current) (length (pieces r))) (ne_eqb r.phase 9 (λ z. omega arith))) in
           let outcome = sym (choose_eq r.phase 10 (eqb r.outcome 0) (nonzero r.outcome) e) in
-          let grip = l ∙ ap (λ (b : Bool). choose b (differ r.grip 0 && differ r.grip 3) (ltb 3 r.grip)) is_Is_leaf ∙ grip_returning (is_leaf s piece) r.grip r.phase e in
+          let grip = l ∙ ap (λ (b : Bool). choose b (differ r.grip 0 && differ r.grip 3) (ltb 3 r.grip)) leaf_is ∙ grip_returning (is_leaf s piece) r.grip r.phase e in
           let giving = ap (λ (x : ℕ). ltb r.current r.giving || eqb x 0) h ∙ ap (λ (b : Bool). ltb r.current r.giving || b) (sym (choose_eq r.phase 10 _ (nonzero r.giving) e)) in
           let impatient = sym (ap (λ (b : Bool). b && eqb r.outcome 4 && eqb r.current 0) (eq-eqb r.phase 10 e)) in
           in_order (ltb 4 r.outcome) past (ltb n r.notices || nonzero r.notices && ltb r.grip 3) (eqb r.outcome 0) lack (ltb r.current r.giving || eqb g 0)
