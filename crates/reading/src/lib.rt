@@ -76,7 +76,8 @@ fn words_of(shown: &str) -> &str
     }
 }
 
-// Writes a line to standard error: what failed, a colon and the system's words for the error. If this cannot be written either, there is nobody left to tell.
+// Writes a line to standard error: what failed, a colon and the system's words for the error. If this cannot be written either, there is nobody left to tell. No contract: none can say what a
+// stream is given.
 pub fn complain(rt: &impl Eprint, what: &str, error: &io::Error) {
     let mut shown = ArrayString::<256>::new();
     let _ = write!(shown, "{error}");

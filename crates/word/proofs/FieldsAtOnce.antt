@@ -8,7 +8,7 @@ use native.Mathlib.Nat.{mod-lt, mod-eq_of_lt, lt_of_lt_of_le, le_of_eq, add-mod,
 use native.Mathlib.Numerals.{one-add}
 use native.Mathlib.Omega.{arith}
 use lib.Pow.{pow_pos, pow_mono, split, high, low, shr_lt, mod-pow-add, ones_lt, add-lt-pow}
-use lib.Bits.{bit_and, bit_xor, and_mask, and_block, xor_block, and_zero_r, xor_zero_r, and_lt, xor_lt, and_le_r}
+use lib.Bits.{bit_and, bit_xor, and_mask, and_block, xor_block, and_zero_r, xor_zero_r, and_lt, xor_lt}
 use lib.Dec.{T, eqb, eqb→eq}
 use Rattle.base.specs.laws.Every.{every, every_at}
 use Rattle.word.specs.rules.Word.{add_fields}
@@ -26,10 +26,6 @@ lows (j ∷ js) = lows js * 2 ^ suc j + (2 ^ j - 1)
 unfoldable pub widths : List ℕ → List ℕ
 widths [] = []
 widths (j ∷ js) = suc j ∷ widths js
-
--- the sum that leaves the top bit of a word out fits in the word
-pub low_sum_lt : (mask w d : ℕ) → mask < 2 ^ 63 → bit_and w mask + bit_and d mask < 2 ^ 64
-low_sum_lt mask w d h = omega (arith, and_le_r w mask, and_le_r d mask)
 
 -- three digits, by a table
 same : ℕ → ℕ → ℕ → Bool

@@ -3,7 +3,7 @@ use mathlib.Core.Path.{◌≡◌, sym, ap, ap₂, ◌∙◌}
 use Prim.Native.Nat.{ℕ, ◌+◌, ◌-◌, ◌*◌, ◌/◌, ◌%◌, ◌^◌, ◌≤◌, ◌<◌}
 use native.Mathlib.Nat.{mod-lt, mod-eq_of_lt, add-mod-mod, lt_of_lt_of_le}
 use native.Mathlib.Omega.{arith}
-use lib.Pow.{pow_pos, pow-lt, pow_mono, split, mod-mod-pow, shr_mod, shl_lt, shl_exact, ones_lt, ones_split, high, add-lt-pow}
+use lib.Pow.{pow_pos, pow-lt, pow_mono, split, mod-mod-pow, shr_mod, shl_lt, shl_exact, ones_lt, ones_split, high}
 use lib.Bits.{bit_and, bit_or, and_mask, mask_lt, and_block, or_block, or_zero_r, or_shifted_r}
 use Rattle.word.specs.rules.Word.{field, put_field, add_field, leaf_bits}
 use Rattle.word.proofs.laws.Leaf.{leaf_shl}
@@ -11,10 +11,6 @@ use Rattle.word.proofs.laws.Leaf.{leaf_shl}
 -- `1 << k` is 2 ^ k
 pub one_shl : (k : ℕ) → k < 64 → (1 * 2 ^ k) % 2 ^ 64 ≡ 2 ^ k
 one_shl k h = let l : 2 ^ k < 2 ^ 64 = pow-lt h in mod-eq_of_lt (omega arith) ∙ omega arith
-
--- so 1 can be taken from it
-pub one_le_shl : (k : ℕ) → k < 64 → 1 ≤ (1 * 2 ^ k) % 2 ^ 64
-one_le_shl k h = rw one_shl (pow_pos k)
 
 -- the mask of a field, shifted to its place, loses nothing
 mask_shl : (s k : ℕ) → k + s ≤ 64 → ((2 ^ k - 1) * 2 ^ s) % 2 ^ 64 ≡ (2 ^ k - 1) * 2 ^ s
@@ -52,10 +48,6 @@ or_put s k v w hv =
     ap₂ bit_or l m
     ∙ or_block (k + s) q 0 r (v * 2 ^ s) (lt_of_lt_of_le (mod-lt w (pow_pos s)) (pow_mono (omega arith))) (shl_lt k s hv)
     ∙ ap₂ (λ (a b : ℕ). a * 2 ^ (k + s) + b) (or_zero_r q) (or_shifted_r v s r (mod-lt w (pow_pos s)))
-
--- the sum of a field and what is added fits
-pub sum_lt : (k x d : ℕ) → k < 64 → bit_and x (2 ^ k - 1) + bit_and d (2 ^ k - 1) < 2 ^ 64
-sum_lt k x d h = lt_of_lt_of_le (add-lt-pow k (mask_lt x k) (mask_lt d k)) (pow_mono h)
 
 -- the whole of a masked add
 pub added : (s k d w : ℕ) → k + s ≤ 64 → w < 2 ^ 64

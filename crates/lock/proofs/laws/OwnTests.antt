@@ -3,7 +3,7 @@
 use Rattle.std.specs.Prelude.{◌≡◌, refl, Bool, true, false, not, ◌&&◌, ℕ, suc, ◌≤◌, ◌<◌, leb, length}
 use Rattle.std.proofs.Math.Path.{sym, ap, ap₂, subst}
 use Rattle.std.proofs.Common.{◌∙◌, lt-ltb, le-ltb, le-leb, eq-eqb, ne_eqb}
-use Rattle.std.proofs.Math.Bool.{◌||◌}
+use Rattle.std.proofs.Math.Bool.{◌||◌, or-false}
 use native.Mathlib.Omega.{arith}
 use Rattle.std.proofs.Math.Dec.{T, eqb, ltb, lt→ltb, ltb→lt}
 use Rattle.base.specs.rules.Choice.{choose}
@@ -16,10 +16,6 @@ use Rattle.lock.specs.rules.Records.{phase_of, pieces, current_piece}
 use Rattle.lock.specs.rules.Unreadable.{nonzero, differ, number_too_large, idle_filled, not_covered, no_current, ticket_too_large, place_past, notices_wrong, time_ahead, phase_elsewhere, held_early, outcome_wrong, grip_lacking, giving_wrong, out_of_patience_first, fields_wrong, unreadable}
 use Rattle.lock.proofs.laws.ReadableLaws.{past_list, past_none, past_some, place_is, list_none, elsewhere_none}
 use Rattle.lock.specs.laws.OwnTests.{not_begun, own_wrong}
-
-pub or-false : (b : Bool) → (b || false) ≡ b
-or-false true = refl
-or-false false = refl
 
 -- the clauses in the documents' order, and in two parts
 parted : (n c u t p q a e h o l v i f : Bool)

@@ -2,7 +2,7 @@
 use Rattle.std.specs.Prelude.{◌≡◌, Bool, true, ◌&&◌, T, leb, length}
 use Rattle.std.proofs.Math.Path.{refl, sym, ap, ap₂}
 use Rattle.std.proofs.Common.{◌∙◌, eqb→eq}
-use Rattle.std.proofs.Math.Bool.{false, ◌||◌}
+use Rattle.std.proofs.Math.Bool.{false, ◌||◌, or-false}
 use Prim.Native.Nat.{ℕ, suc, ◌+◌, ◌-◌, ◌≤◌, ◌<◌}
 use native.Mathlib.Omega.{arith}
 use borrow.Author.Tests.{lt-ltb, le-ltb, leb-false, eqb-false, eq-eqb, ne_eqb}
@@ -24,7 +24,7 @@ use Rattle.lock.specs.laws.ReadableLaws.{Begun}
 use Rattle.lock.proofs.laws.ReadableLaws.{same_number, past_some, place_is, list_climbing, list_notifying, list_checking, list_returning, elsewhere_leaf, elsewhere_root, elsewhere_none, grip_climbing, grip_taken, grip_returning}
 use Rattle.lock.proofs.laws.ActiveLaws.{below_root, notified, checked}
 use Rattle.lock.specs.laws.OwnTests.{own_wrong}
-use Rattle.lock.proofs.laws.OwnTests.{or-false, untaken_is, past_or, past_or_root, elsewhere, lacking, count, own_taking, notices_at, notices_few, notices_many, notices_waiting, notices_place, none_walked, bare}
+use Rattle.lock.proofs.laws.OwnTests.{untaken_is, past_or, past_or_root, elsewhere, lacking, count, own_taking, notices_at, notices_few, notices_many, notices_waiting, notices_place, none_walked, bare}
 
 in_order : (n p q o l v i : Bool) → ((((((n || p) || q) || o) || l) || v) || i) ≡ (n || (p || (q || (false || (false || (o || (l || (v || i))))))))
 in_order true p q o l v i = refl

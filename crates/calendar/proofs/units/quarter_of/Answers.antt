@@ -3,12 +3,6 @@ use mathlib.Core.Path.{refl}
 use Rattle.calendar.specs.rules.Calendar.{quarter_of}
 use Rattle.calendar.proofs.units.quarter_of.Goals as goal
 
--- UNKNOWN nonzero-div-t4
--- div-t4 c = search rules
-
--- UNKNOWN nonzero-rem-t5
--- rem-t5 c = search rules
-
 pub returns : goal.returns
 unfolding quarter_of
 returns c = refl

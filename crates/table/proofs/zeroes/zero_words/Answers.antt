@@ -31,8 +31,5 @@ loop-i-preserved c =
     let i = c.loop-i.i in
     (goes l ws i c.loop-i.invariant.0 c.loop-i-test.true, omega (arith, c.loop-i-test.true, long l ws i c.loop-i.invariant.0))
 
--- UNKNOWN same-length
--- same_length c = long c.before.before.args.words.now c.before.loop.words c.before.loop.i c.before.loop.invariant.0
-
 pub returns : goal.returns
 returns c = ends c.args.words.now c.loop-i.words c.loop-i.i c.loop-i.invariant.0 c.loop-i.invariant.1 c.loop-i-test.false
