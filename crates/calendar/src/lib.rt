@@ -6,7 +6,9 @@ mod calls;
 mod closed;
 mod figures;
 mod hours;
+mod told;
 mod units;
+mod window;
 
 pub use calls::{nolthewyr_calendar_quarter, nolthewyr_calendar_window};
 
