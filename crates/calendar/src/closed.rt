@@ -14,7 +14,7 @@ struct WardHours<'a> {
     ghost there: { 14 * ward + 14 ≤ length hours.now },
 }
 
-impl<'a> WardHours<'a> {
+impl WardHours<'_> {
     // Whether a quarter of the day, from `from` to `to`, is closed.
     fn closed_in_day(self, day: u64, from: u64, to: u64) -> bool
         requires { day < 7 }
@@ -43,7 +43,7 @@ fn whole_days(days: u64) -> u64
     (days - 1).min(7)
 }
 
-impl<'a> Window<'a> {
+impl Window<'_> {
     // Whether some quarter of the window is closed.
     pub fn some_closed(self) -> bool
         ensures { result ≡ some_closed self.entry.figures.calendar.weeks self.entry.hours.now self.entry.first self.entry.last }

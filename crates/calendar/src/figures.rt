@@ -25,7 +25,11 @@ impl Figures {
         if (calendar.levels < 2) | (12 < calendar.levels) {
             return Err(Refusal::Settings);
         }
-        if (calendar.wards < 1) | (64 < calendar.wards) | (calendar.weeks < 1) | (60 < calendar.weeks) {
+        if (calendar.wards < 1)
+            | (64 < calendar.wards)
+            | (calendar.weeks < 1)
+            | (60 < calendar.weeks)
+        {
             return Err(Refusal::Calendar);
         }
         if tree_units(calendar.levels) < unit_count(calendar) {

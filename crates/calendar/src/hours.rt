@@ -17,7 +17,9 @@ fn some_pair_wrong(hours: &[u64]) -> bool
     ensures { result ≡ some_pair_wrong hours.now (length hours.now / 2) }
 {
     let (pairs, _) = hours.as_chunks::<2>();
-    pairs.iter().any(|[opening, closing]| pair_wrong(*opening, *closing))
+    pairs
+        .iter()
+        .any(|[opening, closing]| pair_wrong(*opening, *closing))
 }
 
 impl Figures {

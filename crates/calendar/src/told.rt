@@ -1,7 +1,4 @@
 // What C is told of a result: the answer, or the number of the cause and zeros.
-ghost use Rattle.std.specs.Prelude.{◌≡◌};
-ghost use Rattle.calendar.specs.laws.Told.{window_told, quarter_told};
-
 use crate::{Quarter, QuarterAnswer, WindowAnswer};
 use base::Refusal;
 
@@ -38,12 +35,7 @@ impl From<Result<Quarter, Refusal>> for QuarterAnswer {
             Ok(at) => QuarterAnswer { number: 0, at },
             Err(cause) => QuarterAnswer {
                 number: cause.number(),
-                at: Quarter {
-                    ward: 0,
-                    week: 0,
-                    day: 0,
-                    quarter: 0,
-                },
+                at: Quarter::default(),
             },
         }
     }

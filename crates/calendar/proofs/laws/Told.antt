@@ -1,5 +1,5 @@
 -- Laws: the causes of a calendar and of a window, test by test, and what C is told of them. Assumes nothing.
-use Rattle.std.specs.Prelude.{◌≡◌, refl, true, false, ◌||◌, List, ℕ, ◌<◌, Result}
+use Rattle.std.specs.Prelude.{◌≡◌, true, false, List, ℕ, ◌<◌}
 use Rattle.std.proofs.Common.{sym, ap, ◌∙◌, arith}
 use Rattle.base.specs.declared.Refusal.{Refusal}
 use Rattle.base.specs.declared.Refusal.TheVariants.{Settings, WordCount, Clients, Client, Clock, Unreadable, Window, Phase, ClearBit, File, TooLarge, Calendar as calendar, Order, Closed}
@@ -9,7 +9,7 @@ use Rattle.base.specs.laws.TestLaws.{by_test}
 use Rattle.cover.specs.rules.Answer.{levels_outside}
 use Rattle.calendar.specs.declared.Calendar.{Calendar}
 use Rattle.calendar.specs.declared.Quarter.{Quarter}
-use Rattle.calendar.specs.rules.Calendar.{Fits, figures_outside}
+use Rattle.calendar.specs.rules.Calendar.{figures_outside}
 use Rattle.calendar.specs.rules.Back.{quarter_refused, quarter_answer}
 use Rattle.calendar.specs.rules.Windows.{calendar_wrong, out_of_order, window_refused, window_answer}
 use Rattle.calendar.specs.laws.Told.{figures_cause, order_cause}

@@ -1,9 +1,9 @@
 -- `calendar::closed::WardHours::closed_in_days` meets its contract. Assumes nothing.
-use Rattle.std.proofs.Common.{rules, refl, ◌∙◌, ℕ, ◌+◌, ◌%◌, Bool, zero-add, arith}
+use Rattle.std.proofs.Common.{rules, refl, ◌∙◌, ℕ, ◌+◌, ◌%◌, arith}
 use Rattle.std.proofs.lemmas.Iterator.{YieldsList-from_range}
 use Rattle.std.proofs.lemmas.Iterator.Search.{any_from_yields_List}
 use borrow.Author.Tests.{tests}
-use Rattle.calendar.specs.laws.Closed.{closed_in_day, closed_in_days}
+use Rattle.calendar.specs.laws.Closed.{closed_in_day}
 use Rattle.calendar.proofs.laws.Closed.{any_day}
 use Rattle.calendar.proofs.closed.WardHours.closed_in_days.Goals as goal
 

@@ -1,8 +1,8 @@
 -- `calendar::figures::Figures::new` meets its contract. Assumes nothing.
-use Rattle.std.proofs.Common.{◌∙◌, sym, arith, lt-ltb, le-ltb, false, ◌≡◌}
+use Rattle.std.proofs.Common.{◌∙◌, sym, arith, lt-ltb, le-ltb}
 use Rattle.tree.specs.rules.Tree.{units}
 use Rattle.cover.specs.rules.Answer.{levels_outside}
-use Rattle.calendar.specs.rules.Calendar.{unit_count, figures_outside}
+use Rattle.calendar.specs.rules.Calendar.{unit_count}
 use Rattle.calendar.proofs.laws.Figures.{ranges_refused, count_tested}
 use Rattle.calendar.proofs.laws.Told.{figures_1, figures_12, figures_0}
 use Rattle.calendar.proofs.figures.Figures.new.Goals as goal
@@ -31,7 +31,7 @@ invariant_of-result c =
       fits = record {
         levels = c.if-calendar.false;
         figures = sym (count_tested a c.if-calendar-2.false) ∙ le-ltb (units a.levels) (unit_count a) (omega (arith, c.tree_units.ensures, c.unit_count.ensures, c.if-tree_units-unit_count.false));
-      }
+      };
     }
 
 pub returns-clause-number : goal.returns-clause-number

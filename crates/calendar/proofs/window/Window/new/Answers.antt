@@ -1,7 +1,6 @@
 -- `calendar::window::Window::new` meets its contract. Assumes nothing.
-use Rattle.std.proofs.Common.{◌∙◌, sym, ◌≡◌, false}
+use Rattle.std.proofs.Common.{◌∙◌, sym}
 use Rattle.base.specs.laws.TestLaws.{both_false}
-use Rattle.calendar.specs.rules.Windows.{calendar_wrong, out_of_order}
 use Rattle.calendar.proofs.laws.Figures.{to_known}
 use Rattle.calendar.proofs.laws.Code.{tested_12, tested_13}
 use Rattle.calendar.proofs.laws.Told.{order_12, order_13, order_0}
