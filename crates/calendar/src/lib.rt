@@ -6,7 +6,9 @@ mod calls;
 mod closed;
 mod figures;
 mod hours;
+mod told;
 mod units;
+mod window;
 
 pub use calls::{nolthewyr_calendar_quarter, nolthewyr_calendar_window};
 
@@ -21,7 +23,7 @@ pub struct Calendar {
 
 // A quarter of an hour: day 0..6 of its week, quarter 0..95 of its day.
 #[repr(C)]
-#[derive(Clone, Copy)]
+#[derive(Clone, Copy, Default)]
 pub struct Quarter {
     pub ward: u64,
     pub week: u64,

@@ -1,5 +1,6 @@
 -- Laws: what the code finds of a window's days is whether some quarter of it is closed. Assumes nothing.
 use Rattle.std.specs.Prelude.{◌≡◌, refl, Bool, false, ◌||◌, List, ℕ, ◌+◌, ◌-◌, ◌*◌, ◌%◌, ◌≤◌, ◌<◌, min}
+use Rattle.std.specs.List.{list_any, range_with_len}
 use Rattle.std.proofs.Common.{sym, ◌∙◌, add-one, arith}
 use Rattle.std.proofs.Math.Path.{ap}
 use Rattle.std.proofs.Math.Bool.{not}
@@ -7,7 +8,7 @@ use Rattle.calendar.specs.declared.Quarter.{Quarter}
 use Rattle.calendar.specs.rules.Calendar.{unit_of, quarter_of}
 use Rattle.calendar.specs.rules.Hours.{some_below, is_open}
 use Rattle.calendar.specs.rules.Windows.{some_closed}
-use Rattle.calendar.proofs.laws.SomeBelow.{same_below}
+use Rattle.calendar.proofs.laws.SomeBelow.{same_below, any_in_range}
 use Rattle.calendar.proofs.laws.Inverse.{day_of, from_ward, quarter_at}
 use Rattle.calendar.specs.laws.Days.{closed_in, closed_after}
 use Rattle.calendar.proofs.laws.Days.{open_at, some_closed_at, within_a_day, over_midnight}
@@ -21,6 +22,13 @@ pub next_day : (hours : List ℕ) (ward day after : ℕ) (closed next : Bool) �
     → next ≡ closed_in_day hours ward ((day + 1 + after) % 7) 0 95 → (closed || next) ≡ closed_in_days hours ward day (after + 1)
 unfolding closed_in_days closed_in_day some_below
 next_day hours ward day after closed next e f = rw (add-one after, e, f)
+
+-- the days as the code looks at them
+pub any_day : (hours : List ℕ) (ward day days : ℕ) → list_any (λ after. closed_in_day hours ward ((day + 1 + after) % 7) 0 95) (range_with_len 0 days) ≡ closed_in_days hours ward day days
+unfolding closed_in_day closed_in_days
+any_day hours ward day days =
+    let closed : ℕ → Bool = λ after. closed_in (opens hours ward) (closes hours ward) ((day + 1 + after) % 7) 0 95 in
+    any_in_range 0 days closed ∙ same_below days days _ closed refl (λ i h. let e : 0 + i ≡ i = omega arith in ap closed e)
 
 module _ (weeks : ℕ) (hours : List ℕ) where
   open_by_distance : (ward x : ℕ) → x < weeks * 672 → is_open hours (quarter_of weeks (ward * weeks * 672 + x)) ≡ open_at (opens hours ward) (closes hours ward) x

@@ -1,5 +1,5 @@
 -- Laws: the answers of the two calls, test by test. Assumes nothing.
-use Rattle.std.specs.Prelude.{◌≡◌, true, false, not, ◌||◌, List, ℕ, eqb, leb, ltb}
+use Rattle.std.specs.Prelude.{◌≡◌, Bool, true, false, not, ◌||◌, List, ℕ, eqb, leb, ltb}
 use Rattle.std.proofs.Common.{arith}
 use borrow.Author.Tests.{ltb-false, eqb-true, not-false}
 use Rattle.base.specs.rules.Choice.{choose}
@@ -45,6 +45,16 @@ module _ (c : Calendar) (hours : List ℕ) (first last : Quarter) where
     pub wrong_ends : hours_wrong c.wards hours ≡ false → (unknown c first || unknown c last) ≡ calendar_wrong c hours first last
     unfolding calendar_wrong
     wrong_ends e = rw (figures, e)
+
+  -- the tests of the code, one after another, are 12 and 13
+  pub tested_12 : (h u v : Bool) → figures_outside c ≡ false → h ≡ hours_wrong c.wards hours → u ≡ unknown c first → v ≡ unknown c last
+      → (h || u || v) ≡ calendar_wrong c hours first last
+  unfolding calendar_wrong
+  tested_12 h u v figures d e f = rw (figures, d, e, f)
+
+  pub tested_13 : (l k : ℕ) → l ≡ unit_of c.weeks last → k ≡ unit_of c.weeks first → (not (eqb last.ward first.ward) || ltb l k) ≡ out_of_order c.weeks first last
+  unfolding out_of_order
+  tested_13 l k e f = rw (e, f)
 
   pub first_small : Right c hours first last → Small c.weeks first
   first_small v = known_small c first v.figures.ranges.few v.first_known

@@ -6,7 +6,7 @@ use Rattle.base.specs.laws.TestLaws.{both_false, true_first, next_test}
 use Rattle.tree.specs.rules.Tree.{units}
 use Rattle.calendar.specs.declared.Calendar.{Calendar}
 use Rattle.calendar.specs.declared.Quarter.{Quarter}
-use Rattle.calendar.specs.rules.Calendar.{unit_of, unit_count, Known, unknown, figures_outside}
+use Rattle.calendar.specs.rules.Calendar.{unit_of, unit_count, Known, Fits, unknown, figures_outside}
 use Rattle.calendar.specs.laws.Figures.{Few, Small}
 
 weeks_small : (wards weeks : ℕ) → wards ≤ 64 → weeks ≤ 60 → wards * weeks ≤ 3840
@@ -90,3 +90,7 @@ unfolding figures_outside
 to_inside c e =
     let t = both_false (ranges_outside c) (ltb (units c.levels) (unit_count c)) e in
     record { ranges = in_ranges c t.0; room = ltb-false (units c.levels) (unit_count c) t.1 }
+
+-- a known quarter of a calendar that fits
+pub fits_small : (c : Calendar) (at : Quarter) → Fits c → Known c at → Small c.weeks at
+fits_small c at f k = known_small c at (to_inside c f.figures).ranges.few k
