@@ -12,7 +12,6 @@ use lock::{Call, Client, Settings};
 
 mod by_levels;
 mod causes;
-mod zeroes;
 
 pub use by_levels::{nolthewyr_cover, nolthewyr_step_count, nolthewyr_word_count};
 pub use causes::{clients_outside, opening_cause};
@@ -95,12 +94,7 @@ pub fn nolthewyr_open(clients: &mut [Client], words: &mut [u64], settings: Setti
     if 0 < cause {
         return cause;
     }
-    zeroes::zero_words(words);
-    let idle = Client::idle();
-    let mut client = 0;
-    while client < clients.len() {
-        clients[client] = idle;
-        client = client + 1;
-    }
+    words.fill(0);
+    clients.fill(Client::idle());
     cause
 }
