@@ -79,7 +79,7 @@ pub struct Moved {
 // What a run posts: number 0, the kind (0 none, 1 read, 2 masked add, 3 masked compare-and-swap) and the node (0 for none); of a swap the mask and the bits that are compared, and the mask and the
 // bits that are set; of an add in `value` the deltas of the six fields, each where its field is. Refused: the cause, and 0.
 #[repr(C)]
-#[derive(Clone, Copy)]
+#[derive(Clone, Copy, PartialEq, Eq)]
 pub struct Operation {
     pub number: u64,
     pub kind: u64,

@@ -14,7 +14,7 @@ mod by_levels;
 mod causes;
 
 pub use by_levels::{nolthewyr_cover, nolthewyr_step_count, nolthewyr_word_count};
-pub use causes::{clients_outside, opening_cause};
+pub use causes::{client_cause, clients_cause, clients_outside, opening_cause};
 
 // The call that its kind names: 0 request, 1 step, 2 release, any other number cancel. All calls over the table are this one function, so that the call by value
 // has one caller and is built into it once; the four calls only pass their arguments on.
