@@ -39,7 +39,7 @@ pub fn client_cause(clients: usize, client: u64) -> Result<(), Refusal>
 pub fn opening_cause(settings: Settings, words: usize, clients: usize) -> u64
     ensures { result ≡ opening_number settings words clients }
 {
-    let cause = settings.tree_cause(words as u64);
+    let cause = base::number_in(settings.tree_tests(words as u64));
     if cause != 0 {
         return cause;
     }
