@@ -45,10 +45,7 @@ pub fn fill_rows(clients: &[Client], rows: &mut [Row], settings: Settings)
     requires { Settled settings × (length rows.old ≡ length clients.now) × (any_unreadable settings clients.now ≡ false) }
     ensures { rows.new ≡ rows_of settings clients.now }
 {
-    let mut client = 0;
-    while client < rows.len() {
-        let one = clients[client];
-        rows[client] = row_of(one.record, settings, one.clock);
-        client = client + 1;
+    for (at, client) in clients.iter().enumerate() {
+        rows[at] = row_of(client.record, settings, client.clock);
     }
 }

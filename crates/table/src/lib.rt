@@ -8,14 +8,13 @@ ghost use Rattle.lock.specs.rules.Table as Table;
 ghost use Rattle.lock.specs.rules.ByValue.{call_of};
 ghost use Rattle.table.specs.rules.Lent.{lent, left_with};
 
-use lock::{Call, Client, Settings};
+use lock::{Call, Client, Kind, Settings};
 
 mod by_levels;
 mod causes;
-mod zeroes;
 
 pub use by_levels::{nolthewyr_cover, nolthewyr_step_count, nolthewyr_word_count};
-pub use causes::{clients_outside, opening_cause};
+pub use causes::{client_cause, clients_cause, clients_outside, opening_cause};
 
 // The call that its kind names: 0 request, 1 step, 2 release, any other number cancel. All calls over the table are this one function, so that the call by value
 // has one caller and is built into it once; the four calls only pass their arguments on.
@@ -34,7 +33,7 @@ pub fn table_act(
     }
     let at = call.client as usize;
     let client = clients[at];
-    let stepped = client.act(words, settings, call, kind);
+    let stepped = client.stepped(client.act(words, settings, call, Kind::from(kind)));
     clients[at] = stepped.next;
     stepped.number
 }
@@ -95,12 +94,7 @@ pub fn nolthewyr_open(clients: &mut [Client], words: &mut [u64], settings: Setti
     if 0 < cause {
         return cause;
     }
-    zeroes::zero_words(words);
-    let idle = Client::idle();
-    let mut client = 0;
-    while client < clients.len() {
-        clients[client] = idle;
-        client = client + 1;
-    }
+    words.fill(0);
+    clients.fill(Client::idle());
     cause
 }

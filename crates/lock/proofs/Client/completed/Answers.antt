@@ -1,32 +1,34 @@
 -- `lock::Client::completed` meets its contract. Assumes nothing.
-use mathlib.Core.Path.{◌∙◌}
+use Rattle.std.proofs.Common.{refl, ◌∙◌}
+use Rattle.std.proofs.lemmas.Result.{err_from_is_err_and}
 use native.Mathlib.Omega.{arith}
+use Rattle.lock.proofs.laws.CallLaws.{cause_some}
 use Rattle.lock.proofs.laws.Touched.{readable}
 use Rattle.lock.proofs.laws.SettledLaws.{settled}
 use Rattle.lock.proofs.laws.OperationLaws.{post_tested, completed_refused, completed_clear, completed_taken}
 use Rattle.lock.proofs.Client.completed.Goals as goal
 
-pub returns-then-cause-ne0 : goal.returns-then-cause-ne0
-returns-then-cause-ne0 c =
+pub returns-in_err-post_tests : goal.returns-in_err-post_tests
+returns-in_err-post_tests c =
     let a = c.args in
-    c.refused.ensures ∙ completed_refused a.settings a.self a.clock _ c.cause-cause.ensures a.found c.if-cause-ne0.true
+    let p = err_from_is_err_and c.from_residual.result c.from_residual.ensures.1 in
+    rw (p.1, p.2) (completed_refused a.settings a.self a.clock _ c.in_err-post_tests.ensures a.found (cause_some _))
 
 pub completed-m-requires : goal.completed-m-requires
 completed-m-requires c =
     let a = c.args in
-    let v = post_tested a.settings a.self a.clock _ c.cause-cause.ensures in
-    let z = c.if-cause-ne0.false in
-    let g = settled a.settings (v.settings z) in
-    let f = readable a.settings a.self.«record» a.self.clock g (v.readable z) in
-    let b = v.onward z in
+    let v = post_tested a.settings a.self a.clock 0 c.in_ok-post_tests.ensures in
+    let g = settled a.settings (v.settings refl) in
+    let f = readable a.settings a.self.«record» a.self.clock g (v.readable refl) in
+    let b = v.onward refl in
     (g, f.sound, omega (arith, f.t1_past, b), omega (arith, f.t0_past, b), omega (arith, f.taken_past, b))
 
 pub returns-then-m-ne0 : goal.returns-then-m-ne0
 returns-then-m-ne0 c =
     let a = c.args in
-    c.refused-then-m-ne0.ensures ∙ completed_clear a.settings a.self a.clock _ c.cause-cause.ensures a.found c.if-cause-ne0.false _ c.completed-m.ensures c.if-m-ne0.true
+    completed_clear a.settings a.self a.clock 0 c.in_ok-post_tests.ensures a.found refl _ c.completed-m.ensures c.if-m-ne0.true
 
 pub returns : goal.returns
 returns c =
     let a = c.args in
-    completed_taken a.settings a.self a.clock _ c.cause-cause.ensures a.found c.if-cause-ne0.false _ c.completed-m.ensures c.if-m-ne0.false
+    completed_taken a.settings a.self a.clock 0 c.in_ok-post_tests.ensures a.found refl _ c.completed-m.ensures c.if-m-ne0.false

@@ -2,10 +2,9 @@
 use mathlib.Core.Path.{sym, ap, ◌∙◌}
 use Prim.Native.Nat.{ℕ}
 use native.Mathlib.Omega.{arith}
-use Rattle.lock.specs.rules.Records.{written, client_with}
+use Rattle.lock.specs.rules.Records.{written}
 use Rattle.lock.proofs.laws.PatienceLaws.{own_touched_lem}
 use Rattle.lock.proofs.laws.Touched.{touched_counted, readable}
-use Rattle.lock.specs.laws.ByKind.{stepped_of}
 use Rattle.lock.proofs.laws.ByKind.{step_work, step_refused, step_taken, step_sent_back}
 use Rattle.lock.proofs.Record.step.Goals as goal
 
@@ -19,7 +18,7 @@ out_of_patience-requires c =
 pub returns-then-out_of_patience : goal.returns-then-out_of_patience
 returns-then-out_of_patience c =
     let a = c.args in
-    let both = step_sent_back a.settings (client_with a.last a.self) a.words.now a.clock (sym c.out_of_patience.ensures ∙ c.if-out_of_patience.true) _ c.sent_back.ensures in record { answer = both.0; words = both.1 }
+    let all = step_sent_back a.settings a.self a.words.now a.clock (sym c.out_of_patience.ensures ∙ c.if-out_of_patience.true) _ c.sent_back.ensures in record { number = all.0; next = all.1; words = all.2 }
 
 pub own_touched-n-requires : goal.own_touched-n-requires
 own_touched-n-requires c =
@@ -44,12 +43,9 @@ own_moved-m-requires c =
 
 pub returns-then-m-ne0 : goal.returns-then-m-ne0
 returns-then-m-ne0 c =
-    let s = c.args.settings in
-    let own = client_with c.args.last c.args.self in
-    let ws = c.args.words.now in
-    let t = c.args.clock in
+    let a = c.args in
     let p = sym c.out_of_patience.ensures ∙ c.if-out_of_patience.false in
-    let both = step_refused s own ws t _ (step_work s own.«record» ws t p _ _ _ c.own_touched-n.ensures c.word_at.ensures c.own_moved-m.ensures) (stepped_of c.refused.result) c.if-m-ne0.true (ap stepped_of c.refused.ensures) in record { answer = both.0; words = both.1 }
+    let both = step_refused a.settings a.self a.words.now a.clock _ (step_work a.settings a.self a.words.now a.clock p _ _ _ c.own_touched-n.ensures c.word_at.ensures c.own_moved-m.ensures) c.if-m-ne0.true in record { number = both.0; next = tt; words = both.1 }
 
 pub put_word-requires : goal.put_word-requires
 put_word-requires c =
@@ -61,8 +57,8 @@ put_word-requires c =
 pub returns : goal.returns
 returns c =
     let s = c.args.settings in
-    let own = client_with c.args.last c.args.self in
+    let own = c.args.self in
     let ws = c.args.words.now in
     let t = c.args.clock in
     let p = sym c.out_of_patience.ensures ∙ c.if-out_of_patience.false in
-    let both = step_taken s own ws t _ (step_work s own.«record» ws t p _ _ _ c.own_touched-n.ensures c.word_at.ensures c.own_moved-m.ensures) _ c.if-m-ne0.false (c.put_word.ensures ∙ ap (λ (x : ℕ). written ws x c.own_moved-m.result.word) (c.own_touched-n.ensures ∙ sym (own_touched_lem s own.«record» t p))) in record { answer = both.0; words = both.1 }
+    let all = step_taken s own ws t _ (step_work s own ws t p _ _ _ c.own_touched-n.ensures c.word_at.ensures c.own_moved-m.ensures) _ c.if-m-ne0.false (c.put_word.ensures ∙ ap (λ (x : ℕ). written ws x c.own_moved-m.result.word) (c.own_touched-n.ensures ∙ sym (own_touched_lem s own t p))) in record { number = all.0; next = all.1; words = all.2 }
