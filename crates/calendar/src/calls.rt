@@ -18,7 +18,7 @@ fn edges(
 ) -> Result<(u64, u64), Refusal>
     ensures { window_told result ≡ window_answer calendar hours.now first last }
 {
-    let figures = Figures::new(calendar)?;
+    let figures = Figures::try_from(calendar)?;
     let window = Window::new(figures, hours, first, last)?;
     if window.some_closed() {
         return Err(Refusal::Closed);
@@ -42,7 +42,7 @@ pub fn nolthewyr_calendar_window(
 fn quarter(calendar: Calendar, unit: u64) -> Result<Quarter, Refusal>
     ensures { quarter_told result ≡ quarter_answer calendar unit }
 {
-    let figures = Figures::new(calendar)?;
+    let figures = Figures::try_from(calendar)?;
     if figures.unit_count() <= unit {
         return Err(Refusal::Calendar);
     }

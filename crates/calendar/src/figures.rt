@@ -1,10 +1,8 @@
 // Cause 1, and cause 12 as far as it needs no hours: the calendar's figures, and a quarter that it does not have.
-ghost use Rattle.std.specs.Prelude.{◌≡◌, ◌≤◌, false, IfOk};
-ghost use Rattle.base.specs.rules.Refusals.{number_in};
+ghost use Rattle.std.specs.Prelude.{◌≡◌, ◌≤◌};
 ghost use Rattle.tree.specs.rules.Tree.{units};
 ghost use Rattle.calendar.specs.rules.Calendar.{unit_count, unknown, Fits};
 ghost use Rattle.calendar.specs.laws.Figures.{Few};
-ghost use Rattle.calendar.specs.laws.Told.{figures_cause};
 
 use crate::{Calendar, Quarter};
 use base::Refusal;
@@ -16,12 +14,17 @@ pub struct Figures {
     ghost fits: { Fits calendar },
 }
 
-impl Figures {
+impl TryFrom<Calendar> for Figures {
+    type Error = Refusal;
+
+    ghost use Rattle.std.specs.Prelude.{◌≡◌, IfOk};
+    ghost use Rattle.base.specs.rules.Refusals.{number_in};
+    ghost use Rattle.calendar.specs.laws.Told.{figures_cause};
+
+    ghost try_from_gives = { λ calendar result. (number_in result ≡ figures_cause calendar) × IfOk result (λ f. f.calendar ≡ calendar) };
+
     // Tests 1 for the levels, then 12 for the other figures.
-    pub fn new(calendar: Calendar) -> Result<Figures, Refusal>
-        ensures number { number_in result ≡ figures_cause calendar }
-        ensures same { IfOk result (λ f. f.calendar ≡ calendar) }
-    {
+    fn try_from(calendar: Calendar) -> Result<Figures, Refusal> {
         if (calendar.levels < 2) | (12 < calendar.levels) {
             return Err(Refusal::Settings);
         }
@@ -37,7 +40,9 @@ impl Figures {
         }
         Ok(Figures { calendar })
     }
+}
 
+impl Figures {
     // How many units the calendar has.
     pub fn unit_count(self) -> u64
         ensures { result ≡ unit_count self.calendar }

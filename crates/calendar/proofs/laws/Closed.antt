@@ -1,5 +1,5 @@
 -- Laws: what the code finds of a window's days is whether some quarter of it is closed. Assumes nothing.
-use Rattle.std.specs.Prelude.{◌≡◌, refl, Bool, false, ◌||◌, List, ℕ, ◌+◌, ◌-◌, ◌*◌, ◌%◌, ◌≤◌, ◌<◌, min}
+use Rattle.std.specs.Prelude.{◌≡◌, refl, Bool, false, ◌||◌, List, ℕ, ◌+◌, ◌-◌, ◌*◌, ◌%◌, ◌≤◌, ◌<◌, min, length}
 use Rattle.std.specs.List.{list_any, range_with_len}
 use Rattle.std.proofs.Common.{sym, ◌∙◌, add-one, arith}
 use Rattle.std.proofs.Math.Path.{ap}
@@ -12,7 +12,21 @@ use Rattle.calendar.proofs.laws.SomeBelow.{same_below, any_in_range}
 use Rattle.calendar.proofs.laws.Inverse.{day_of, from_ward, quarter_at}
 use Rattle.calendar.specs.laws.Days.{closed_in, closed_after}
 use Rattle.calendar.proofs.laws.Days.{open_at, some_closed_at, within_a_day, over_midnight}
-use Rattle.calendar.specs.laws.Closed.{opens, closes, closed_in_day, closed_in_days, Ordered}
+use Rattle.calendar.specs.laws.Closed.{opens, closes, closed_in_day, closed_in_days}
+
+-- the ends of a window that passed 12 and 13, and the hours of its ward
+pub record Ordered (weeks : ℕ) (hours : List ℕ) (first last : Quarter) : Type 0 where
+  pub one_ward : last.ward ≡ first.ward
+  pub ward : first.ward < 64
+  pub first_week : first.week < weeks
+  pub first_day : first.day < 7
+  pub first_quarter : first.quarter < 96
+  pub last_week : last.week < weeks
+  pub last_day : last.day < 7
+  pub last_quarter : last.quarter < 96
+  pub weeks_few : weeks ≤ 60
+  pub hours_there : 14 * first.ward + 14 ≤ length hours
+  pub order : unit_of weeks first ≤ unit_of weeks last
 
 pub no_days : (hours : List ℕ) (ward day : ℕ) → false ≡ closed_in_days hours ward day 0
 unfolding closed_in_days some_below

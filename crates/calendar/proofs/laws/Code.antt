@@ -11,10 +11,9 @@ use Rattle.calendar.specs.rules.Calendar.{unit_of, unit_count, Known, unknown, f
 use Rattle.calendar.specs.rules.Back.{quarter_refused, quarter_found, quarter_answer}
 use Rattle.calendar.specs.rules.Hours.{hours_wrong}
 use Rattle.calendar.specs.rules.Windows.{calendar_wrong, out_of_order, some_closed, window_refused, window_found, window_answer}
-use Rattle.calendar.specs.laws.Figures.{Small}
-use Rattle.calendar.proofs.laws.Figures.{Inside, to_inside, to_known, known_small}
+use Rattle.calendar.proofs.laws.Figures.{Small, Inside, to_inside, to_known, known_small}
 use Rattle.calendar.proofs.laws.HoursLaws.{pairs_there}
-use Rattle.calendar.specs.laws.Closed.{Ordered}
+use Rattle.calendar.proofs.laws.Closed.{Ordered}
 
 -- what passed 12
 pub record Right (c : Calendar) (hours : List ℕ) (first last : Quarter) : Type 0 where

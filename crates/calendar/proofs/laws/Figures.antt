@@ -7,7 +7,15 @@ use Rattle.tree.specs.rules.Tree.{units}
 use Rattle.calendar.specs.declared.Calendar.{Calendar}
 use Rattle.calendar.specs.declared.Quarter.{Quarter}
 use Rattle.calendar.specs.rules.Calendar.{unit_of, unit_count, Known, Fits, unknown, figures_outside}
-use Rattle.calendar.specs.laws.Figures.{Few, Small}
+use Rattle.calendar.specs.laws.Figures.{Few}
+
+-- a quarter whose unit fits into 64 bits
+pub record Small (weeks : ℕ) (at : Quarter) : Type 0 where
+  pub weeks_few : weeks ≤ 60
+  pub ward : at.ward < 64
+  pub week : at.week < 60
+  pub day : at.day < 7
+  pub quarter : at.quarter < 96
 
 weeks_small : (wards weeks : ℕ) → wards ≤ 64 → weeks ≤ 60 → wards * weeks ≤ 3840
 weeks_small wards weeks a b = mul-le-mul {n₁ = wards} {m₁ = weeks} {n₂ = 64} {m₂ = 60} a b

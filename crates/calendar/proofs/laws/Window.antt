@@ -1,6 +1,6 @@
 -- Laws: what the type of a window says of it. Assumes nothing.
 use Rattle.calendar.specs.declared.window.Window.{Window}
-use Rattle.calendar.specs.laws.Closed.{Ordered}
+use Rattle.calendar.proofs.laws.Closed.{Ordered}
 use Rattle.calendar.proofs.laws.Code.{Right, to_right, to_ordered}
 
 module _ (w : Window) where
