@@ -1,5 +1,5 @@
 // The tests of a page that ask for counts alone.
-ghost use Rattle.std.specs.Prelude.{◌≡◌, [], ◌∷◌};
+ghost use Rattle.std.specs.Prelude.{◌≡◌, ◌<◌, [], ◌∷◌, OnOk};
 ghost use Rattle.base.specs.rules.Refusals.{number_in};
 ghost use Rattle.lock.specs.rules.Calls.{first_cause, settings_outside};
 ghost use Rattle.pages.specs.laws.Causes.{planners_cause, run_cause};
@@ -31,7 +31,8 @@ pub fn planners_cause(settings: Settings, rows: usize, clients: usize) -> Result
 
 // Causes 1, 3 and 4.
 pub fn run_cause(settings: Settings, clients: usize, client: u64) -> Result<(), Refusal>
-    ensures { number_in result ≡ run_cause settings clients client }
+    ensures number { number_in result ≡ run_cause settings clients client }
+    ensures below { OnOk result (client < clients) }
 {
     settings_cause(settings)?;
     client_cause(clients, client)

@@ -27,8 +27,5 @@ pub fn any_unreadable(clients: &[Client], settings: Settings) -> bool
 pub fn held_count(clients: &[Client]) -> u64
     ensures { result ≡ held_count clients.now }
 {
-    clients
-        .iter()
-        .map(|client| in_phase_9(client.record))
-        .sum()
+    clients.iter().map(|client| in_phase_9(client.record)).sum()
 }

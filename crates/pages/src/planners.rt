@@ -3,18 +3,14 @@ ghost use Rattle.std.specs.Prelude.{◌≡◌};
 ghost use Rattle.base.specs.rules.Refusals.{number_in};
 ghost use Rattle.pages.specs.rules.Pages.{page, planners_page};
 
+use crate::Row;
 use crate::causes::planners_cause;
 use crate::counts::any_unreadable;
 use crate::rows::fill_rows;
-use crate::Row;
 use base::Refusal;
 use lock::{Client, Settings};
 
-fn planners_page(
-    clients: &[Client],
-    rows: &mut [Row],
-    settings: Settings,
-) -> Result<(), Refusal>
+fn planners_page(clients: &[Client], rows: &mut [Row], settings: Settings) -> Result<(), Refusal>
     ensures { page (number_in result) rows.new ≡ planners_page settings clients.now rows.old }
 {
     planners_cause(settings, rows.len(), clients.len())?;

@@ -3,9 +3,9 @@ ghost use Rattle.std.specs.Prelude.{◌≡◌};
 ghost use Rattle.pages.specs.rules.Pages.{run_page};
 ghost use Rattle.pages.specs.laws.RunLaws.{page_by};
 
+use crate::RunPage;
 use crate::causes::run_cause;
 use crate::counts::held_count;
-use crate::RunPage;
 use base::Refusal;
 use lock::{Client, Record, Settings};
 
@@ -30,11 +30,7 @@ impl From<Result<(Record, u64), Refusal>> for RunPage {
 }
 
 // What the run sees. 6 is for its own record alone.
-fn run_page(
-    clients: &[Client],
-    settings: Settings,
-    client: u64,
-) -> Result<(Record, u64), Refusal>
+fn run_page(clients: &[Client], settings: Settings, client: u64) -> Result<(Record, u64), Refusal>
     ensures { page_by result ≡ run_page settings clients.now client }
 {
     run_cause(settings, clients.len(), client)?;

@@ -1,5 +1,5 @@
 // The tests that stand before a client's own: causes 1 to 4.
-ghost use Rattle.std.specs.Prelude.{◌≡◌, [], ◌∷◌};
+ghost use Rattle.std.specs.Prelude.{◌≡◌, ◌<◌, [], ◌∷◌, OnOk};
 ghost use Rattle.base.specs.rules.Refusals.{number_in};
 ghost use Rattle.lock.specs.rules.Calls.{first_cause, clients_outside, client_tests};
 ghost use Rattle.lock.specs.rules.Table.{opening_number};
@@ -26,7 +26,8 @@ pub fn clients_cause(clients: usize) -> Result<(), Refusal>
 
 // Causes 3 and 4: after these "client not below the table's count".
 pub fn client_cause(clients: usize, client: u64) -> Result<(), Refusal>
-    ensures { number_in result ≡ first_cause (client_tests clients client) }
+    ensures number { number_in result ≡ first_cause (client_tests clients client) }
+    ensures below { OnOk result (client < clients) }
 {
     clients_cause(clients)?;
     if clients as u64 <= client {
@@ -36,29 +37,23 @@ pub fn client_cause(clients: usize, client: u64) -> Result<(), Refusal>
 }
 
 // Causes 1 to 3: settings outside their ranges, a word count that is not the tree's, and the clients.
-pub fn opening_cause(settings: Settings, words: usize, clients: usize) -> u64
-    ensures { result ≡ opening_number settings words clients }
+pub fn opening_cause(settings: Settings, words: usize, clients: usize) -> Result<(), Refusal>
+    ensures { number_in result ≡ opening_number settings words clients }
 {
-    let cause = base::number_in(settings.tree_tests(words as u64));
-    if cause != 0 {
-        return cause;
-    }
-    if clients_outside(clients) {
-        return 3;
-    }
-    0
+    settings.tree_tests(words as u64)?;
+    clients_cause(clients)
 }
 
-// Causes 1 to 4: after these "client not below the table's count".
-pub fn table_cause(settings: Settings, words: usize, clients: usize, client: u64) -> u64
-    ensures { result ≡ table_cause settings words clients client }
+// Causes 1 to 4.
+pub fn table_cause(
+    settings: Settings,
+    words: usize,
+    clients: usize,
+    client: u64,
+) -> Result<(), Refusal>
+    ensures number { number_in result ≡ table_cause settings words clients client }
+    ensures below { OnOk result (client < clients) }
 {
-    let cause = opening_cause(settings, words, clients);
-    if cause != 0 {
-        return cause;
-    }
-    if clients as u64 <= client {
-        return 4;
-    }
-    0
+    settings.tree_tests(words as u64)?;
+    client_cause(clients, client)
 }

@@ -12,7 +12,7 @@ use Rattle.base.specs.laws.ChoiceLaws.{choose_le, choose_gt}
 use Rattle.lock.specs.declared.Settings.{Settings}
 use Rattle.lock.specs.rules.Calls.{Tests, first_cause, tree_tests, clients_outside, client_tests}
 use Rattle.lock.specs.rules.Table.{opening_number}
-use Rattle.lock.proofs.laws.CallLaws.{TreeTested, tree_passed, cause_hit, cause_skip}
+use Rattle.lock.proofs.laws.CallLaws.{TreeTested, tree_passed, cause_hit, cause_skip, cause_some}
 use Rattle.table.specs.laws.Causes.{table_cause}
 
 -- ---- a chain behind another
@@ -65,13 +65,9 @@ module _ (b : Bool) (k : ℕ) where
   unfolding first_cause
   one_false e = sym (cause_skip b k [] e)
 
--- a cause has a number
-pub some_number : (r : Refusal) → number_of r ≡ 0 → ⊥
-some_number r e = grind arith
-
 module _ (ts us : Tests) where
   pub refused_first : (r : Refusal) → number_of r ≡ first_cause ts → number_of r ≡ first_cause (ts ++ us)
-  refused_first r e = e ∙ sym (first_hits ts us (λ z. some_number r (e ∙ z)))
+  refused_first r e = e ∙ sym (first_hits ts us (λ z. cause_some r (e ∙ z)))
 
   pub passed_first : Numbered ts → 0 ≡ first_cause ts → (n : ℕ) → n ≡ first_cause us → n ≡ first_cause (ts ++ us)
   passed_first v z n e = e ∙ sym (first_passes ts us v (sym z))

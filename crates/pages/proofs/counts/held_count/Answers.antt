@@ -1,8 +1,6 @@
 -- `pages::counts::held_count` meets its contract: no more are held than there are. Assumes nothing.
 use Rattle.std.proofs.Common.{◌≡◌, ◌-◌, ◌^◌, ◌∙◌, arith, rules}
 use Rattle.std.specs.List.{sum_by}
-use borrow.Author.Tests.{tests}
-use Rattle.std.proofs.lemmas.Grind.{common_steps}
 use Rattle.std.proofs.iter.runs.Made.{chains}
 use Rattle.std.proofs.lemmas.Iterator.{YieldsList-from_slice}
 use Rattle.std.proofs.lemmas.Iterator.Adapters.{fits_from_length, at_most_from_yields_List}

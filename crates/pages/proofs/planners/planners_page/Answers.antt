@@ -1,7 +1,7 @@
 -- `pages::planners::planners_page` meets its contract. Assumes nothing.
 use Rattle.std.proofs.Common.{◌≡◌, refl, ℕ, sym, ap, ◌∙◌, rules}
 use Rattle.base.specs.rules.Refusals.{number_of, number_in}
-use Rattle.table.specs.laws.CauseLaws.{some_number}
+use Rattle.lock.proofs.laws.CallLaws.{cause_some}
 use Rattle.pages.specs.rules.Pages.{page}
 use Rattle.pages.proofs.laws.CauseLaws.{planners_tested}
 use Rattle.pages.proofs.laws.PlannersLaws.{planners_refuses, planners_unreadable, planners_takes}
@@ -11,7 +11,7 @@ pub returns-in_err-planners_cause : goal.returns-in_err-planners_cause
 returns-in_err-planners_cause c =
     let a = c.args in
     let told : number_in c.from_residual.result ≡ number_of c.in_err-planners_cause.field-0.0 = search rules in
-    ap (λ (n : ℕ). page n a.rows.now) told ∙ planners_refuses a.settings a.clients.now a.rows.now _ c.in_err-planners_cause.ensures (some_number _)
+    ap (λ (n : ℕ). page n a.rows.now) told ∙ planners_refuses a.settings a.clients.now a.rows.now _ c.in_err-planners_cause.ensures (cause_some _)
 
 pub any_unreadable-requires : goal.any_unreadable-requires
 any_unreadable-requires c = (planners_tested _ _ _ (sym c.in_ok-planners_cause.ensures)).0

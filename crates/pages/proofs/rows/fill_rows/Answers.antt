@@ -1,5 +1,5 @@
 -- `pages::rows::fill_rows` meets its contract: a turn writes the row of one client more. Assumes nothing.
-use Rattle.std.proofs.Common.{◌≡◌, ℕ, zero-add, List, [], ◌++◌, ◌+◌, length, get_or, set, drop, drop_of_length-le, append-nil, sym, ap, ◌∙◌, arith, rules}
+use Rattle.std.proofs.Common.{◌≡◌, ℕ, zero-add, List, [], ◌++◌, ◌+◌, length, get_or, set, drop, drop_of_length-le, append-nil, sym, ap, ◌∙◌, arith}
 use Rattle.std.proofs.lemmas.List.{get_or-map, length-map}
 use Rattle.std.proofs.lemmas.List.Edits.{paste_more, paste_all}
 use lib.Seq.{paste}

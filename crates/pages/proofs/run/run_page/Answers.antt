@@ -1,7 +1,7 @@
 -- `pages::run::run_page` meets its contract. Assumes nothing.
 use Rattle.std.proofs.Common.{◌≡◌, sym, ap, ◌∙◌, rules}
 use Rattle.base.specs.rules.Refusals.{number_of}
-use Rattle.table.specs.laws.CauseLaws.{some_number}
+use Rattle.lock.proofs.laws.CallLaws.{cause_some}
 use Rattle.pages.specs.rules.Pages.{own_client, held_count}
 use Rattle.pages.specs.laws.RunLaws.{refused_page, accepted_page, page_by}
 use Rattle.pages.proofs.laws.CauseLaws.{run_tested}
@@ -12,23 +12,16 @@ pub returns-in_err-run_cause : goal.returns-in_err-run_cause
 returns-in_err-run_cause c =
     let a = c.args in
     let told : page_by c.from_residual.result ≡ refused_page (number_of c.in_err-run_cause.field-0.0) = search rules in
-    told ∙ run_refuses a.settings a.clients.now a.client _ c.in_err-run_cause.ensures (some_number _)
-
-pub offset_bounds-clients-client : goal.offset_bounds-clients-client
-offset_bounds-clients-client c =
-    let h = (run_tested _ _ c.args.client (sym c.in_ok-run_cause.ensures)).1 in search (rules, h)
-
-pub bounds-clients-client : goal.bounds-clients-client
-bounds-clients-client c = (run_tested _ _ _ (sym c.in_ok-run_cause.ensures)).1
+    told ∙ run_refuses a.settings a.clients.now a.client _ c.in_err-run_cause.ensures.number (cause_some _)
 
 pub unreadable-requires : goal.unreadable-requires
-unreadable-requires c = (run_tested _ _ _ (sym c.in_ok-run_cause.ensures)).0
+unreadable-requires c = (run_tested _ _ _ (sym c.in_ok-run_cause.ensures.number)).0
 
 pub returns-then-unreadable : goal.returns-then-unreadable
 returns-then-unreadable c =
     let a = c.args in
     own_refused a.settings (own_client a.clients.now a.client) (held_count a.clients.now) (sym c.unreadable.ensures ∙ c.if-unreadable.true)
-    ∙ run_takes a.settings a.clients.now a.client (sym c.in_ok-run_cause.ensures)
+    ∙ run_takes a.settings a.clients.now a.client (sym c.in_ok-run_cause.ensures.number)
 
 pub returns : goal.returns
 returns c =
@@ -36,4 +29,4 @@ returns c =
     let own = own_client a.clients.now a.client in
     ap (accepted_page own.«record») c.held_count.ensures
     ∙ own_accepted a.settings own (held_count a.clients.now) (sym c.unreadable.ensures ∙ c.if-unreadable.false)
-    ∙ run_takes a.settings a.clients.now a.client (sym c.in_ok-run_cause.ensures)
+    ∙ run_takes a.settings a.clients.now a.client (sym c.in_ok-run_cause.ensures.number)
