@@ -36,8 +36,7 @@ impl Client {
         if clock < self.clock {
             return Err(Refusal::Clock);
         }
-        let own = self.record;
-        if own.unreadable(settings, self.clock) {
+        if self.record.unreadable(settings, self.clock) {
             return Err(Refusal::Unreadable);
         }
         Ok(())
@@ -48,8 +47,7 @@ impl Client {
         ensures { operation_by result ≡ operation_answer settings self clock }
     {
         self.post_tests(settings, clock)?;
-        let own = self.record;
-        Ok(own.operation(settings, clock))
+        Ok(self.record.operation(settings, clock))
     }
 
     // What becomes of the client when the word found comes back.
@@ -57,13 +55,12 @@ impl Client {
         ensures { stepped_by self result ≡ completed_answer settings self clock found }
     {
         self.post_tests(settings, clock)?;
-        let own = self.record;
-        let m = own.completed(settings, clock, found);
+        let m = self.record.completed(settings, clock, found);
         if m.number != 0 {
             return Err(Refusal::ClearBit);
         }
         Ok(Client {
-            clock: clock,
+            clock,
             record: m.next,
         })
     }
@@ -72,24 +69,21 @@ impl Client {
         ensures { stepped_by self result ≡ own_request_answer settings self a b }
     {
         self.post_tests(settings, self.clock)?;
-        let own = self.record;
-        Ok(self.with(own.request(settings, a, b)?))
+        Ok(self.with(self.record.request(settings, a, b)?))
     }
 
     pub fn own_release(self, settings: Settings) -> Result<Client, Refusal>
         ensures { stepped_by self result ≡ own_release_answer settings self }
     {
         self.post_tests(settings, self.clock)?;
-        let own = self.record;
-        Ok(self.with(own.release()?))
+        Ok(self.with(self.record.release()?))
     }
 
     pub fn own_cancel(self, settings: Settings) -> Result<Client, Refusal>
         ensures { stepped_by self result ≡ own_cancel_answer settings self }
     {
         self.post_tests(settings, self.clock)?;
-        let own = self.record;
-        Ok(self.with(own.cancel()?))
+        Ok(self.with(self.record.cancel()?))
     }
 
     // "As it was": a refused call gives its number only. The C interface has number and client beside each other.
@@ -99,7 +93,7 @@ impl Client {
         match answer {
             Ok(next) => Stepped {
                 number: 0,
-                next: next,
+                next,
             },
             Err(refusal) => Stepped {
                 number: refusal.number(),
