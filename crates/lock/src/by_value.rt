@@ -6,9 +6,13 @@ ghost use Rattle.lock.specs.rules.Operations.{post_tests, operation_answer, comp
 ghost use Rattle.lock.specs.laws.Active.{Settled};
 ghost use Rattle.lock.specs.laws.Placed.{Sound};
 ghost use Rattle.lock.specs.laws.ByKind.{stepped_of};
+ghost use Rattle.lock.specs.laws.Rows.{moved_of};
 
+use base::Refusal;
+
+use crate::moves::Moved;
 use crate::returning::leaves;
-use crate::{Acted, Client, Moved, Operation, Record, Settings, Stepped};
+use crate::{Acted, Client, Operation, Record, Settings, Stepped};
 
 impl Acted {
     // What a call on a record gives, as that on its client.
@@ -28,12 +32,12 @@ impl Acted {
 
 impl Record {
     // The completion of the step by this clock that found this word.
-    fn completed(self, settings: Settings, clock: u64, found: u64) -> Moved
+    fn completed(self, settings: Settings, clock: u64, found: u64) -> Result<Moved, Refusal>
         requires { Settled settings × Sound settings self × (self.t1 ≤ clock) × (self.t0 ≤ clock) × (self.taken ≤ clock) }
-        ensures { result ≡ moved settings self found clock }
+        ensures { moved_of self found result ≡ moved settings self found clock }
     {
         if self.out_of_patience(settings, clock) {
-            return leaves(found, self.sent_back(4));
+            return Ok(leaves(found, self.sent_back(4)));
         }
         let n = self.own_touched(settings);
         self.own_moved(settings, n, found, clock)
@@ -89,17 +93,15 @@ impl Client {
             return self.refused(cause);
         }
         let own = self.record;
-        let m = own.completed(settings, clock, found);
-        if m.number != 0 {
-            return self.refused(9);
-        }
-        let next = m.next;
-        Stepped {
-            number: 0,
-            next: Client {
-                clock: clock,
-                record: next,
+        match own.completed(settings, clock, found) {
+            Ok(moved) => Stepped {
+                number: 0,
+                next: Client {
+                    clock: clock,
+                    record: moved.next,
+                },
             },
+            Err(refusal) => self.refused(refusal.number()),
         }
     }
 

@@ -121,16 +121,16 @@ impl Record {
             };
         }
         let n = self.own_touched(settings);
-        let m = self.own_moved(settings, n, word_at(words, n), clock);
-        if m.number != 0 {
-            return self.refused(9, last);
-        }
-        put_word(words, n, m.word);
-        let next = m.next;
-        Acted {
-            number: 0,
-            clock: clock,
-            next: next,
+        match self.own_moved(settings, n, word_at(words, n), clock) {
+            Ok(moved) => {
+                put_word(words, n, moved.word);
+                Acted {
+                    number: 0,
+                    clock: clock,
+                    next: moved.next,
+                }
+            }
+            Err(refusal) => self.refused(refusal.number(), last),
         }
     }
 

@@ -12,11 +12,10 @@ use Rattle.lock.specs.declared.Call.{Call as Asked}
 use Rattle.lock.specs.declared.Client.{Client}
 use Rattle.lock.specs.declared.Record.{Record}
 use Rattle.lock.specs.declared.Settings.{Settings}
-use Rattle.lock.specs.declared.Moved.{Moved}
 use Rattle.lock.specs.declared.Stepped.{Stepped}
 use Rattle.lock.specs.rules.Records.{word_at, written, client_with}
 use Rattle.lock.specs.rules.Unreadable.{differ, unreadable}
-use Rattle.lock.specs.rules.Steps.{own_touched, out_of_patience, touched, moved, given_up}
+use Rattle.lock.specs.rules.Steps.{Moved, own_touched, out_of_patience, touched, moved, given_up}
 use Rattle.lock.specs.laws.Rows.{leaves, own_moved}
 use Rattle.lock.specs.rules.Calls.{Tests, first_cause, tree_tests, request_tests, step_tests, release_tests, cancel_tests, requested, released, cancelled, answered, request_number, request_answer, release_answer, cancel_answer, step_number, step_answer, step_words}
 use Rattle.lock.specs.rules.Table.{Call, request, step, release, cancel, client_of}

@@ -10,14 +10,13 @@ use Rattle.base.specs.rules.Choice.{choose}
 use Rattle.base.specs.laws.ChoiceLaws.{choose_no, choose_eq, choose_ne}
 use Rattle.word.specs.rules.Word.{deltas}
 use Rattle.lock.specs.declared.Client.{Client}
-use Rattle.lock.specs.declared.Moved.{Moved}
 use Rattle.lock.specs.declared.Operation.{Operation}
 use Rattle.lock.specs.declared.Record.{Record}
 use Rattle.lock.specs.declared.Settings.{Settings}
 use Rattle.lock.specs.declared.Stepped.{Stepped}
 use Rattle.lock.specs.rules.Records.{phase_of, current_piece, given_piece, is_leaf, grip_of, client_with}
 use Rattle.lock.specs.rules.Unreadable.{differ, unreadable}
-use Rattle.lock.specs.rules.Steps.{wanted, Access, none, read, add, swap, applied, claim_access, own_word_access, return_access, access_in, out_of_patience, access, touched, completed, moved}
+use Rattle.lock.specs.rules.Steps.{Moved, wanted, Access, none, read, add, swap, applied, claim_access, own_word_access, return_access, access_in, out_of_patience, access, touched, completed, moved}
 use Rattle.lock.specs.rules.Calls.{Tests, first_cause, settings_outside, answered}
 use Rattle.lock.specs.rules.Operations.{operation_at, refused_operation, access_of, post_tests, operation_answer, completed_tests, completed_answer}
 use Rattle.lock.proofs.laws.CallLaws.{cause_hit, cause_skip, answer_accepted, refused_by}
