@@ -1,6 +1,9 @@
 // The lock: what each call does to one client's record and to the lent tree.
 #![tactic(auto)]
 
+ghost use Rattle.std.specs.Prelude.{◌≡◌, ℕ};
+ghost use Rattle.lock.specs.rules.ByValue.{call_of, call_by};
+
 // "H, m and wait T .. travel beside it", and the patience P: the settings of a tree.
 #[repr(C)]
 #[derive(Clone, Copy)]
@@ -52,15 +55,30 @@ pub struct Call {
     pub b: u64,
 }
 
-// What a call on a record gives: its number (0 accepted), the clock and the record after it.
-#[derive(Clone, Copy)]
-pub struct Acted {
-    pub number: u64,
-    pub clock: u64,
-    pub next: Record,
+// What a call asks for.
+#[derive(Clone, Copy, Debug, PartialEq, Eq)]
+pub enum Kind {
+    Request,
+    Step,
+    Release,
+    Cancel,
 }
 
-// What a call answers: its number (0 accepted), and the client after it.
+// "u8 kind (0 request, 1 step, 2 release, 3 cancel)"; any other number is a cancel too.
+impl From<u64> for Kind {
+    ghost from_gives = { λ number kind. (client a b : ℕ) → call_by kind client a b ≡ call_of number client a b };
+
+    fn from(number: u64) -> Kind {
+        match number {
+            0 => Kind::Request,
+            1 => Kind::Step,
+            2 => Kind::Release,
+            _ => Kind::Cancel,
+        }
+    }
+}
+
+// What a call answers to C: its number (0 accepted), and the client after it.
 #[repr(C)]
 #[derive(Clone, Copy)]
 pub struct Stepped {
@@ -71,7 +89,7 @@ pub struct Stepped {
 // What a run posts: number 0, the kind (0 none, 1 read, 2 masked add, 3 masked compare-and-swap) and the node (0 for none); of a swap the mask and the bits that are compared, and the mask and the
 // bits that are set; of an add in `value` the deltas of the six fields, each where its field is. Refused: the cause, and 0.
 #[repr(C)]
-#[derive(Clone, Copy)]
+#[derive(Clone, Copy, PartialEq, Eq)]
 pub struct Operation {
     pub number: u64,
     pub kind: u64,

@@ -30,7 +30,7 @@ fn one_counted(
 ) -> Stepped
     ensures { result ≡ one_counted settings clock client posted found }
 {
-    let stepped = client.completed(settings, clock, found);
+    let stepped = client.stepped(client.completed(settings, clock, found));
     let left = Stepped {
         number: 1,
         next: client,
@@ -56,7 +56,7 @@ pub fn counted_along(
     requires { (0 < count) × (count ≡ min (length found.now) (length (ahead_of settings client clock))) }
     ensures { result ≡ completed_all_answer settings client clock found.now }
 {
-    let first = client.completed(settings, clock, found[0]);
+    let first = client.stepped(client.completed(settings, clock, found[0]));
     if first.number != 0 {
         return CompletedAll {
             number: first.number,

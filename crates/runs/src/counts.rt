@@ -74,7 +74,7 @@ pub fn count_ahead(own: Record, settings: Settings) -> u64
 pub fn answer_ahead(client: Client, settings: Settings, clock: u64, room: u64) -> Ahead
     ensures { result ≡ ahead_answer settings client clock room }
 {
-    let cause = client.cause(settings, clock);
+    let cause = base::number_in(client.post_tests(settings, clock));
     let own = client.record;
     if cause != 0 {
         return Ahead {

@@ -15,7 +15,7 @@ pub fn nolthewyr_cover(levels: u64, left: u64, right: u64) -> cover::Answer
 pub fn nolthewyr_step_count(levels: u64, distance: u64, left: u64, right: u64) -> lock::StepCount
     ensures { result ≡ step_count_answer levels distance left right }
 {
-    lock::step_count(levels, distance, left, right)
+    lock::StepCount::from(lock::step_count(levels, distance, left, right))
 }
 
 // How many words are to be lent; 0 for a number of levels that no tree has.

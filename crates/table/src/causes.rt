@@ -17,7 +17,7 @@ pub fn clients_outside(clients: usize) -> bool
 pub fn opening_cause(settings: Settings, words: usize, clients: usize) -> u64
     ensures { result ≡ opening_number settings words clients }
 {
-    let cause = settings.tree_cause(words as u64);
+    let cause = base::number_in(settings.tree_tests(words as u64));
     if cause != 0 {
         return cause;
     }

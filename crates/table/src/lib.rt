@@ -8,7 +8,7 @@ ghost use Rattle.lock.specs.rules.Table as Table;
 ghost use Rattle.lock.specs.rules.ByValue.{call_of};
 ghost use Rattle.table.specs.rules.Lent.{lent, left_with};
 
-use lock::{Call, Client, Settings};
+use lock::{Call, Client, Kind, Settings};
 
 mod by_levels;
 mod causes;
@@ -34,7 +34,7 @@ pub fn table_act(
     }
     let at = call.client as usize;
     let client = clients[at];
-    let stepped = client.act(words, settings, call, kind);
+    let stepped = client.stepped(client.act(words, settings, call, Kind::from(kind)));
     clients[at] = stepped.next;
     stepped.number
 }

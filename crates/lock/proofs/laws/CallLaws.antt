@@ -4,13 +4,17 @@ use Rattle.std.proofs.Math.Path.{refl, subst}
 use Rattle.std.proofs.Common.{sym, ap, ◌∙◌, ⊎_elim, arith}
 use Rattle.std.proofs.Math.Bool.{true, false, not}
 use borrow.Author.Tests.{eq-eqb, ne_eqb, eqb-true, eqb-false, not-true, not-false}
+use Rattle.std.specs.Prelude.{Result, Ok, Err}
+use Rattle.base.specs.declared.Refusal.{Refusal}
+use Rattle.base.specs.declared.Refusal.TheVariants.{Settings as SettingsOut, WordCount, Clients, Client as NoClient, Clock, Unreadable, Window, Phase, ClearBit, File, TooLarge, Calendar, Order, Closed}
+use Rattle.base.specs.rules.Refusals.{number_of}
 use Rattle.base.specs.rules.Choice.{choose}
 use Rattle.base.specs.laws.ChoiceLaws.{on_choose, choose_eq, choose_ne}
 use Rattle.tree.specs.rules.Tree.{word_count}
 use Rattle.lock.specs.declared.Client.{Client}
 use Rattle.lock.specs.declared.Settings.{Settings}
 use Rattle.lock.specs.rules.Unreadable.{differ}
-use Rattle.lock.specs.rules.Calls.{Tests, first_cause, settings_outside, tree_tests, answered}
+use Rattle.lock.specs.rules.Calls.{Tests, first_cause, settings_outside, tree_tests, answered, stepped_by}
 
 -- ---- the first cause
 
@@ -95,3 +99,29 @@ module _ (number : ℕ) (c next : Client) where
   -- refused by the cause k, where the chain says so
   pub refused_by : (k : ℕ) → number ≡ k → (k ≡ 0 → ⊥) → record { number = k; next = c } ≡ answered number c next
   refused_by k e d = sym (answer_refused (λ z. d (sym e ∙ z)) ∙ ap (λ (x : ℕ). record { number = x; next = c }) e)
+
+-- ---- the answer of a call in code
+
+pub cause_some : (e : Refusal) → number_of e ≡ 0 → ⊥
+cause_some SettingsOut z = omega (arith, z)
+cause_some WordCount z = omega (arith, z)
+cause_some Clients z = omega (arith, z)
+cause_some NoClient z = omega (arith, z)
+cause_some Clock z = omega (arith, z)
+cause_some Unreadable z = omega (arith, z)
+cause_some Window z = omega (arith, z)
+cause_some Phase z = omega (arith, z)
+cause_some ClearBit z = omega (arith, z)
+cause_some File z = omega (arith, z)
+cause_some TooLarge z = omega (arith, z)
+cause_some Calendar z = omega (arith, z)
+cause_some Order z = omega (arith, z)
+cause_some Closed z = omega (arith, z)
+
+module _ (number : ℕ) (c next : Client) where
+  pub accepted_by : (y : Client) → 0 ≡ number → y ≡ next → stepped_by c (Ok y) ≡ answered number c next
+  accepted_by y e f = ap (λ (x : Client). record { number = 0; next = x }) f ∙ sym (answer_accepted number c next (sym e))
+
+  -- at the exit of a `?`
+  pub refused_as : (x : Result Client Refusal) (y e : Refusal) → x ≡ Err y → y ≡ e → number_of e ≡ number → stepped_by c x ≡ answered number c next
+  refused_as x y e f g h = ap (stepped_by c) (f ∙ ap Err g) ∙ refused_by number c next (number_of e) (sym h) (cause_some e)

@@ -21,6 +21,7 @@ use Rattle.lock.specs.rules.Calls.{Tests, first_cause, settings_outside, answere
 use Rattle.lock.specs.rules.Operations.{operation_at, refused_operation, access_of, post_tests, operation_answer, completed_tests, completed_answer}
 use Rattle.lock.proofs.laws.CallLaws.{cause_hit, cause_skip, answer_accepted, refused_by}
 use Rattle.lock.proofs.laws.Phases.{on_phase}
+use Rattle.lock.proofs.laws.Rows.{Nine, moved_nine}
 
 -- ---- the rows
 
@@ -243,9 +244,11 @@ module _ (s : Settings) (c : Client) (clock n : ℕ) (e : n ≡ first_cause (pos
       unfolding completed_tests
       behind = (post_tested s c clock n e).passed z _ ∙ ap (λ (x : Moved). first_cause ((differ x.number 0, 9) ∷ [])) (sym f)
 
-      pub completed_clear : (m.number ≡ 0 → ⊥) → record { number = 9; next = c } ≡ completed_answer s c clock found
+      pub completed_clear : (m.number ≡ 0 → ⊥) → record { number = m.number; next = c } ≡ completed_answer s c clock found
       unfolding completed_answer
-      completed_clear d = refused_by _ c next 9 (behind ∙ cause_hit _ 9 [] (ap not (ne_eqb m.number 0 d))) (λ y. omega arith)
+      completed_clear d =
+          let nine : m.number ≡ 9 = subst Nine (sym f) (moved_nine s c.«record» found clock) d in
+          refused_by _ c next m.number (behind ∙ cause_hit _ 9 [] (ap not (ne_eqb m.number 0 d)) ∙ sym nine) d
 
       pub completed_taken : m.number ≡ 0 → record { number = 0; next = client_with clock m.next } ≡ completed_answer s c clock found
       unfolding completed_answer first_cause

@@ -1,13 +1,10 @@
 -- Laws of the rows of the phase table (specs/laws/Rows.antt): each is its operation, applied, and its completion. That it is the step of the rules is `moved_row`. Assumes nothing.
 use Rattle.std.specs.Prelude.{◌≡◌, ◌≢◌, Bool, ◌||◌, ℕ, eqb}
 use Rattle.std.proofs.Math.Path.{refl, ap, ap₂}
-use Rattle.std.proofs.Common.{arith, sym, ◌∙◌, subst}
+use Rattle.std.proofs.Common.{sym, ◌∙◌, subst}
 use Rattle.std.proofs.Math.Bool.{true, false, not}
 use Rattle.std.proofs.Math.Dec.{T}
-use Rattle.base.specs.declared.Refusal.{Refusal}
-use Rattle.base.specs.declared.Refusal.TheVariants.{Settings, WordCount, Clients, Client, Clock, Unreadable, Window, Phase, ClearBit, File, TooLarge, Calendar, Order, Closed}
 use Rattle.base.specs.rules.Choice.{choose}
-use Rattle.base.specs.rules.Refusals.{number_of}
 use Rattle.base.specs.laws.ChoiceLaws.{on_choose, choose_no}
 use Rattle.word.specs.rules.Word.{add_occ, add_tcnt, add_dcnt, matches, replaced, take_bits, give_bits, return_occ, masked_swap, deltas}
 use Rattle.word.proofs.laws.Inner.{one_in_occ, one_in_tcnt, one_in_tmax, one_in_dcnt, one_in_dmax, return_occ_one_add}
@@ -22,6 +19,10 @@ use Rattle.lock.specs.laws.Rows.{leaves, claim_piece, return_bits, return_inner,
 -- an operation at the word w, and a completion
 abbrev made : Access → ℕ → Completion → Moved
 made a w c = record { number = c.number; word = applied a w; next = c.next }
+
+-- a step that is refused is refused by 9
+abbrev pub Nine : Moved → Type 0
+Nine m = m.number ≢ 0 → m.number ≡ 9
 
 module _ (s : Settings) (r : Record) (w : ℕ) where
   abbrev claim_bits : ℕ
@@ -111,9 +112,7 @@ module _ (s : Settings) (r : Record) (w : ℕ) where
   pub on_moved : (P : Moved → Type 0) (t : ℕ) → P (leaves w (given_up r)) → P (own_moved s r w t) → P (moved s r w t)
   on_moved P t back row = subst P (sym (moved_chosen t)) (on_choose P (out_of_patience s r t) _ _ (λ _. back) (λ _. row))
 
-  -- a step that is refused is refused by 9
-  abbrev Nine : Moved → Type 0
-  Nine m = m.number ≢ 0 → m.number ≡ 9
+  -- ---- the number of a refused step
 
   row_nine : (t : ℕ) (p : Phase) → Nine (moved_in s r w t p)
   unfolding moved_in claim_piece give_back return_bits return_inner
@@ -135,11 +134,3 @@ module _ (s : Settings) (r : Record) (w : ℕ) where
 
   pub moved_nine : (t : ℕ) → Nine (moved s r w t)
   moved_nine t = on_moved Nine t (λ d. absurd (d refl)) (row_nine t (phase_of r.phase))
-
--- every cause has a number
-pub cause_some : (e : Refusal) → number_of e ≢ 0
-cause_some = elim [
-  Settings ↦ λ z. omega arith | WordCount ↦ λ z. omega arith | Clients ↦ λ z. omega arith | Client ↦ λ z. omega arith
-  | Clock ↦ λ z. omega arith | Unreadable ↦ λ z. omega arith | Window ↦ λ z. omega arith | Phase ↦ λ z. omega arith
-  | ClearBit ↦ λ z. omega arith | File ↦ λ z. omega arith | TooLarge ↦ λ z. omega arith | Calendar ↦ λ z. omega arith
-  | Order ↦ λ z. omega arith | Closed ↦ λ z. omega arith ]

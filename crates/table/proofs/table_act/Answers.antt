@@ -3,9 +3,9 @@ use Rattle.std.proofs.Common.{◌≡◌, ◌<◌, ℕ, length, sym, ap, ◌∙�
 use lib.ListN.{set}
 use Rattle.lock.specs.declared.Settings.{Settings}
 use Rattle.lock.proofs.laws.ByKind.{client_of_kind}
-use Rattle.lock.specs.rules.ByValue.{call_of}
+use Rattle.lock.specs.rules.ByValue.{call_of, answer_to, words_after}
 use Rattle.lock.specs.rules.Table.{client_at}
-use Rattle.table.specs.rules.Lent.{left_with}
+use Rattle.table.specs.rules.Lent.{lent, left_with}
 use Rattle.table.specs.laws.Causes.{table_cause}
 use Rattle.table.specs.laws.CauseLaws.{client_below}
 use Rattle.table.specs.laws.CallLaws.{table_refuses, table_takes}
@@ -43,4 +43,7 @@ returns c =
     let a = c.args in
     let k = a.call in
     let t = table_takes a.settings a.clients.now a.words.now (call_of a.kind k.client k.a k.b) k.client (client_of_kind a.kind k.client k.a k.b) (sym c.table_cause-cause.ensures ∙ omega (arith, c.if-cause-gt0.false)) in
-    (λ j. left_with (c.act-stepped.ensures.answer j).number (set a.clients.now k.client (c.act-stepped.ensures.answer j).next) (c.act-stepped.ensures.words j)) ∙ t
+    let named = c.from.ensures k.client k.a k.b in
+    let answer = c.stepped-stepped.ensures ∙ c.act.ensures.answer ∙ ap (answer_to a.settings (client_at (lent a.clients.now a.words.now) k.client) a.words.now) named in
+    let words = c.act.ensures.words ∙ ap (words_after a.settings (client_at (lent a.clients.now a.words.now) k.client) a.words.now) named in
+    (λ j. left_with (answer j).number (set a.clients.now k.client (answer j).next) (words j)) ∙ t

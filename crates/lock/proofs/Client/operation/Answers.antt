@@ -1,26 +1,28 @@
 -- `lock::Client::operation` meets its contract. Assumes nothing.
-use mathlib.Core.Path.{◌∙◌}
+use Rattle.std.proofs.Common.{refl, ◌∙◌}
+use Rattle.std.proofs.lemmas.Result.{err_from_is_err_and}
+use Rattle.lock.proofs.laws.CallLaws.{cause_some}
 use native.Mathlib.Omega.{arith}
 use Rattle.lock.proofs.laws.Touched.{readable}
 use Rattle.lock.proofs.laws.SettledLaws.{settled}
 use Rattle.lock.proofs.laws.OperationLaws.{post_tested, operation_refused, operation_found}
 use Rattle.lock.proofs.Client.operation.Goals as goal
 
-pub returns-then-cause-ne0 : goal.returns-then-cause-ne0
-returns-then-cause-ne0 c =
+pub returns-in_err-post_tests : goal.returns-in_err-post_tests
+returns-in_err-post_tests c =
     let a = c.args in
-    c.refused.ensures ∙ operation_refused a.settings a.self a.clock _ c.cause-cause.ensures c.if-cause-ne0.true
+    let p = err_from_is_err_and c.from_residual.result c.from_residual.ensures.1 in
+    rw (p.1, p.2) (operation_refused a.settings a.self a.clock _ c.in_err-post_tests.ensures (cause_some _))
 
 pub operation-requires : goal.operation-requires
 operation-requires c =
     let a = c.args in
-    let v = post_tested a.settings a.self a.clock _ c.cause-cause.ensures in
-    let z = c.if-cause-ne0.false in
-    let g = settled a.settings (v.settings z) in
-    let f = readable a.settings a.self.«record» a.self.clock g (v.readable z) in
-    (g, f.sound, omega (arith, f.taken_past, v.onward z))
+    let v = post_tested a.settings a.self a.clock 0 c.in_ok-post_tests.ensures in
+    let g = settled a.settings (v.settings refl) in
+    let f = readable a.settings a.self.«record» a.self.clock g (v.readable refl) in
+    (g, f.sound, omega (arith, f.taken_past, v.onward refl))
 
 pub returns : goal.returns
 returns c =
     let a = c.args in
-    c.operation.ensures ∙ operation_found a.settings a.self a.clock _ c.cause-cause.ensures c.if-cause-ne0.false
+    c.operation.ensures ∙ operation_found a.settings a.self a.clock 0 c.in_ok-post_tests.ensures refl

@@ -1,4 +1,4 @@
--- `lock::Settings::tree_cause` meets its contract. Assumes nothing.
+-- `lock::Settings::tree_tests` meets its contract. Assumes nothing.
 use mathlib.Core.Path.{sym, ◌∙◌}
 use native.Mathlib.Omega.{arith}
 use mathlib.Core.List.{[]}
@@ -6,7 +6,7 @@ use Rattle.lock.specs.rules.Calls.{first_cause, tree_tests}
 use Rattle.lock.proofs.laws.CallLaws.{tree_settings, tree_count, tree_passed}
 use Rattle.lock.proofs.laws.SettledLaws.{settled}
 use Rattle.lock.proofs.laws.WordLaws.{last_is_count}
-use Rattle.lock.proofs.Settings.tree_cause.Goals as goal
+use Rattle.lock.proofs.Settings.tree_tests.Goals as goal
 
 pub returns-then-outside : goal.returns-then-outside
 unfolding tree_tests

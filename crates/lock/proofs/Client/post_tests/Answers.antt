@@ -1,9 +1,9 @@
--- `lock::Client::cause` meets its contract. Assumes nothing.
+-- `lock::Client::post_tests` meets its contract. Assumes nothing.
 use mathlib.Core.Path.{sym, ◌∙◌}
 use Rattle.lock.proofs.laws.SettledLaws.{settled}
 use Rattle.lock.proofs.laws.OperationLaws.{cause_0, cause_1, cause_5, cause_6}
 use borrow.Author.Tests.{lt-ltb, le-ltb}
-use Rattle.lock.proofs.Client.cause.Goals as goal
+use Rattle.lock.proofs.Client.post_tests.Goals as goal
 
 pub returns-then-outside : goal.returns-then-outside
 returns-then-outside c =
