@@ -8,11 +8,10 @@ ghost use Rattle.lock.specs.laws.Active.{Settled};
 ghost use Rattle.lock.specs.laws.Placed.{Sound};
 ghost use Rattle.lock.specs.laws.Rows.{moved_of};
 
-use base::Refusal;
-
 use crate::moves::Moved;
 use crate::returning::leaves;
 use crate::{Client, Operation, Record, Settings, Stepped};
+use base::Refusal;
 
 impl Record {
     // The completion of the step by this clock that found this word.

@@ -6,11 +6,10 @@ ghost use Rattle.lock.specs.rules.Records.{returning};
 ghost use Rattle.lock.specs.laws.Active.{Settled};
 ghost use Rattle.lock.specs.laws.Placed.{Placed, Sound};
 
-use base::Refusal;
-use word::{Dmax, Occ, Tmax};
-
 use crate::returning::leaves;
 use crate::{Record, Settings};
+use base::Refusal;
+use word::{Dmax, Occ, Tmax};
 
 // What a phase's own work makes of the word found at the touched node: the word that it leaves there, and the next record.
 #[derive(Clone, Copy)]
@@ -91,7 +90,10 @@ impl Record {
             3 => leaves(found, self.climbed(n, found, clock)),
             4 => leaves(found, self.unblocked(found)),
             5 => self.claim_piece(settings, found, clock),
-            6 => leaves(word::add::<Dmax>(found, 1), self.notice_given(settings, clock)),
+            6 => leaves(
+                word::add::<Dmax>(found, 1),
+                self.notice_given(settings, clock),
+            ),
             7 => leaves(found, self.waited(settings, clock)),
             8 => leaves(found, self.check_passed(settings, found, clock)),
             10 => self.give_back(settings, found)?,

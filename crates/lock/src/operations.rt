@@ -7,9 +7,8 @@ ghost use Rattle.lock.specs.laws.Active.{Settled};
 ghost use Rattle.lock.specs.laws.Rows.{access_made};
 ghost use Rattle.lock.specs.laws.Placed.{Placed, Sound};
 
-use word::{Dcnt, Dmax, InnerField, OCC_RETURNED, Occ, Tcnt, Tmax};
-
 use crate::{Operation, Record, Settings};
+use word::{Dcnt, Dmax, InnerField, OCC_RETURNED, Occ, Tcnt, Tmax};
 
 // A 1 in each field that a row adds to.
 const DMAX_ONE: u64 = 1 << Dmax::SHIFT;
@@ -75,12 +74,12 @@ impl Operation {
     {
         Operation {
             number: 0,
-            kind: kind,
-            node: node,
+            kind,
+            node,
             compared: 0,
             expected: 0,
             swapped: 0,
-            value: value,
+            value,
         }
     }
 
@@ -101,11 +100,11 @@ impl Operation {
             } => Operation {
                 number: 0,
                 kind: 3,
-                node: node,
-                compared: compared,
-                expected: expected,
-                swapped: swapped,
-                value: value,
+                node,
+                compared,
+                expected,
+                swapped,
+                value,
             },
         }
     }
@@ -133,7 +132,7 @@ impl Operation {
         ensures { result ≡ refused_operation number }
     {
         Operation {
-            number: number,
+            number,
             kind: 0,
             node: 0,
             compared: 0,

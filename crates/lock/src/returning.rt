@@ -8,20 +8,16 @@ ghost use Rattle.lock.specs.laws.Rows.{leaves, moved_of, return_bits, return_inn
 ghost use Rattle.lock.specs.laws.Active.{Settled};
 ghost use Rattle.lock.specs.laws.Placed.{Pieced, Placed};
 
-use base::Refusal;
-use word::{Dcnt, Tcnt};
-
 use crate::moves::Moved;
 use crate::{Record, Settings};
+use base::Refusal;
+use word::{Dcnt, Tcnt};
 
 // What a step leaves at the touched node, and the next record.
 pub fn leaves(word: u64, next: Record) -> Moved
     ensures { result ≡ record { word = word; next = next } }
 {
-    Moved {
-        word: word,
-        next: next,
-    }
+    Moved { word, next }
 }
 
 impl Record {
@@ -137,9 +133,6 @@ impl Record {
             }
             return Ok(self.return_inner(settings, found));
         }
-        Ok(leaves(
-            word::add::<Dcnt>(found, 1),
-            self.word_returned(settings),
-        ))
+        Ok(leaves(word::add::<Dcnt>(found, 1), self.word_returned(settings)))
     }
 }

@@ -9,9 +9,8 @@ ghost use Rattle.lock.specs.laws.Active.{Settled};
 ghost use Rattle.lock.specs.laws.Placed.{Pieced};
 ghost use Rattle.lock.specs.laws.StepLaws.{Read};
 
-use word::{Dcnt, Dmax, Occ, Tcnt, Tmax};
-
 use crate::{Record, Settings};
+use word::{Dcnt, Dmax, Occ, Tcnt, Tmax};
 
 impl Record {
     pub fn current_piece(self) -> u64

@@ -1,11 +1,11 @@
 -- Laws of the call by value that a kind names: its client, the first tests, which all kinds have in common, and what is left of each kind after them. Assumes nothing.
 use Rattle.std.specs.Prelude.{◌≡◌, Bool, true, false, ◌&&◌, ◌||◌, ℕ, ◌≤◌, eqb, ltb, length}
 use Rattle.std.proofs.Math.Path.{refl, sym, ap, subst}
-use Rattle.std.proofs.Common.{◌∙◌, arith, eq-eqb, ne_eqb, ltb-false, eqb→eq}
+use Rattle.std.proofs.Common.{◌∙◌, arith, eq-eqb, ne_eqb, ltb-false}
 use Rattle.std.proofs.Math.Bool.{not}
 use mathlib.Core.List.{List, [], ◌∷◌, ◌++◌}
 use Rattle.base.specs.rules.Choice.{choose}
-use Rattle.base.specs.laws.ChoiceLaws.{choose_eq, choose_ne, by_eq, on_choose}
+use Rattle.base.specs.laws.ChoiceLaws.{choose_eq, choose_ne, on_choose}
 use Rattle.tree.specs.rules.Tree.{word_count}
 use Rattle.cover.specs.rules.Answer.{window_outside}
 use Rattle.lock.specs.declared.Client.{Client}

@@ -1,11 +1,8 @@
 -- `lock::Record::claim_access` meets its contract. Assumes nothing.
-use mathlib.Core.Path.{sym, ap, ◌∙◌, subst}
+use mathlib.Core.Path.{sym, ◌∙◌, subst}
 use Prim.Native.Nat.{ℕ}
 use Rattle.cover.specs.rules.Cover.{Meets}
-use Rattle.lock.specs.rules.Records.{is_leaf}
-use Rattle.lock.specs.rules.Steps.{wanted, swap}
 use Rattle.lock.proofs.laws.ReturnLaws.{leaf_level}
-use Rattle.lock.proofs.laws.OperationLaws.{claim_swap, claim_add}
 use Rattle.lock.proofs.Record.claim_access.Goals as goal
 
 pub wanted-bits-requires : goal.wanted-bits-requires

@@ -1,14 +1,9 @@
 -- `lock::Record::claim_piece` meets its contract. Assumes nothing.
-use mathlib.Core.Path.{sym, ap, ap₂, ◌∙◌, subst}
+use mathlib.Core.Path.{sym, ◌∙◌, subst}
 use Prim.Native.Nat.{ℕ}
-use Rattle.lock.specs.rules.Records.{is_leaf}
-use Rattle.lock.specs.rules.Steps.{wanted}
-use Rattle.lock.specs.laws.Rows.{leaves}
-use Rattle.word.specs.rules.Word.{take_bits}
 use Rattle.cover.specs.rules.Cover.{Meets}
 use Rattle.lock.proofs.laws.Placed.{pieced}
 use Rattle.lock.proofs.laws.ReturnLaws.{leaf_level}
-use Rattle.lock.proofs.laws.MoveLaws.{claim_leaf, claim_inner}
 use Rattle.lock.proofs.Record.claim_piece.Goals as goal
 
 pub wanted-requires : goal.wanted-requires

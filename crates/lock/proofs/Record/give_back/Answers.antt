@@ -1,12 +1,11 @@
 -- `lock::Record::give_back` meets its contract. Assumes nothing.
-use mathlib.Core.Path.{sym, ap, ap₂, ◌∙◌}
+use mathlib.Core.Path.{sym, ap, ◌∙◌}
 use Prim.Native.Nat.{◌<◌}
 use native.Mathlib.Omega.{arith}
 use lib.ListN.{length}
 use Rattle.lock.specs.rules.Records.{pieces, is_leaf, given_piece}
-use Rattle.lock.specs.laws.Rows.{leaves}
 use Rattle.lock.proofs.laws.Placed.{pieced}
-use Rattle.lock.proofs.laws.ReturnLaws.{own_leaf, own_inner, own_notice, leaf_level}
+use Rattle.lock.proofs.laws.ReturnLaws.{leaf_level}
 use Rattle.lock.proofs.Record.give_back.Goals as goal
 
 pub return_bits-requires : goal.return_bits-requires

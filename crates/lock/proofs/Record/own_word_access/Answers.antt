@@ -1,13 +1,11 @@
 -- `lock::Record::own_word_access` meets its contract. Assumes nothing.
-use mathlib.Core.Path.{sym, ap, ◌∙◌, subst}
+use mathlib.Core.Path.{sym, ◌∙◌, subst}
 use Prim.Native.Nat.{ℕ, ◌<◌}
 use native.Mathlib.Omega.{arith}
 use lib.ListN.{length}
 use Rattle.cover.specs.rules.Cover.{Meets}
-use Rattle.lock.specs.rules.Records.{is_leaf, pieces}
-use Rattle.lock.specs.rules.Steps.{wanted, swap}
+use Rattle.lock.specs.rules.Records.{pieces}
 use Rattle.lock.proofs.laws.ReturnLaws.{leaf_level}
-use Rattle.lock.proofs.laws.OperationLaws.{own_swap, own_occ, own_turn, own_read}
 use Rattle.lock.proofs.Record.own_word_access.Goals as goal
 
 pub given_piece-n-requires : goal.given_piece-n-requires
