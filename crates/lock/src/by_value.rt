@@ -38,8 +38,7 @@ impl Client {
         if clock < self.clock {
             return Err(Refusal::Clock);
         }
-        let own = self.record;
-        if own.unreadable(settings, self.clock) {
+        if self.record.unreadable(settings, self.clock) {
             return Err(Refusal::Unreadable);
         }
         Ok(())
@@ -50,8 +49,7 @@ impl Client {
         ensures { operation_by result ≡ operation_answer settings self clock }
     {
         self.post_tests(settings, clock)?;
-        let own = self.record;
-        Ok(own.operation(settings, clock))
+        Ok(self.record.operation(settings, clock))
     }
 
     // What becomes of the client when the word found comes back.
@@ -59,10 +57,9 @@ impl Client {
         ensures { stepped_by self result ≡ completed_answer settings self clock found }
     {
         self.post_tests(settings, clock)?;
-        let own = self.record;
-        let moved = own.completed(settings, clock, found)?;
+        let moved = self.record.completed(settings, clock, found)?;
         Ok(Client {
-            clock: clock,
+            clock,
             record: moved.next,
         })
     }
@@ -71,24 +68,21 @@ impl Client {
         ensures { stepped_by self result ≡ own_request_answer settings self a b }
     {
         self.post_tests(settings, self.clock)?;
-        let own = self.record;
-        Ok(self.with(own.request(settings, a, b)?))
+        Ok(self.with(self.record.request(settings, a, b)?))
     }
 
     pub fn own_release(self, settings: Settings) -> Result<Client, Refusal>
         ensures { stepped_by self result ≡ own_release_answer settings self }
     {
         self.post_tests(settings, self.clock)?;
-        let own = self.record;
-        Ok(self.with(own.release()?))
+        Ok(self.with(self.record.release()?))
     }
 
     pub fn own_cancel(self, settings: Settings) -> Result<Client, Refusal>
         ensures { stepped_by self result ≡ own_cancel_answer settings self }
     {
         self.post_tests(settings, self.clock)?;
-        let own = self.record;
-        Ok(self.with(own.cancel()?))
+        Ok(self.with(self.record.cancel()?))
     }
 
     // "As it was": a refused call gives its number only. The C interface has number and client beside each other.
@@ -96,10 +90,7 @@ impl Client {
         ensures { result ≡ stepped_by self answer }
     {
         match answer {
-            Ok(next) => Stepped {
-                number: 0,
-                next: next,
-            },
+            Ok(next) => Stepped { number: 0, next },
             Err(refusal) => Stepped {
                 number: refusal.number(),
                 next: self,

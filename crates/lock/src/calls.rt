@@ -59,21 +59,12 @@ impl Record {
     {
         let phase = settings.start_phase(first);
         Record {
-            phase: phase,
-            outcome: 0,
+            phase,
             left: a,
             right: b,
-            first: first,
-            second: second,
-            current: 0,
-            giving: 0,
-            grip: 0,
-            ticket: 0,
-            place: 0,
-            notices: 0,
-            t1: 0,
-            t0: 0,
-            taken: 0,
+            first,
+            second,
+            ..Record::default()
         }
     }
 
@@ -157,10 +148,7 @@ impl Client {
     pub fn idle() -> Client
         ensures { result ≡ idle_client }
     {
-        Client {
-            clock: 0,
-            record: Record::idle_with(0),
-        }
+        Client::default()
     }
 
     // With another record, by the same clock.
@@ -182,18 +170,17 @@ impl Client {
         if (kind == Kind::Step) & (call.a < self.clock) {
             return Err(Refusal::Clock);
         }
-        let own = self.record;
-        if own.unreadable(settings, self.clock) {
+        if self.record.unreadable(settings, self.clock) {
             return Err(Refusal::Unreadable);
         }
         match kind {
-            Kind::Request => Ok(self.with(own.request(settings, call.a, call.b)?)),
+            Kind::Request => Ok(self.with(self.record.request(settings, call.a, call.b)?)),
             Kind::Step => Ok(Client {
                 clock: call.a,
-                record: own.step(words, settings, self.clock, call.a)?,
+                record: self.record.step(words, settings, self.clock, call.a)?,
             }),
-            Kind::Release => Ok(self.with(own.release()?)),
-            Kind::Cancel => Ok(self.with(own.cancel()?)),
+            Kind::Release => Ok(self.with(self.record.release()?)),
+            Kind::Cancel => Ok(self.with(self.record.cancel()?)),
         }
     }
 }

@@ -56,7 +56,7 @@ impl From<Result<u64, Refusal>> for StepCount {
         match counted {
             Ok(steps) => StepCount {
                 number: 0,
-                steps: steps,
+                steps,
             },
             Err(refusal) => StepCount {
                 number: refusal.number(),

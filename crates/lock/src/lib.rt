@@ -18,7 +18,7 @@ pub struct Settings {
 // piece (0 or 1, the last begun), the piece being given back, the current piece's grip, ticket, place in the list it walks, notices that the
 // current piece gave, and the noted times; the last of them is the clock at which the first piece was taken.
 #[repr(C)]
-#[derive(Clone, Copy)]
+#[derive(Clone, Copy, Default)]
 pub struct Record {
     pub phase: u64,
     pub outcome: u64,
@@ -39,7 +39,7 @@ pub struct Record {
 
 // A client, as the client table has it: its last clock, "kept beside the record", and its record.
 #[repr(C)]
-#[derive(Clone, Copy)]
+#[derive(Clone, Copy, Default)]
 pub struct Client {
     pub clock: u64,
     pub record: Record,
@@ -89,7 +89,7 @@ pub struct Stepped {
 // What a run posts: number 0, the kind (0 none, 1 read, 2 masked add, 3 masked compare-and-swap) and the node (0 for none); of a swap the mask and the bits that are compared, and the mask and the
 // bits that are set; of an add in `value` the deltas of the six fields, each where its field is. Refused: the cause, and 0.
 #[repr(C)]
-#[derive(Clone, Copy, PartialEq, Eq)]
+#[derive(Clone, Copy, Default, PartialEq, Eq)]
 pub struct Operation {
     pub number: u64,
     pub kind: u64,

@@ -68,43 +68,35 @@ impl Access {
 }
 
 impl Operation {
-    // By kind and node; the values are 0 but where a kind has them.
-    fn of_kind(kind: u64, node: u64, value: u64) -> Operation
-        ensures { result ≡ record { number = 0; kind = kind; node = node; compared = 0; expected = 0; swapped = 0; value = value } }
-    {
-        Operation {
-            number: 0,
-            kind,
-            node,
-            compared: 0,
-            expected: 0,
-            swapped: 0,
-            value,
-        }
-    }
-
-    // The access at a node, as C is handed it.
+    // The access at a node, as C is handed it: its kind by a number, and 0 for what a kind does not have.
     #[tactic(auto, unfolding(crate::specs::rules::Operations::operation_at))]
     fn at(node: u64, access: Access) -> Operation
         ensures { result ≡ operation_at node (access_made access) }
     {
+        let none = Operation {
+            node,
+            ..Operation::default()
+        };
         match access {
-            Access::None => Operation::of_kind(0, node, 0),
-            Access::Read => Operation::of_kind(1, node, 0),
-            Access::Add(deltas) => Operation::of_kind(2, node, deltas),
+            Access::None => none,
+            Access::Read => Operation { kind: 1, ..none },
+            Access::Add(deltas) => Operation {
+                kind: 2,
+                value: deltas,
+                ..none
+            },
             Access::Swap {
                 compared,
                 expected,
                 swapped,
                 value,
             } => Operation {
-                number: 0,
                 kind: 3,
-                node,
                 compared,
                 expected,
                 swapped,
                 value,
+                ..none
             },
         }
     }
@@ -133,12 +125,7 @@ impl Operation {
     {
         Operation {
             number,
-            kind: 0,
-            node: 0,
-            compared: 0,
-            expected: 0,
-            swapped: 0,
-            value: 0,
+            ..Operation::default()
         }
     }
 

@@ -26,21 +26,8 @@ impl Record {
         ensures { result ≡ idle_with outcome }
     {
         Record {
-            phase: 0,
-            outcome: outcome,
-            left: 0,
-            right: 0,
-            first: 0,
-            second: 0,
-            current: 0,
-            giving: 0,
-            grip: 0,
-            ticket: 0,
-            place: 0,
-            notices: 0,
-            t1: 0,
-            t0: 0,
-            taken: 0,
+            outcome,
+            ..Record::default()
         }
     }
 
