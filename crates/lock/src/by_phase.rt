@@ -50,7 +50,7 @@ impl Record {
             | ((self.outcome == 4) & (self.current == 0))
     }
 
-    // 6 to 10, where a piece that is not being returned has its bits or Occ: "3 in 6..9"
+    // 6 to 10, where a piece that is not being returned has its bits or Occ: "3 in 6..9". The phase stays the number that C lends, and is matched as document 01 has it.
     fn taken_wrong(self, settings: Settings, node: u64, leaf: bool) -> bool
         requires { Begun settings self × (6 ≤ self.phase) × (node ≡ current_piece self) × (leaf ≡ is_leaf settings (current_piece self)) }
         ensures { result ≡ own_wrong settings self }

@@ -6,19 +6,21 @@ ghost use Rattle.lock.specs.rules.Calls.{first_cause, stepped_by};
 ghost use Rattle.lock.specs.rules.Operations.{operation_by, post_tests, operation_answer, completed_answer, own_request_answer, own_release_answer, own_cancel_answer};
 ghost use Rattle.lock.specs.laws.Active.{Settled};
 ghost use Rattle.lock.specs.laws.Placed.{Sound};
+ghost use Rattle.lock.specs.laws.Rows.{moved_of};
 
+use crate::moves::Moved;
 use crate::returning::leaves;
-use crate::{Client, Moved, Operation, Record, Settings, Stepped};
+use crate::{Client, Operation, Record, Settings, Stepped};
 use base::Refusal;
 
 impl Record {
     // The completion of the step by this clock that found this word.
-    fn completed(self, settings: Settings, clock: u64, found: u64) -> Moved
+    fn completed(self, settings: Settings, clock: u64, found: u64) -> Result<Moved, Refusal>
         requires { Settled settings × Sound settings self × (self.t1 ≤ clock) × (self.t0 ≤ clock) × (self.taken ≤ clock) }
-        ensures { result ≡ moved settings self found clock }
+        ensures { moved_of self found result ≡ moved settings self found clock }
     {
         if self.out_of_patience(settings, clock) {
-            return leaves(found, self.sent_back(4));
+            return Ok(leaves(found, self.sent_back(4)));
         }
         let n = self.own_touched(settings);
         self.own_moved(settings, n, found, clock)
@@ -55,13 +57,10 @@ impl Client {
         ensures { stepped_by self result ≡ completed_answer settings self clock found }
     {
         self.post_tests(settings, clock)?;
-        let m = self.record.completed(settings, clock, found);
-        if m.number != 0 {
-            return Err(Refusal::ClearBit);
-        }
+        let moved = self.record.completed(settings, clock, found)?;
         Ok(Client {
             clock,
-            record: m.next,
+            record: moved.next,
         })
     }
 
@@ -91,10 +90,7 @@ impl Client {
         ensures { result ≡ stepped_by self answer }
     {
         match answer {
-            Ok(next) => Stepped {
-                number: 0,
-                next,
-            },
+            Ok(next) => Stepped { number: 0, next },
             Err(refusal) => Stepped {
                 number: refusal.number(),
                 next: self,

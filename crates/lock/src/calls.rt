@@ -99,12 +99,9 @@ impl Record {
             return Ok(self.sent_back(4));
         }
         let n = self.own_touched(settings);
-        let m = self.own_moved(settings, n, word_at(words, n), clock);
-        if m.number != 0 {
-            return Err(Refusal::ClearBit);
-        }
-        put_word(words, n, m.word);
-        Ok(m.next)
+        let moved = self.own_moved(settings, n, word_at(words, n), clock)?;
+        put_word(words, n, moved.word);
+        Ok(moved.next)
     }
 
     // What is left of a release after 1, 2 and 6: 8, "release when not held".

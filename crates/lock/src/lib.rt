@@ -86,14 +86,6 @@ pub struct Stepped {
     pub next: Client,
 }
 
-// What a phase's own work makes of the word found at the touched node: 0 or 9, the word that it leaves there, and the next record.
-#[derive(Clone, Copy)]
-pub struct Moved {
-    pub number: u64,
-    pub word: u64,
-    pub next: Record,
-}
-
 // What a run posts: number 0, the kind (0 none, 1 read, 2 masked add, 3 masked compare-and-swap) and the node (0 for none); of a swap the mask and the bits that are compared, and the mask and the
 // bits that are set; of an add in `value` the deltas of the six fields, each where its field is. Refused: the cause, and 0.
 #[repr(C)]

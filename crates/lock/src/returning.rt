@@ -4,21 +4,20 @@ ghost use Rattle.tree.specs.rules.Tree.{level, Node};
 ghost use Rattle.cover.specs.rules.Cover.{Meets};
 ghost use Rattle.lock.specs.rules.Records.{pieces, given_piece, idle_with};
 ghost use Rattle.lock.specs.rules.Steps.{piece_returned, word_returned, turn_returned, wanted};
-ghost use Rattle.lock.specs.laws.Rows.{leaves, return_bits, return_inner, give_back};
+ghost use Rattle.lock.specs.laws.Rows.{leaves, moved_of, return_bits, return_inner, give_back};
 ghost use Rattle.lock.specs.laws.Active.{Settled};
 ghost use Rattle.lock.specs.laws.Placed.{Pieced, Placed};
 
-use crate::{Moved, Record, Settings};
+use crate::moves::Moved;
+use crate::{Record, Settings};
+use base::Refusal;
+use word::{Dcnt, Tcnt};
 
 // What a step leaves at the touched node, and the next record.
 pub fn leaves(word: u64, next: Record) -> Moved
-    ensures { result ≡ leaves word next }
+    ensures { result ≡ record { word = word; next = next } }
 {
-    Moved {
-        number: 0,
-        word: word,
-        next: next,
-    }
+    Moved { word, next }
 }
 
 impl Record {
@@ -27,21 +26,8 @@ impl Record {
         ensures { result ≡ idle_with outcome }
     {
         Record {
-            phase: 0,
-            outcome: outcome,
-            left: 0,
-            right: 0,
-            first: 0,
-            second: 0,
-            current: 0,
-            giving: 0,
-            grip: 0,
-            ticket: 0,
-            place: 0,
-            notices: 0,
-            t1: 0,
-            t0: 0,
-            taken: 0,
+            outcome,
+            ..Record::default()
         }
     }
 
@@ -81,7 +67,7 @@ impl Record {
     fn turn_returned(mut self, found: u64) -> Record
         ensures { result ≡ turn_returned self found }
     {
-        if word::tcnt(found) == self.ticket {
+        if word::get::<Tcnt>(found) == self.ticket {
             self.grip = 2;
             return self;
         }
@@ -96,48 +82,44 @@ impl Record {
         word::wanted_bits(tree::left_edge(settings.levels, n), self.left, self.right)
     }
 
-    // Leaf bits, from all 1 to all 0.
-    fn return_bits(self, settings: Settings, found: u64) -> Moved
+    // Leaf bits, from all 1 to all 0; 9, "returning leaf finds a wanted bit clear".
+    #[tactic(auto, unfolding(crate::specs::laws::Rows::return_bits, base::specs::rules::Choice::choose))]
+    fn return_bits(self, settings: Settings, found: u64) -> Result<Moved, Refusal>
         requires { Settled settings × Placed settings self × (self.giving < length (pieces self)) × (level (given_piece self) ≡ settings.levels) }
-        ensures { result ≡ return_bits settings self found }
+        ensures { moved_of self found result ≡ return_bits settings self found }
     {
         let bits = self.wanted(settings, self.given_piece());
-        let swap = word::give_bits(found, bits);
-        if swap.done {
-            return leaves(swap.word, self.word_returned(settings));
-        }
-        Moved {
-            number: 9,
-            word: found,
-            next: self,
-        }
+        let left = word::give_bits(found, bits).ok_or(Refusal::ClearBit)?;
+        Ok(leaves(left, self.word_returned(settings)))
     }
 
     // Occ and the ticket.
+    #[tactic(auto, unfolding(crate::specs::laws::Rows::return_inner, base::specs::rules::Choice::choose))]
     fn return_inner(self, settings: Settings, found: u64) -> Moved
         requires { Settled settings × Pieced self × (self.giving < length (pieces self)) }
-        ensures { result ≡ return_inner settings self found }
+        ensures { leaves result.word result.next ≡ return_inner settings self found }
     {
         let grip = self.grip_of(self.giving);
         if grip == 3 {
             return leaves(word::return_occ(found), self.word_returned(settings));
         }
         if grip == 2 {
-            return leaves(word::add_tcnt(found, 1), self.word_returned(settings));
+            return leaves(word::add::<Tcnt>(found, 1), self.word_returned(settings));
         }
         leaves(found, self.turn_returned(found))
     }
 
-    pub fn give_back(self, settings: Settings, found: u64) -> Moved
+    #[tactic(auto, unfolding(crate::specs::laws::Rows::give_back, base::specs::rules::Choice::choose))]
+    pub fn give_back(self, settings: Settings, found: u64) -> Result<Moved, Refusal>
         requires { Settled settings × Placed settings self }
-        ensures { result ≡ give_back settings self found }
+        ensures { moved_of self found result ≡ give_back settings self found }
     {
         if self.place == 0 {
             if settings.is_leaf(self.given_piece()) {
                 return self.return_bits(settings, found);
             }
-            return self.return_inner(settings, found);
+            return Ok(self.return_inner(settings, found));
         }
-        leaves(word::add_dcnt(found, 1), self.word_returned(settings))
+        Ok(leaves(word::add::<Dcnt>(found, 1), self.word_returned(settings)))
     }
 }

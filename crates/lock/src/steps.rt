@@ -10,6 +10,7 @@ ghost use Rattle.lock.specs.laws.Placed.{Pieced};
 ghost use Rattle.lock.specs.laws.StepLaws.{Read};
 
 use crate::{Record, Settings};
+use word::{Dcnt, Dmax, Occ, Tcnt, Tmax};
 
 impl Record {
     pub fn current_piece(self) -> u64
@@ -23,7 +24,7 @@ impl Record {
     pub fn ticket_taken(mut self, found: u64) -> Record
         ensures { result ≡ ticket_taken self found }
     {
-        self.ticket = word::tmax(found);
+        self.ticket = word::get::<Tmax>(found);
         self.grip = 1;
         self.phase = 2;
         self.place = 0;
@@ -36,7 +37,7 @@ impl Record {
         ensures { result ≡ turn_awaited self found }
     {
         let n = self.current_piece();
-        if word::tcnt(found) != self.ticket {
+        if word::get::<Tcnt>(found) != self.ticket {
             return self;
         }
         self.grip = 2;
@@ -79,7 +80,7 @@ impl Record {
         requires { Read n self }
         ensures { result ≡ climbed self found clock }
     {
-        if word::occ(found) == 1 {
+        if word::get::<Occ>(found) == 1 {
             self.phase = 4;
             return self;
         }
@@ -90,7 +91,7 @@ impl Record {
     pub fn unblocked(mut self, found: u64) -> Record
         ensures { result ≡ unblocked self found }
     {
-        if word::occ(found) == 0 {
+        if word::get::<Occ>(found) == 0 {
             self.phase = 3;
             self.place = 0;
             return self;
@@ -213,7 +214,7 @@ impl Record {
         requires { Settled settings × Pieced self × Node settings.levels (current_piece self) × (self.place < length (check_list settings.levels settings.distance (current_piece self))) }
         ensures { result ≡ check_passed settings self found clock }
     {
-        if word::dcnt(found) != word::dmax(found) {
+        if word::get::<Dcnt>(found) != word::get::<Dmax>(found) {
             return self;
         }
         let passed = self.place + 1;

@@ -1,17 +1,16 @@
 -- Laws of the call by value that a kind names: its client, the first tests, which all kinds have in common, and what is left of each kind after them. Assumes nothing.
 use Rattle.std.specs.Prelude.{◌≡◌, Bool, true, false, ◌&&◌, ◌||◌, ℕ, ◌≤◌, eqb, ltb, length}
 use Rattle.std.proofs.Math.Path.{refl, sym, ap, subst}
-use Rattle.std.proofs.Common.{◌∙◌, arith, eq-eqb, ne_eqb, ltb-false, eqb→eq}
+use Rattle.std.proofs.Common.{◌∙◌, arith, eq-eqb, ne_eqb, ltb-false}
 use Rattle.std.proofs.Math.Bool.{not}
 use mathlib.Core.List.{List, [], ◌∷◌, ◌++◌}
 use Rattle.base.specs.rules.Choice.{choose}
-use Rattle.base.specs.laws.ChoiceLaws.{choose_eq, choose_ne, by_eq, on_choose}
+use Rattle.base.specs.laws.ChoiceLaws.{choose_eq, choose_ne, on_choose}
 use Rattle.tree.specs.rules.Tree.{word_count}
 use Rattle.cover.specs.rules.Answer.{window_outside}
 use Rattle.lock.specs.declared.Client.{Client}
 use Rattle.lock.specs.declared.Record.{Record}
 use Rattle.lock.specs.declared.Settings.{Settings}
-use Rattle.lock.specs.declared.Moved.{Moved}
 use Rattle.lock.specs.declared.Stepped.{Stepped}
 use Rattle.lock.specs.declared.Kind.{Kind}
 use Rattle.lock.specs.declared.Kind.TheVariants.{Request, Step, Release, Cancel}
@@ -23,8 +22,9 @@ use Rattle.base.specs.declared.Refusal.TheVariants.{Clock, Unreadable}
 use Rattle.base.specs.rules.Refusals.{number_of}
 use Rattle.lock.specs.rules.Records.{word_at, written, client_with}
 use Rattle.lock.specs.rules.Unreadable.{differ, unreadable}
-use Rattle.lock.specs.rules.Steps.{own_touched, out_of_patience, touched, moved, given_up}
+use Rattle.lock.specs.rules.Steps.{Moved, own_touched, out_of_patience, touched, moved, given_up}
 use Rattle.lock.specs.laws.Rows.{leaves, own_moved}
+use Rattle.lock.proofs.laws.Rows.{Nine, moved_nine}
 use Rattle.lock.specs.rules.Calls.{Tests, first_cause, tree_tests, request_tests, step_tests, release_tests, cancel_tests, requested, released, cancelled, answered, stepped_by, request_number, request_answer, release_answer, cancel_answer, step_number, step_answer, step_words}
 use Rattle.lock.specs.rules.Table.{Call, request, step, release, cancel, client_of}
 use Rattle.lock.specs.rules.ByValue.{call_of, call_by, answer_to, words_after}
@@ -185,10 +185,10 @@ module _ (s : Settings) (r : Record) (words : List ℕ) (clock : ℕ) where
   made = moved s r (word_at words (touched s r clock)) clock
 
   module _ (m : Moved) (e : m ≡ made) where
-    pub step_refused : (m.number ≡ 0 → ⊥) → (9 ≡ clear_bit s r words clock) × (words ≡ left_by s r words clock)
+    pub step_refused : (m.number ≡ 0 → ⊥) → (m.number ≡ clear_bit s r words clock) × (words ≡ left_by s r words clock)
     step_refused d =
         let nine : clear_bit s r words clock ≡ 9 = cause_hit _ 9 [] (ap not (ne_eqb made.number 0 (λ z. d (ap (λ y. y.number) e ∙ z)))) in
-        (sym nine, sym (choose_ne (clear_bit s r words clock) 0 _ words (λ z. omega arith)))
+        (subst Nine (sym e) (moved_nine s r _ clock) d ∙ sym nine, sym (choose_ne (clear_bit s r words clock) 0 _ words (λ z. omega arith)))
 
     pub step_taken : (vs : List ℕ) → m.number ≡ 0 → vs ≡ written words (touched s r clock) m.word → (0 ≡ clear_bit s r words clock) × (m.next ≡ made.next) × (vs ≡ left_by s r words clock)
     unfolding first_cause

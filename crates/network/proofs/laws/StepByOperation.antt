@@ -8,14 +8,13 @@ use Rattle.std.proofs.lemmas.List.{set-get_or}
 use Rattle.base.specs.laws.ChoiceLaws.{on_choose, choose_eq, choose_ne, by_eq}
 use Rattle.tree.specs.rules.Tree.{word_count}
 use Rattle.lock.specs.declared.Client.{Client}
-use Rattle.lock.specs.declared.Moved.{Moved}
 use Rattle.lock.specs.declared.Operation.{Operation}
 use Rattle.lock.specs.declared.Record.{Record}
 use Rattle.lock.specs.declared.Settings.{Settings}
 use Rattle.lock.specs.declared.Stepped.{Stepped}
 use Rattle.lock.specs.rules.Records.{Phase, idle, ticket, turn, climb, blocked, claim, notify, wait, check, held, returning, unknown, phase_of, word_at, written, client_with}
 use Rattle.lock.specs.rules.Unreadable.{differ}
-use Rattle.lock.specs.rules.Steps.{Access, none, read, add, swap, applied, touched, access, moved, completed}
+use Rattle.lock.specs.rules.Steps.{Moved, Access, none, read, add, swap, applied, touched, access, moved, completed}
 use Rattle.lock.specs.rules.Calls.{Tests, first_cause, settings_outside, tree_tests, client_tests, step_tests, answered, step_number, step_answer, step_words}
 use Rattle.lock.specs.rules.Operations.{operation_at, refused_operation, access_of, post_tests, operation_answer, completed_tests, completed_answer}
 use Rattle.lock.specs.rules.Table.{State, step, client_of, client_at, call}

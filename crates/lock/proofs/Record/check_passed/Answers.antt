@@ -8,13 +8,13 @@ use Rattle.lock.specs.rules.Records.{current_piece}
 use Rattle.lock.proofs.laws.StepLaws.{check_stays, check_more, check_last, check_small}
 use Rattle.lock.proofs.Record.check_passed.Goals as goal
 
-pub returns-then-dcnt-dmax : goal.returns-then-dcnt-dmax
-returns-then-dcnt-dmax c =
+pub returns-then-get : goal.returns-then-get
+returns-then-get c =
     let a = c.args in
     let q = c.requires in
     let h = a.settings.levels in
     let m = a.settings.distance in
-    sym (check_stays a.settings a.self a.found a.clock (λ e. c.if-dcnt-dmax.true (c.dcnt.ensures ∙ e ∙ sym c.dmax.ensures)))
+    sym (check_stays a.settings a.self a.found a.clock (λ e. c.if-get.true (c.get.ensures ∙ e ∙ sym c.get-2.ensures)))
 
 pub overflow_add-passed : goal.overflow_add-passed
 overflow_add-passed c =
@@ -30,7 +30,7 @@ returns-then-passed-check_count c =
     let q = c.requires in
     let h = a.settings.levels in
     let m = a.settings.distance in
-    sym (check_more a.settings a.self a.found a.clock (sym c.dcnt.ensures ∙ c.if-dcnt-dmax.false ∙ c.dmax.ensures)
+    sym (check_more a.settings a.self a.found a.clock (sym c.get.ensures ∙ c.if-get.false ∙ c.get-2.ensures)
     (omega (arith, c.check_count.ensures ∙ ap (λ (x : ℕ). length (check_list h m x)) c.current_piece-n.ensures, c.if-passed-check_count.true)))
 
 pub returns : goal.returns
@@ -39,5 +39,5 @@ returns c =
     let q = c.requires in
     let h = a.settings.levels in
     let m = a.settings.distance in
-    c.taken.ensures ∙ sym (check_last a.settings a.self a.found a.clock (sym c.dcnt.ensures ∙ c.if-dcnt-dmax.false ∙ c.dmax.ensures)
+    c.taken.ensures ∙ sym (check_last a.settings a.self a.found a.clock (sym c.get.ensures ∙ c.if-get.false ∙ c.get-2.ensures)
     (omega (arith, c.check_count.ensures ∙ ap (λ (x : ℕ). length (check_list h m x)) c.current_piece-n.ensures, c.if-passed-check_count.false)))

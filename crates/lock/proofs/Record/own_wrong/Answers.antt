@@ -2,11 +2,13 @@
 use mathlib.Core.Path.{ap, ◌∙◌}
 use Prim.Native.Nat.{ℕ}
 use native.Mathlib.Omega.{arith}
+use Rattle.std.proofs.Common.{rules}
 use lib.Dec.{eqb}
 use Rattle.tree.specs.rules.Tree.{level}
 use Rattle.tree.proofs.laws.Level.{level_pos}
 use Rattle.lock.specs.rules.Records.{is_leaf}
 use Rattle.lock.proofs.laws.ReadableLaws.{grip_ticket, grip_turn}
+use Rattle.lock.proofs.laws.Phases.{over_5}
 use Rattle.lock.proofs.laws.PhaseTests.{own_asking, own_climbing, own_claiming}
 use Rattle.lock.proofs.Record.own_wrong.Goals as goal
 
@@ -21,7 +23,7 @@ overflow_sub-result-in-4 c =
 pub taken_wrong-requires : goal.taken_wrong-requires
 unfolding is_leaf
 taken_wrong-requires c =
-    (c.requires.0, omega (arith, c.requires.1, c.in_default.in_default-own.rest.0.0.0.0.1, c.in_default.in_default-own.rest.0.0.0.1, c.in_default.in_default-own.rest.0.0.1, c.in_default.in_default-own.rest.0.1, c.in_default.in_default-own.rest.1), c.piece_at-node.ensures, (ap (λ (x : ℕ). eqb x c.args.settings.levels) (c.level-level.ensures ∙ ap level c.piece_at-node.ensures)))
+    (c.requires.0, over_5 _ c.requires.1 (search rules) (search rules) (search rules) (search rules) (search rules), c.piece_at-node.ensures, (ap (λ (x : ℕ). eqb x c.args.settings.levels) (c.level-level.ensures ∙ ap level c.piece_at-node.ensures)))
 
 pub returns-in-1 : goal.returns-in-1
 unfolding is_leaf

@@ -1,8 +1,11 @@
 -- `lock::Record::step` meets its contract. Assumes nothing.
-use mathlib.Core.Path.{sym, ap, ◌∙◌}
+use mathlib.Core.Path.{refl, sym, ap, ◌∙◌}
+use Rattle.std.proofs.lemmas.Result.{err_from_is_err_and}
 use Prim.Native.Nat.{ℕ}
 use native.Mathlib.Omega.{arith}
 use Rattle.lock.specs.rules.Records.{written}
+use Rattle.lock.specs.laws.Rows.{leaves}
+use Rattle.lock.proofs.laws.CallLaws.{cause_some}
 use Rattle.lock.proofs.laws.PatienceLaws.{own_touched_lem}
 use Rattle.lock.proofs.laws.Touched.{touched_counted, readable}
 use Rattle.lock.proofs.laws.ByKind.{step_work, step_refused, step_taken, step_sent_back}
@@ -34,18 +37,20 @@ word_at-requires c =
     let f = readable a.settings a.self a.last q.0 q.2 in
     omega (arith, touched_counted a.settings a.self q.0 f.sound, c.own_touched-n.ensures, q.1)
 
-pub own_moved-m-requires : goal.own_moved-m-requires
-own_moved-m-requires c =
+pub own_moved-requires : goal.own_moved-requires
+own_moved-requires c =
     let a = c.args in
     let q = c.requires in
     let f = readable a.settings a.self a.last q.0 q.2 in
     (q.0, f.sound, omega (arith, f.t1_past, q.3), omega (arith, f.t0_past, q.3), c.own_touched-n.ensures)
 
-pub returns-then-m-ne0 : goal.returns-then-m-ne0
-returns-then-m-ne0 c =
+pub returns-in_err-moved : goal.returns-in_err-moved
+returns-in_err-moved c =
     let a = c.args in
-    let p = sym c.out_of_patience.ensures ∙ c.if-out_of_patience.false in
-    let both = step_refused a.settings a.self a.words.now a.clock _ (step_work a.settings a.self a.words.now a.clock p _ _ _ c.own_touched-n.ensures c.word_at.ensures c.own_moved-m.ensures) c.if-m-ne0.true in record { number = both.0; next = tt; words = both.1 }
+    let e = sym c.out_of_patience.ensures ∙ c.if-out_of_patience.false in
+    let both = step_refused a.settings a.self a.words.now a.clock _ (step_work a.settings a.self a.words.now a.clock e _ _ _ c.own_touched-n.ensures c.word_at.ensures c.in_err-moved.ensures) (cause_some _) in
+    let p = err_from_is_err_and c.from_residual.result c.from_residual.ensures.1 in
+    rw (p.1, p.2) (record { number = both.0; next = tt; words = both.1 })
 
 pub put_word-requires : goal.put_word-requires
 put_word-requires c =
@@ -61,4 +66,4 @@ returns c =
     let ws = c.args.words.now in
     let t = c.args.clock in
     let p = sym c.out_of_patience.ensures ∙ c.if-out_of_patience.false in
-    let all = step_taken s own ws t _ (step_work s own ws t p _ _ _ c.own_touched-n.ensures c.word_at.ensures c.own_moved-m.ensures) _ c.if-m-ne0.false (c.put_word.ensures ∙ ap (λ (x : ℕ). written ws x c.own_moved-m.result.word) (c.own_touched-n.ensures ∙ sym (own_touched_lem s own t p))) in record { number = all.0; next = all.1; words = all.2 }
+    let all = step_taken s own ws t (leaves c.in_ok-moved.moved.word c.in_ok-moved.moved.next) (step_work s own ws t p _ _ _ c.own_touched-n.ensures c.word_at.ensures c.in_ok-moved.ensures) _ refl (c.put_word.ensures ∙ ap (λ (x : ℕ). written ws x c.in_ok-moved.moved.word) (c.own_touched-n.ensures ∙ sym (own_touched_lem s own t p))) in record { number = all.0; next = all.1; words = all.2 }

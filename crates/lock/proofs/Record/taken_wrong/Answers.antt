@@ -2,9 +2,11 @@
 use mathlib.Core.Path.{ap, ◌∙◌}
 use Prim.Native.Nat.{ℕ}
 use native.Mathlib.Omega.{arith}
+use Rattle.std.proofs.Common.{rules}
 use lib.ListN.{length}
 use Rattle.tree.specs.rules.Lists.{notify_list, check_list}
 use Rattle.lock.proofs.laws.Pieces.{few_pieces}
+use Rattle.lock.proofs.laws.Phases.{over_10}
 use Rattle.lock.proofs.laws.PhaseTests.{own_notifying, own_waiting, own_checking, own_holding, own_unknown}
 use Rattle.lock.proofs.Record.taken_wrong.Goals as goal
 
@@ -30,4 +32,4 @@ returns-in-9 c =
 
 pub returns-in_default : goal.returns-in_default
 returns-in_default c =
-    own_unknown c.requires.0 (omega (arith, c.requires.1, c.in_default.in_default-own.rest.0.0.0.0.1, c.in_default.in_default-own.rest.0.0.0.1, c.in_default.in_default-own.rest.0.0.1, c.in_default.in_default-own.rest.0.1, c.in_default.in_default-own.rest.1))
+    own_unknown c.requires.0 (over_10 _ c.requires.1 (search rules) (search rules) (search rules) (search rules) (search rules))

@@ -8,4 +8,4 @@ use Rattle.lock.proofs.Record.ticket_taken.Goals as goal
 pub returns : goal.returns
 unfolding ticket_taken
 returns c =
-    ap (λ (k : ℕ). to_phase 2 (with_grip 1 (with_ticket k c.args.self))) c.tmax.ensures
+    ap (λ (k : ℕ). to_phase 2 (with_grip 1 (with_ticket k c.args.self))) c.get.ensures

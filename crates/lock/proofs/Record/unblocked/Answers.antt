@@ -3,10 +3,10 @@ use mathlib.Core.Path.{sym, ◌∙◌}
 use Rattle.lock.proofs.laws.StepLaws.{unblocked_now, unblocked_not}
 use Rattle.lock.proofs.Record.unblocked.Goals as goal
 
-pub returns-then-occ-eq0 : goal.returns-then-occ-eq0
-returns-then-occ-eq0 c =
-    sym (unblocked_now c.args.self c.args.found (sym c.occ.ensures ∙ c.if-occ-eq0.true))
+pub returns-then-get-eq0 : goal.returns-then-get-eq0
+returns-then-get-eq0 c =
+    sym (unblocked_now c.args.self c.args.found (sym c.get.ensures ∙ c.if-get-eq0.true))
 
 pub returns : goal.returns
 returns c =
-    sym (unblocked_not c.args.self c.args.found (λ e. c.if-occ-eq0.false (c.occ.ensures ∙ e)))
+    sym (unblocked_not c.args.self c.args.found (λ e. c.if-get-eq0.false (c.get.ensures ∙ e)))
