@@ -6,7 +6,7 @@ ghost use Rattle.calendar.specs.laws.Closed.{closed_in_day, closed_in_days};
 
 use crate::window::Window;
 
-// The hours of one ward, among the lent ones.
+// The hours of one ward, among the lent ones. The C interface needs them one after another, opening and closing in turn.
 #[derive(Clone, Copy)]
 struct WardHours<'a> {
     hours: &'a [u64],

@@ -12,7 +12,7 @@ fn pair_wrong(opening: u64, closing: u64) -> bool
     (96 < closing) | (closing < opening)
 }
 
-// Whether one of the pairs is wrong.
+// Whether one of the pairs is wrong. It stops at the first that is.
 fn some_pair_wrong(hours: &[u64]) -> bool
     ensures { result ≡ some_pair_wrong hours.now (length hours.now / 2) }
 {
@@ -26,9 +26,6 @@ impl Figures {
     pub fn hours_wrong(self, hours: &[u64]) -> bool
         ensures { result ≡ hours_wrong self.calendar.wards hours.now }
     {
-        if hours.len() as u64 != 14 * self.calendar.wards {
-            return true;
-        }
-        some_pair_wrong(hours)
+        hours.len() as u64 != 14 * self.calendar.wards || some_pair_wrong(hours)
     }
 }

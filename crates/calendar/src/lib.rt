@@ -31,7 +31,7 @@ pub struct Quarter {
     pub quarter: u64,
 }
 
-// number 0: the edges of the window; else the cause of a refusal, and zeros.
+// number 0: the edges of the window; else the cause of a refusal, and zeros. The C interface needs this form of a result.
 #[repr(C)]
 #[derive(Clone, Copy)]
 pub struct WindowAnswer {
@@ -40,7 +40,7 @@ pub struct WindowAnswer {
     pub right: u64,
 }
 
-// number 0: the quarter that a unit is; else the cause of a refusal, and zeros.
+// number 0: the quarter that a unit is; else the cause of a refusal, and zeros. The C interface needs this form of a result.
 #[repr(C)]
 #[derive(Clone, Copy)]
 pub struct QuarterAnswer {

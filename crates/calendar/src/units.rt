@@ -6,6 +6,7 @@ use crate::Quarter;
 use crate::figures::Figures;
 
 impl Figures {
+    // A type for a quarter that the calendar has would be no plainer: only windows ask for units, and a window knows its two ends.
     pub fn unit_of(self, at: Quarter) -> u64
         requires { Known self.calendar at }
         ensures { result ≡ unit_of self.calendar.weeks at }

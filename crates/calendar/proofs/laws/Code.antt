@@ -46,14 +46,15 @@ module _ (c : Calendar) (hours : List ℕ) (first last : Quarter) where
     wrong_ends e = rw (figures, e)
 
   -- the tests of the code, one after another, are 12 and 13
-  pub tested_12 : (h u v : Bool) → figures_outside c ≡ false → h ≡ hours_wrong c.wards hours → u ≡ unknown c first → v ≡ unknown c last
-      → (h || u || v) ≡ calendar_wrong c hours first last
+  pub tested_12 : {h u v b : Bool} → figures_outside c ≡ false → h ≡ hours_wrong c.wards hours → u ≡ unknown c first → v ≡ unknown c last → (h || u || v) ≡ b
+      → calendar_wrong c hours first last ≡ b
   unfolding calendar_wrong
-  tested_12 h u v figures d e f = rw (figures, d, e, f)
+  tested_12 figures d e f t = rw (figures, ← d, ← e, ← f) t
 
-  pub tested_13 : (l k : ℕ) → l ≡ unit_of c.weeks last → k ≡ unit_of c.weeks first → (not (eqb last.ward first.ward) || ltb l k) ≡ out_of_order c.weeks first last
+  pub tested_13 : {l k : ℕ} {b : Bool} → l ≡ unit_of c.weeks last → k ≡ unit_of c.weeks first → (not (eqb last.ward first.ward) || ltb l k) ≡ b
+      → out_of_order c.weeks first last ≡ b
   unfolding out_of_order
-  tested_13 l k e f = rw (e, f)
+  tested_13 e f t = rw (← e, ← f) t
 
   pub first_small : Right c hours first last → Small c.weeks first
   first_small v = known_small c first v.figures.ranges.few v.first_known

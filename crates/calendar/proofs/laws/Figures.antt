@@ -1,5 +1,5 @@
 -- Laws: which figures and quarters the tests let pass, and that the code's sums and products stay small. Assumes nothing.
-use Rattle.std.specs.Prelude.{◌≡◌, refl, Bool, true, false, ◌||◌, ℕ, ◌*◌, ◌≤◌, ◌<◌, leb, ltb}
+use Rattle.std.specs.Prelude.{◌≡◌, refl, Bool, true, false, ◌||◌, ℕ, ◌+◌, ◌*◌, ◌≤◌, ◌<◌, leb, ltb}
 use Rattle.std.proofs.Common.{arith, mul-le-mul, ltb-false, leb-false, le-ltb}
 use Rattle.std.proofs.lemmas.Bool.{lt-leb}
 use Rattle.base.specs.laws.TestLaws.{both_false, true_first, next_test}
@@ -102,3 +102,9 @@ to_inside c e =
 -- a known quarter of a calendar that fits
 pub fits_small : (c : Calendar) (at : Quarter) → Fits c → Known c at → Small c.weeks at
 fits_small c at f k = known_small c at (to_inside c f.figures).ranges.few k
+
+-- how many weeks are before it, those of the wards before its own counted too
+pub weeks_known : (c : Calendar) (at : Quarter) → Fits c → Known c at → at.ward * c.weeks + at.week < 3900
+weeks_known c at f k =
+    let s = fits_small c at f k in
+    omega (arith, weeks_before s)

@@ -10,7 +10,7 @@ pub returns-then-hours_wrong-unknown-clause-number : goal.returns-then-hours_wro
 returns-then-hours_wrong-unknown-clause-number c =
     let a = c.args in
     order_12 a.figures.calendar a.hours.now a.first a.last
-    (sym (tested_12 a.figures.calendar a.hours.now a.first a.last _ _ _ a.figures.fits.figures c.hours_wrong.ensures c.unknown.ensures c.unknown-2.ensures) ∙ c.if-hours_wrong-unknown.true)
+    (tested_12 a.figures.calendar a.hours.now a.first a.last a.figures.fits.figures c.hours_wrong.ensures c.unknown.ensures c.unknown-2.ensures c.if-hours_wrong-unknown.true)
 
 pub unit_of-requires : goal.unit_of-requires
 unit_of-requires c =
@@ -24,20 +24,20 @@ pub returns-then-last-first-clause-number : goal.returns-then-last-first-clause-
 returns-then-last-first-clause-number c =
     let a = c.args in
     order_13 a.figures.calendar a.hours.now a.first a.last
-    (sym (tested_12 a.figures.calendar a.hours.now a.first a.last _ _ _ a.figures.fits.figures c.hours_wrong.ensures c.unknown.ensures c.unknown-2.ensures) ∙ c.if-hours_wrong-unknown.false)
-    (sym (tested_13 a.figures.calendar a.hours.now a.first a.last _ _ c.unit_of.ensures c.unit_of-2.ensures) ∙ c.if-last-first.true)
+    (tested_12 a.figures.calendar a.hours.now a.first a.last a.figures.fits.figures c.hours_wrong.ensures c.unknown.ensures c.unknown-2.ensures c.if-hours_wrong-unknown.false)
+    (tested_13 a.figures.calendar a.hours.now a.first a.last c.unit_of.ensures c.unit_of-2.ensures c.if-last-first.true)
 
 pub invariant_of-result : goal.invariant_of-result
 invariant_of-result c =
     let a = c.args in
     record {
-      right = sym (tested_12 a.figures.calendar a.hours.now a.first a.last _ _ _ a.figures.fits.figures c.hours_wrong.ensures c.unknown.ensures c.unknown-2.ensures) ∙ c.if-hours_wrong-unknown.false;
-      order = sym (tested_13 a.figures.calendar a.hours.now a.first a.last _ _ c.unit_of.ensures c.unit_of-2.ensures) ∙ c.if-last-first.false;
+      right = tested_12 a.figures.calendar a.hours.now a.first a.last a.figures.fits.figures c.hours_wrong.ensures c.unknown.ensures c.unknown-2.ensures c.if-hours_wrong-unknown.false;
+      order = tested_13 a.figures.calendar a.hours.now a.first a.last c.unit_of.ensures c.unit_of-2.ensures c.if-last-first.false;
     }
 
 pub returns-clause-number : goal.returns-clause-number
 returns-clause-number c =
     let a = c.args in
     order_0 a.figures.calendar a.hours.now a.first a.last
-    (sym (tested_12 a.figures.calendar a.hours.now a.first a.last _ _ _ a.figures.fits.figures c.hours_wrong.ensures c.unknown.ensures c.unknown-2.ensures) ∙ c.if-hours_wrong-unknown.false)
-    (sym (tested_13 a.figures.calendar a.hours.now a.first a.last _ _ c.unit_of.ensures c.unit_of-2.ensures) ∙ c.if-last-first.false)
+    (tested_12 a.figures.calendar a.hours.now a.first a.last a.figures.fits.figures c.hours_wrong.ensures c.unknown.ensures c.unknown-2.ensures c.if-hours_wrong-unknown.false)
+    (tested_13 a.figures.calendar a.hours.now a.first a.last c.unit_of.ensures c.unit_of-2.ensures c.if-last-first.false)

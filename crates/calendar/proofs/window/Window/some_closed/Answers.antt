@@ -6,16 +6,16 @@ use Rattle.calendar.proofs.laws.Window.{ordered}
 use Rattle.calendar.proofs.window.Window.some_closed.Goals as goal
 
 pub overflow_mul-days : goal.overflow_mul-days
-overflow_mul-days c = let o = ordered c.args.self in omega (arith, o.last_week, o.weeks_few)
+overflow_mul-days c = let o = ordered c.args.self in omega arith
 
 pub overflow_add-days : goal.overflow_add-days
-overflow_add-days c = let o = ordered c.args.self in omega (arith, o.last_week, o.weeks_few, o.last_day)
+overflow_add-days c = let o = ordered c.args.self in omega arith
 
 pub overflow_mul-days-2 : goal.overflow_mul-days-2
-overflow_mul-days-2 c = let o = ordered c.args.self in omega (arith, o.first_week, o.weeks_few)
+overflow_mul-days-2 c = let o = ordered c.args.self in omega arith
 
 pub overflow_add-days-2 : goal.overflow_add-days-2
-overflow_add-days-2 c = let o = ordered c.args.self in omega (arith, o.first_week, o.weeks_few, o.first_day)
+overflow_add-days-2 c = let o = ordered c.args.self in omega arith
 
 pub overflow_sub-days : goal.overflow_sub-days
 overflow_sub-days c =
