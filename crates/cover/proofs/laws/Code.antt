@@ -10,20 +10,21 @@ use Rattle.base.specs.laws.ChoiceLaws.{choose_eq, choose_ne, by_eq}
 use Rattle.base.specs.laws.TestLaws.{both_false}
 use Rattle.tree.specs.rules.Tree.{holder, level, left, size, units, first}
 use Rattle.tree.proofs.laws.Climb.{first_pos}
-use Rattle.tree.proofs.laws.Range.{holder_level}
+use Rattle.tree.proofs.laws.Range.{holder_level, right_in}
 use Rattle.tree.proofs.laws.Closed.{four, first_up, holder_is, left_edge_is, node_small}
 use Rattle.tree.proofs.laws.Code.{four_small, shifted}
+use Rattle.cover.specs.declared.window.Piece.{Piece}
 use Rattle.cover.specs.rules.Cover.{over, total}
 use Rattle.cover.specs.rules.Search.{least_cover}
 use Rattle.cover.specs.rules.Answer.{levels_outside, window_outside, refused, accepted, answer}
 use Rattle.cover.specs.laws.Rise.{rise}
-use Rattle.cover.proofs.laws.Over.{over_leaf, over_inner, over_part, part_all, part_ends, part_starts, units_small}
+use Rattle.cover.proofs.laws.Over.{over_le, over_leaf, over_inner, over_part, part_all, part_ends, part_starts, units_small}
 use Rattle.cover.specs.laws.Lowest.{lowest, Window}
 use Rattle.cover.proofs.laws.Lowest.{rise_le, low_level, low_has}
 use Rattle.cover.specs.laws.Split.{edge_child, cut}
 use Rattle.cover.proofs.laws.Split.{halves, same_leaf}
 use Rattle.cover.proofs.laws.Two.{split_one, split_two, split_least}
-use Rattle.cover.specs.laws.Code.{lowest_piece, cut_unit, not_cover}
+use Rattle.cover.specs.laws.Code.{lowest_piece, one, pair, cut_unit, not_cover}
 
 -- ---- the lowest node
 
@@ -86,6 +87,26 @@ module _ {h l r k : ℕ} (w : Window h l r) (ek : k ≡ rise l (r - 1)) where
 
 -- ---- one piece or two
 
+-- the answers from the code's pieces
+pub one_is : (h l r : ℕ) (p : Piece) → p ≡ lowest_piece h l r → record { number = 0; first = p.node; second = 0; over = p.over } ≡ one h l r
+unfolding lowest_piece one
+one_is h l r p e = λ i. record { number = 0; first = (e i).node; second = 0; over = (e i).over }
+
+pub pair_is : (h l t r : ℕ) (p q : Piece) → p ≡ lowest_piece h l t → q ≡ lowest_piece h t r
+    → record { number = 0; first = p.node; second = q.node; over = p.over + q.over } ≡ pair h l t r
+unfolding lowest_piece pair
+pair_is h l t r p q e f = λ i. record { number = 0; first = (e i).node; second = (f i).node; over = (e i).over + (f i).over }
+
+pub over_small : (h l r : ℕ) (p : Piece) → Window h l r → p ≡ lowest_piece h l r → p.over ≤ 268435456
+unfolding lowest_piece
+over_small h l r p w e =
+    let v = low_has h l r w in
+    let o : p.over ≡ over h l r (lowest h l r) = ap (λ q. q.over) e in
+    omega (arith, over_le h l r (lowest h l r), right_in h (lowest h l r) v.node w.levels, units_small h w.most)
+
+pub sum_small : (h l t r : ℕ) (p q : Piece) → Window h l t × Window h t r → p ≡ lowest_piece h l t → q ≡ lowest_piece h t r → p.over + q.over < 2 ^ 64
+sum_small h l t r p q w e f = omega (arith, over_small h l t p w.0 e, over_small h t r q w.1 f)
+
 module _ (h l r : ℕ) where
   cut_yes : edge_child h l r (r - 1) ≡ suc (edge_child h l r l) → cut_unit h l r ≡ cut h l r
   unfolding cut_unit
@@ -95,15 +116,12 @@ module _ (h l r : ℕ) where
   unfolding cut_unit
   cut_no d = choose_ne (edge_child h l r (r - 1)) (suc (edge_child h l r l)) _ _ d
 
-module _ {h l r : ℕ} (w : Window h l r) where
-  abbrev t : ℕ
-  t = cut_unit h l r
-
+module _ {h l r t : ℕ} (w : Window h l r) (et : t ≡ cut_unit h l r) where
   whole : t ≡ 0 → edge_child h l r (r - 1) ≡ suc (edge_child h l r l) → ⊥
   whole z e = omega (arith, cut_yes h l r e, (halves h l r w e).after)
 
   halved : (t ≡ 0 → ⊥) → (edge_child h l r (r - 1) ≡ suc (edge_child h l r l)) × (t ≡ cut h l r)
-  halved z = by_eq (edge_child h l r (r - 1)) (suc (edge_child h l r l)) (λ e. (e, cut_yes h l r e)) (λ d. absurd (z (cut_no h l r d)))
+  halved z = by_eq (edge_child h l r (r - 1)) (suc (edge_child h l r l)) (λ e. (e, et ∙ cut_yes h l r e)) (λ d. absurd (z (et ∙ cut_no h l r d)))
 
   pub one_least : t ≡ 0 → lowest h l r ∷ [] ≡ least_cover 2 h l r
   one_least z = sym (split_least h l r w ∙ split_one h l r w (whole z))
@@ -111,21 +129,15 @@ module _ {h l r : ℕ} (w : Window h l r) where
   pub two_least : (t ≡ 0 → ⊥) → lowest h l t ∷ lowest h t r ∷ [] ≡ least_cover 2 h l r
   two_least z = let c = halved z in ap (λ (u : ℕ). lowest h l u ∷ lowest h u r ∷ []) c.1 ∙ sym (split_least h l r w ∙ split_two h l r w c.0)
 
-  pub halves_fit : (t ≡ 0 → ⊥) → Window h l t × Window h t r
-  halves_fit z =
-      let c = halved z in
-      let s = halves h l r w c.0 in (
-        record { levels = w.levels; most = w.most; some = omega (arith, s.after, c.1); fits = omega (arith, s.before, c.1, w.fits) },
-        record { levels = w.levels; most = w.most; some = omega (arith, s.before, c.1); fits = w.fits },
-      )
+  pub one_code : t ≡ 0 → one h l r ≡ accepted h l r (least_cover 2 h l r)
+  unfolding one accepted total
+  one_code z =
+      let o : over h l r (lowest h l r) ≡ over h l r (lowest h l r) + 0 = omega arith in
+      (λ i. record { number = 0; first = lowest h l r; second = 0; over = o i }) ∙ ap (accepted h l r) (one_least z)
 
-  pub whole_over : t ≡ 0 → over h l r (lowest h l r) ≡ total h l r (least_cover 2 h l r)
-  unfolding total
-  whole_over z = let o : over h l r (lowest h l r) ≡ over h l r (lowest h l r) + 0 = omega arith in o ∙ ap (total h l r) (one_least z)
-
-  pub parts_over : (t ≡ 0 → ⊥) → over h l t (lowest h l t) + over h t r (lowest h t r) ≡ total h l r (least_cover 2 h l r)
-  unfolding total
-  parts_over z =
+  pub pair_code : (t ≡ 0 → ⊥) → pair h l t r ≡ accepted h l r (least_cover 2 h l r)
+  unfolding pair accepted total
+  pair_code z =
       let s = halves h l r w (halved z).0 in
       let c = cut h l r in
       let p = lowest h l c in
@@ -135,12 +147,25 @@ module _ {h l r : ℕ} (w : Window h l r) where
       let oq : over h c r q ≡ over h l r q =
       over_part h c r l r q (part_all h c r q s.has_q.low s.has_q.high ∙ sym (part_starts h l r q c s.start_q (omega (arith, s.after)) s.has_q.high)) in
       let o : over h l c p + over h c r q ≡ over h l r p + (over h l r q + 0) = omega arith in
-      ap (λ (u : ℕ). over h l u (lowest h l u) + over h u r (lowest h u r)) (halved z).1 ∙ o
-      ∙ ap (total h l r) (sym (split_least h l r w ∙ split_two h l r w (halved z).0))
+      ap (λ (u : ℕ). pair h l u r) (halved z).1 ∙ (λ i. record { number = 0; first = p; second = q; over = o i })
+      ∙ ap (accepted h l r) (sym (split_least h l r w ∙ split_two h l r w (halved z).0))
+
+  pub halves_fit : (t ≡ 0 → ⊥) → Window h l t × Window h t r
+  halves_fit z =
+      let c = halved z in
+      let s = halves h l r w c.0 in (
+        record { levels = w.levels; most = w.most; some = omega (arith, s.after, c.1); fits = omega (arith, s.before, c.1, w.fits) },
+        record { levels = w.levels; most = w.most; some = omega (arith, s.before, c.1); fits = w.fits },
+      )
 
   pub other_one : (first second : ℕ) {n : ℕ} → t ≡ 0 → n ≡ lowest h l r → (not (eqb first n) || not (eqb second 0)) ≡ not_cover false (least_cover 2 h l r) first second
   other_one first second z e =
       ap (λ (n : ℕ). not (eqb first n) || not (eqb second 0)) e ∙ ap (λ (c : List ℕ). not_cover false c first second) (one_least z)
+
+  pub other_two : (first second : ℕ) {n m : ℕ} → (t ≡ 0 → ⊥) → n ≡ lowest h l t → m ≡ lowest h t r
+      → (not (eqb first n) || not (eqb second m)) ≡ not_cover false (least_cover 2 h l r) first second
+  other_two first second z e f =
+      (λ i. not (eqb first (e i)) || not (eqb second (f i))) ∙ ap (λ (c : List ℕ). not_cover false c first second) (two_least z)
 
 module _ {h l r k : ℕ} (w : Window h l r) (ek : k ≡ rise l (r - 1)) where
   pub cut_leaf : k ≡ 0 → 0 ≡ cut_unit h l r

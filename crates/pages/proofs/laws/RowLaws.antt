@@ -1,15 +1,16 @@
 -- Laws of the rows: what the row of a readable record is, and that each record is readable where none is unreadable. Assumes nothing.
-use Rattle.std.specs.Prelude.{◌≡◌, false, List, [], ◌∷◌, ℕ, zero, suc, ◌<◌, length, get_or}
+use Rattle.std.specs.Prelude.{◌≡◌, Ok, false, List, [], ◌∷◌, ℕ, zero, suc, ◌<◌, length, get_or}
 use Rattle.std.proofs.Math.Path.{sym, ap, ap₂, subst}
 use Rattle.std.proofs.Common.{◌∙◌, not-suc-le-zero, le_of_suc-le-suc}
 use Rattle.base.specs.laws.TestLaws.{both_false}
 use Rattle.base.specs.laws.ChoiceLaws.{choose_eq, choose_ne}
 use Rattle.tree.specs.rules.Tree.{Node}
+use Rattle.cover.specs.declared.Answer.{Answer}
 use Rattle.cover.specs.declared.Pieces.{Pieces}
 use Rattle.cover.specs.laws.Lowest.{Window}
 use Rattle.cover.specs.rules.Cover.{total}
-use Rattle.cover.specs.rules.Answer.{window_outside, pieces_of}
-use Rattle.cover.proofs.laws.Code.{window_right}
+use Rattle.cover.specs.rules.Answer.{window_outside, accepted, answer, pieces_of, answer_of}
+use Rattle.cover.proofs.laws.Code.{window_covered, levels_right, window_right}
 use Rattle.lock.specs.declared.Client.{Client}
 use Rattle.lock.specs.declared.Record.{Record}
 use Rattle.lock.specs.declared.Settings.{Settings}
@@ -37,20 +38,32 @@ module _ (s : Settings) (r : Record) (last : ℕ) (v : Settled s) (u : unreadabl
   pub its_window : Window h r.left r.right
   its_window = (active s r last v u d).window
 
-  -- the pieces of its window
-  module _ (a : Pieces) (e : a ≡ pieces_of h r.left r.right (cover_of s r.left r.right)) where
+  -- the pieces of its window, as the answer that C is told
+  pub told : (p : Pieces) → p ≡ pieces_of h r.left r.right (cover_of s r.left r.right) → answer_of (Ok p) ≡ answer h r.left r.right
+  unfolding accepted
+  told p e =
+      ap (λ (x : Pieces). answer_of (Ok x)) e
+      ∙ window_covered h r.left r.right (levels_right h r.left r.right v.levels_some v.levels_most) (window_right h r.left r.right its_window)
+
+  -- the answer of its window's cover
+  module _ (a : Answer) (e : a ≡ answer h r.left r.right) where
     within : window_outside h r.left r.right ≡ false
-    within = window_right h r.left r.right its_window
+    within = window_right h r.left r.right (active s r last v u d).window
 
-    -- they are nodes, and their steps are the window's
-    pub pieces_stepped : Node h a.first × ((a.second ≡ 0 → ⊥) → Node h a.second) × (pieces_steps h s.distance a.first a.second ≡ step_count h s.distance r.left r.right)
-    pieces_stepped =
-        subst (λ (x : Pieces). Node h x.first × ((x.second ≡ 0 → ⊥) → Node h x.second) × (pieces_steps h s.distance x.first x.second ≡ step_count h s.distance r.left r.right))
-        (sym e) (window_steps h s.distance r.left r.right (shape_right s v) within)
+    covered : a ≡ accepted h r.left r.right (cover_of s r.left r.right)
+    covered = e ∙ sym (window_covered h r.left r.right (levels_right h r.left r.right v.levels_some v.levels_most) within)
 
-    -- their over-cover is that of the record's pieces, since these are its cover
+    -- its pieces are nodes, and their steps are the window's
+    pub answer_steps : Node h a.first × ((a.second ≡ 0 → ⊥) → Node h a.second) × (pieces_steps h s.distance a.first a.second ≡ step_count h s.distance r.left r.right)
+    unfolding accepted
+    answer_steps =
+        subst (λ (x : Answer). Node h x.first × ((x.second ≡ 0 → ⊥) → Node h x.second) × (pieces_steps h s.distance x.first x.second ≡ step_count h s.distance r.left r.right))
+        (sym covered) (window_steps h s.distance r.left r.right (shape_right s v) within)
+
+    -- its over-cover is that of the record's pieces, since these are its cover
     over_is : a.over ≡ total h r.left r.right (pieces r)
-    over_is = ap (λ (x : Pieces). x.over) e ∙ ap (total h r.left r.right) (sym (active s r last v u d).cover)
+    unfolding accepted
+    over_is = ap (λ (x : Answer). x.over) covered ∙ ap (total h r.left r.right) (sym (active s r last v u d).cover)
 
     -- its row, with this over-cover and so many steps
     abbrev row_with : (over steps : ℕ) → Row
@@ -58,7 +71,7 @@ module _ (s : Settings) (r : Record) (last : ℕ) (v : Settled s) (u : unreadabl
 
     pub row_active : (k : ℕ) → k ≡ pieces_steps h s.distance a.first a.second → row_with a.over k ≡ row_of s r
     unfolding row_of
-    row_active k f = ap₂ row_with over_is (f ∙ pieces_stepped.2) ∙ sym (choose_ne r.phase 0 _ _ d)
+    row_active k f = ap₂ row_with over_is (f ∙ answer_steps.2) ∙ sym (choose_ne r.phase 0 _ _ d)
 
 -- ---- none of the clients' records is unreadable
 

@@ -1,12 +1,13 @@
 -- Laws: what the shifts of the code compute. Assumes nothing.
 use Rattle.std.specs.Prelude.{◌≡◌, refl, Bool, T, eqb, length, get_or}
 use Rattle.std.proofs.Math.Path.{sym, ap}
-use Rattle.std.proofs.Common.{◌∙◌, mod-eq_of_lt, div-le_self, eqb→eq}
+use Rattle.std.proofs.Common.{◌∙◌, mod-eq_of_lt, mul-le-mul, div-le_self, eqb→eq}
 use Prim.Native.Nat.{ℕ, suc, ◌+◌, ◌-◌, ◌*◌, ◌/◌, ◌%◌, ◌^◌, ◌≤◌, ◌<◌, max, min}
 use native.Mathlib.Omega.{arith}
 use Rattle.std.proofs.Math.Nat.{pow-le-pow_right}
+use Rattle.std.specs.Int.Count.{count_leading_zeros}
 use Rattle.std.proofs.lemmas.Grind.{pow_more}
-use Rattle.std.proofs.lemmas.Nat.{shr_le}
+use Rattle.std.proofs.lemmas.Nat.{leading_top, shr_le}
 use Rattle.base.specs.rules.Choice.{choose}
 use Rattle.base.specs.laws.Every.{every, every_at}
 use Rattle.base.specs.laws.ChoiceLaws.{choose_le, choose_gt, by_lt}
@@ -28,9 +29,6 @@ four_small k b = pow-le-pow_right {n = 4} (omega arith) {i = k} {j = 12} b
 pub shifted : (x k : ℕ) → x * 4 ^ k < 2 ^ 64 → (x * 2 ^ (2 * k)) % 2 ^ 64 ≡ x * 4 ^ k
 shifted x k b = ap (λ (p : ℕ). (x * p) % 2 ^ 64) (four k) ∙ mod-eq_of_lt b
 
-first_step : (k : ℕ) → k + 1 ≡ suc k
-first_step k = omega arith
-
 pub first_code : (d : ℕ) → 1 ≤ d → d ≤ 13 → (1 * 2 ^ (2 * (d - 1))) % 2 ^ 64 / 3 + 1 ≡ first d
 first_code d a b =
     ap (λ (x : ℕ). x / 3 + 1) (shifted 1 (d - 1) (omega (arith, four_small (d - 1) (omega arith)))) ∙ omega (arith, first_is d a)
@@ -51,8 +49,15 @@ left_code k n f e h b =
     ap (λ (x : ℕ). ((n - 1) * 2 ^ (2 * k)) % 2 ^ 64 + x) (e ∙ ap first s)
     ∙ ap (λ (x : ℕ). x + first (suc k)) (shifted (n - 1) k (omega (arith, left_small k n h b))) ∙ sym i
 
-pub level_code : (n j : ℕ) → 1 ≤ n → 2 ^ j ≤ 3 * n - 2 → 3 * n - 2 < 2 * 2 ^ j → j / 2 + 1 ≡ level n
-level_code n j a lo hi = omega (arith, level_is_log n j a lo (omega (arith, pow_more 2 j)))
+pub level_code : (n : ℕ) → Node 12 n → (count_leading_zeros 64 (3 * n - 2) ≤ 64) × ((65 - count_leading_zeros 64 (3 * n - 2)) / 2 ≡ level n)
+level_code n v =
+    let t = leading_top 64 (3 * n - 2) (omega (arith, v.some)) (omega (arith, node_small n v)) in
+    let l = level_is_log n t.0 v.some t.2 t.3 in
+    (omega (arith, t.1), omega (arith, t.1))
+
+-- the level by the place j of that bit
+pub level_bit : (n j : ℕ) → 1 ≤ n → 2 ^ j ≤ 3 * n - 2 → 3 * n - 2 < 2 * 2 ^ j → j / 2 + 1 ≡ level n
+level_bit n j a lo hi = omega (arith, level_is_log n j a lo (omega (arith, pow_more 2 j)))
 
 pub size_code : (h n d : ℕ) → h ≤ 12 → Node h n → d ≡ level n → (64 * 2 ^ (2 * (h - d))) % 2 ^ 64 ≡ size h n
 unfolding size
@@ -125,9 +130,16 @@ pub steps_near : (m d i : ℕ) → 1 ≤ d → d ≤ m → 1 ≡ d - notify_leve
 unfolding notify_level
 steps_near m d i a b = omega (arith, choose_le d m (d - 1) (max m (d - 1 - i * m)) b)
 
-pub steps_far : (m d i : ℕ) → m < d → min (i * m + 1) (d - m) ≡ d - notify_level m d i
+pub steps_far : (m d i : ℕ) → m < d → d - max m (d - 1 - i * m) ≡ d - notify_level m d i
 unfolding notify_level
-steps_far m d i b = omega (arith, choose_gt d m (d - 1) (max m (d - 1 - i * m)) b)
+steps_far m d i b = ap (λ (x : ℕ). d - x) (sym (choose_gt d m (d - 1) _ b))
+
+pub place_small : (i m : ℕ) → i < 12 → m ≤ 4 → i * m ≤ 44
+place_small i m a b = mul-le-mul {n₁ = i} {m₁ = m} {n₂ = 11} {m₂ = 4} (omega arith) b
+
+-- the steps to the ancestor at place i, or to level m where that is nearer
+pub steps_least : (m d i : ℕ) → m < d → min (i * m + 1) (d - m) ≡ d - notify_level m d i
+steps_least m d i b = omega (arith, steps_far m d i b)
 
 -- the steps lead to an ancestor, the one at place i
 pub steps_code : {m n i d s : ℕ} → (1 ≤ m) × (m ≤ 4) × Node 12 n × (i < length (notify_list m n)) → d ≡ level n → s ≡ d - notify_level m d i
@@ -142,9 +154,17 @@ steps_code {m} {n} {i} {d} v e f =
 
 -- ---- the check list
 
+pub check_count_m : (h m n : ℕ) → m < h - level n → first (m + 1) - 1 ≡ length (check_list h m n)
+unfolding check_count
+check_count_m h m n b = let e : m + 1 ≡ suc (min m (h - level n)) = omega arith in ap (λ (k : ℕ). first k - 1) e ∙ sym (check_count_lem h m n)
+
+pub check_count_h : (h m n : ℕ) → h - level n ≤ m → first (h - level n + 1) - 1 ≡ length (check_list h m n)
+unfolding check_count
+check_count_h h m n b = let e : h - level n + 1 ≡ suc (min m (h - level n)) = omega arith in ap (λ (k : ℕ). first k - 1) e ∙ sym (check_count_lem h m n)
+
 pub check_count_code : (h m n : ℕ) → first (min m (h - level n) + 1) - 1 ≡ length (check_list h m n)
 unfolding check_count
-check_count_code h m n = ap (λ (k : ℕ). first k - 1) (first_step (min m (h - level n))) ∙ sym (check_count_lem h m n)
+check_count_code h m n = let e : min m (h - level n) + 1 ≡ suc (min m (h - level n)) = omega arith in ap (λ (k : ℕ). first k - 1) e ∙ sym (check_count_lem h m n)
 
 module _ {h m n i : ℕ} (v : (h ≤ 12) × (1 ≤ m) × Node h n × (i < length (check_list h m n))) where
   counted_place : i < check_count h m n
@@ -180,4 +200,4 @@ module _ {h m n i : ℕ} (v : (h ≤ 12) × (1 ≤ m) × Node h n × (i < length
         ∙ sym (check_place_lem h m n i counted_place)
 
 -- what the check tries at each goal of the code
-pub ruleset shifts = (node_small, first_pos, level_pos, left_small, shr_le, climb_from, ancestors_count, first_code, last_code, ancestor_code, ancestor_at_code, size_code, climb_code, left_code, level_code, left_edge_code, leaves_from, count_small, bounded, steps_near, steps_far, check_count_code)
+pub ruleset shifts = (node_small, first_pos, level_pos, left_small, shr_le, climb_from, ancestors_count, first_code, last_code, ancestor_code, ancestor_at_code, size_code, climb_code, left_code, level_bit, left_edge_code, leaves_from, count_small, bounded, steps_near, steps_least, check_count_code)

@@ -1,5 +1,5 @@
 -- `pages::rows::row_of` meets its contract. Assumes nothing.
-use Rattle.pages.proofs.laws.RowLaws.{row_idle, its_window, pieces_stepped, row_active}
+use Rattle.pages.proofs.laws.RowLaws.{row_idle, its_window, told, answer_steps, row_active}
 use borrow.Author.Rules.{rules}
 use Rattle.pages.proofs.rows.row_of.Goals as goal
 
@@ -18,11 +18,13 @@ pub pieces_steps-requires : goal.pieces_steps-requires
 pieces_steps-requires c =
     let a = c.args in
     let readable = c.requires in
-    let pieces = pieces_stepped a.settings a.one a.last readable.0 readable.1 c.if-one-eq0.false _ c.window_pieces-pieces.ensures in
+    let is = told a.settings a.one a.last readable.0 readable.1 c.if-one-eq0.false _ c.window_pieces-pieces.ensures in
+    let pieces = answer_steps a.settings a.one a.last readable.0 readable.1 c.if-one-eq0.false _ is in
     search (rules, readable.0, pieces.0, pieces.1)
 
 pub returns : goal.returns
 returns c =
     let a = c.args in
     let readable = c.requires in
-    row_active a.settings a.one a.last readable.0 readable.1 c.if-one-eq0.false _ c.window_pieces-pieces.ensures _ c.pieces_steps.ensures
+    let is = told a.settings a.one a.last readable.0 readable.1 c.if-one-eq0.false _ c.window_pieces-pieces.ensures in
+    row_active a.settings a.one a.last readable.0 readable.1 c.if-one-eq0.false _ is _ c.pieces_steps.ensures
