@@ -2,8 +2,8 @@
 use Rattle.std.specs.Prelude.{◌≡◌, true, false, List, ℕ, ◌<◌}
 use Rattle.std.proofs.Common.{sym, ap, ◌∙◌, arith}
 use Rattle.base.specs.declared.Refusal.{Refusal}
-use Rattle.base.specs.declared.Refusal.TheVariants.{Settings, WordCount, Clients, Client, Clock, Unreadable, Window, Phase, ClearBit, File, TooLarge, Calendar as calendar, Order, Closed}
 use Rattle.base.specs.rules.Choice.{choose}
+use Rattle.base.specs.laws.RefusalLaws.{some_number}
 use Rattle.base.specs.rules.Refusals.{number_of}
 use Rattle.base.specs.laws.TestLaws.{by_test}
 use Rattle.cover.specs.rules.Answer.{levels_outside}
@@ -14,23 +14,6 @@ use Rattle.calendar.specs.rules.Back.{quarter_refused, quarter_answer}
 use Rattle.calendar.specs.rules.Windows.{calendar_wrong, out_of_order, window_refused, window_answer}
 use Rattle.calendar.specs.laws.Told.{figures_cause, order_cause}
 use Rattle.calendar.proofs.laws.Code.{wrong_figures, window_1, window_12, window_13, quarter_1, quarter_12}
-
--- no cause has the number 0
-pub some_number : (cause : Refusal) → 0 < number_of cause
-some_number Settings = omega arith
-some_number WordCount = omega arith
-some_number Clients = omega arith
-some_number Client = omega arith
-some_number Clock = omega arith
-some_number Unreadable = omega arith
-some_number Window = omega arith
-some_number Phase = omega arith
-some_number ClearBit = omega arith
-some_number File = omega arith
-some_number TooLarge = omega arith
-some_number calendar = omega arith
-some_number Order = omega arith
-some_number Closed = omega arith
 
 module _ (c : Calendar) where
   pub figures_1 : levels_outside c.levels ≡ true → 1 ≡ figures_cause c

@@ -3,8 +3,8 @@ use Rattle.std.specs.Prelude.{◌≡◌, Ok, Bool, true, false, not, ◌||◌, L
 use Rattle.std.proofs.Common.{sym, ap, ◌∙◌}
 use native.Mathlib.Omega.{arith}
 use Rattle.base.specs.declared.Refusal.{Refusal}
-use Rattle.base.specs.declared.Refusal.TheVariants.{Settings, WordCount, Clients, Client, Clock, Unreadable, Window, Phase, ClearBit, File, TooLarge, Calendar, Order, Closed}
 use Rattle.base.specs.rules.Choice.{choose}
+use Rattle.base.specs.laws.RefusalLaws.{some_number}
 use Rattle.base.specs.rules.Refusals.{number_of}
 use Rattle.base.specs.laws.TestLaws.{by_test}
 use Rattle.cover.specs.declared.Answer.{Answer}
@@ -121,23 +121,6 @@ module _ (w p q : TreeWindow) (s : Parts w p q) where
     other_parts first second = other_two w.within refl first second is_cut (e ∙ node_p) (f ∙ node_q)
 
 -- ---- the call's tests
-
--- no cause has the number 0
-some_number : (cause : Refusal) → 0 < number_of cause
-some_number Settings = omega arith
-some_number WordCount = omega arith
-some_number Clients = omega arith
-some_number Client = omega arith
-some_number Clock = omega arith
-some_number Unreadable = omega arith
-some_number Window = omega arith
-some_number Phase = omega arith
-some_number ClearBit = omega arith
-some_number File = omega arith
-some_number TooLarge = omega arith
-some_number Calendar = omega arith
-some_number Order = omega arith
-some_number Closed = omega arith
 
 module _ (h l r : ℕ) where
   abbrev cause_of : Bool → Bool → ℕ
