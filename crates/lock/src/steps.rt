@@ -5,11 +5,10 @@ ghost use Rattle.tree.specs.rules.Lists.{notify_list, check_list};
 ghost use Rattle.lock.specs.rules.Records.{pieces, current_piece, with_t1};
 ghost use Rattle.lock.specs.rules.Steps.{start_phase, begin, taken, ticket_taken, turn_awaited, go_up, climbed, unblocked, bits_claimed, occ_claimed, all_notified, notice_given, waited, check_passed};
 ghost use Rattle.tree.specs.rules.Tree.{Node};
-ghost use Rattle.lock.specs.laws.Active.{Settled};
 ghost use Rattle.lock.specs.laws.Placed.{Pieced};
 ghost use Rattle.lock.specs.laws.StepLaws.{Read};
 
-use crate::{Record, Settings};
+use crate::{Record, ValidSettings};
 use word::{Dcnt, Dmax, Occ, Tcnt, Tmax};
 
 impl Record {
@@ -131,9 +130,9 @@ impl Record {
     }
 
     // "Beginning a piece zeroes grip, ticket, notices, t1 and t0."
-    fn begin(mut self, settings: Settings, i: u64) -> Record
+    fn begin(mut self, settings: ValidSettings, i: u64) -> Record
         requires { Pieced self × (i < length (pieces self)) }
-        ensures { result ≡ begin settings self i }
+        ensures { result ≡ begin settings.values self i }
     {
         let phase = settings.start_phase(self.piece_at(i));
         self.phase = phase;
@@ -148,9 +147,9 @@ impl Record {
     }
 
     // "A taken piece starts the next the same way, or gives 9."
-    fn taken(self, settings: Settings, clock: u64) -> Record
+    fn taken(self, settings: ValidSettings, clock: u64) -> Record
         requires { Pieced self }
-        ensures { result ≡ taken settings self clock }
+        ensures { result ≡ taken settings.values self clock }
     {
         let mut noted = self.first_noted(clock);
         let next = self.current + 1;
@@ -163,9 +162,9 @@ impl Record {
     }
 
     // 6 notify, "After the last"
-    fn all_notified(mut self, settings: Settings, clock: u64) -> Record
-        requires { Settled settings × Pieced self × (self.t1 ≤ clock) }
-        ensures { result ≡ all_notified settings self clock }
+    fn all_notified(mut self, settings: ValidSettings, clock: u64) -> Record
+        requires { Pieced self × (self.t1 ≤ clock) }
+        ensures { result ≡ all_notified settings.values self clock }
     {
         if self.late(settings, clock) {
             self.outcome = 2;
@@ -182,14 +181,14 @@ impl Record {
     }
 
     // 6 notify
-    pub fn notice_given(mut self, settings: Settings, clock: u64) -> Record
-        requires { Settled settings × Pieced self × (self.place < length (notify_list settings.distance (current_piece self))) × (self.t1 ≤ clock) }
-        ensures { result ≡ notice_given settings self clock }
+    pub fn notice_given(mut self, settings: ValidSettings, clock: u64) -> Record
+        requires { Pieced self × (self.place < length (notify_list settings.values.distance (current_piece self))) × (self.t1 ≤ clock) }
+        ensures { result ≡ notice_given settings.values self clock }
     {
         let given = self.place + 1;
         let n = self.current_piece();
         self.notices = given;
-        if given < tree::notify_count(settings.distance, n) {
+        if given < tree::notify_count(settings.values.distance, n) {
             self.place = given;
             return self;
         }
@@ -197,11 +196,11 @@ impl Record {
     }
 
     // 7 wait
-    pub fn waited(mut self, settings: Settings, clock: u64) -> Record
+    pub fn waited(mut self, settings: ValidSettings, clock: u64) -> Record
         requires { self.t0 ≤ clock }
-        ensures { result ≡ waited settings self clock }
+        ensures { result ≡ waited settings.values self clock }
     {
-        if settings.wait <= clock - self.t0 {
+        if settings.values.wait <= clock - self.t0 {
             self.phase = 8;
             self.place = 0;
             return self;
@@ -210,16 +209,16 @@ impl Record {
     }
 
     // 8 check
-    pub fn check_passed(mut self, settings: Settings, found: u64, clock: u64) -> Record
-        requires { Settled settings × Pieced self × Node settings.levels (current_piece self) × (self.place < length (check_list settings.levels settings.distance (current_piece self))) }
-        ensures { result ≡ check_passed settings self found clock }
+    pub fn check_passed(mut self, settings: ValidSettings, found: u64, clock: u64) -> Record
+        requires { Pieced self × Node settings.values.levels (current_piece self) × (self.place < length (check_list settings.values.levels settings.values.distance (current_piece self))) }
+        ensures { result ≡ check_passed settings.values self found clock }
     {
         if word::get::<Dcnt>(found) != word::get::<Dmax>(found) {
             return self;
         }
         let passed = self.place + 1;
         let n = self.current_piece();
-        if passed < tree::check_count(settings.levels, settings.distance, n) {
+        if passed < tree::check_count(settings.values.levels, settings.values.distance, n) {
             self.place = passed;
             return self;
         }
@@ -227,11 +226,11 @@ impl Record {
     }
 }
 
-impl Settings {
+impl ValidSettings {
     // "phase 1 for an inner first piece and 3 for a leaf"
     pub fn start_phase(self, n: u64) -> u64
         requires { Node 12 n }
-        ensures { result ≡ start_phase self n }
+        ensures { result ≡ start_phase self.values n }
     {
         if self.is_leaf(n) {
             return 3;
