@@ -18,7 +18,7 @@ impl Record {
         requires { Sound settings.values self × (self.t1 ≤ clock) × (self.t0 ≤ clock) × (self.taken ≤ clock) }
         ensures { moved_of self found result ≡ moved settings.values self found clock }
     {
-        if self.out_of_patience(settings, clock) {
+        if self.out_of_patience(settings.values, clock) {
             return Ok(leaves(found, self.sent_back(4)));
         }
         let n = self.own_touched(settings);

@@ -55,7 +55,7 @@ impl Record {
         requires { Window settings.values.levels a b × (first ≡ get_or (cover_of settings.values a b) 0 0) × (second ≡ get_or (cover_of settings.values a b) 1 0) }
         ensures { result ≡ requested settings.values a b }
     {
-        let phase = settings.start_phase(first);
+        let phase = settings.values.start_phase(first);
         Record {
             phase,
             left: a,
@@ -99,7 +99,7 @@ impl Record {
         ensures next { IfOk result (λ next. next ≡ (moved settings.values self (word_at words.old (touched settings.values self clock)) clock).next) }
         ensures words { words.new ≡ left_by settings.values self words.old clock }
     {
-        if self.out_of_patience(settings, clock) {
+        if self.out_of_patience(settings.values, clock) {
             return Ok(self.sent_back(4));
         }
         let n = self.own_touched(settings);

@@ -25,7 +25,7 @@ impl Record {
         ensures { leaves result.word result.next ≡ claim_piece settings.values self found clock }
     {
         let n = self.current_piece();
-        if settings.is_leaf(n) {
+        if settings.values.is_leaf(n) {
             let left = word::take_bits(found, self.wanted(settings, n));
             return leaves(left.unwrap_or(found), self.bits_claimed(left.is_some()));
         }
@@ -93,7 +93,7 @@ impl Record {
                 word::add::<Dmax>(found, 1),
                 self.notice_given(settings, clock),
             ),
-            7 => leaves(found, self.waited(settings, clock)),
+            7 => leaves(found, self.waited(settings.values, clock)),
             8 => leaves(found, self.check_passed(settings, found, clock)),
             10 => self.give_back(settings, found)?,
             _ => leaves(found, self),

@@ -144,7 +144,7 @@ impl Record {
         ensures { access_made result ≡ claim_access settings.values self }
     {
         let n = self.current_piece();
-        if settings.is_leaf(n) {
+        if settings.values.is_leaf(n) {
             let bits = self.wanted(settings, n);
             return Access::of_bits(bits, 0, bits);
         }
@@ -158,7 +158,7 @@ impl Record {
         ensures { access_made result ≡ own_word_access settings.values self }
     {
         let n = self.given_piece();
-        if settings.is_leaf(n) {
+        if settings.values.is_leaf(n) {
             let bits = self.wanted(settings, n);
             return Access::of_bits(bits, bits, 0);
         }
@@ -217,7 +217,7 @@ impl Record {
         requires { Sound settings.values self × (self.taken ≤ clock) }
         ensures { result ≡ operation_at (touched settings.values self clock) (access settings.values self clock) }
     {
-        if self.out_of_patience(settings, clock) {
+        if self.out_of_patience(settings.values, clock) {
             return Operation::at(0, Access::None);
         }
         self.own_operation(settings)

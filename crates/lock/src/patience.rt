@@ -3,7 +3,7 @@ ghost use Rattle.std.specs.Prelude.{◌≡◌, ◌≤◌};
 ghost use Rattle.lock.specs.rules.Steps.{first_noted, out_of_patience};
 ghost use Rattle.lock.specs.rules.Unreadable.{taken_first};
 
-use crate::{Record, ValidSettings};
+use crate::{Record, Settings};
 
 impl Record {
     // "a third noted time, the clock at which its first piece was taken"
@@ -18,14 +18,14 @@ impl Record {
     }
 
     // "A step in phases 1 to 8 of a second piece, with clock less that time at least P"
-    pub fn out_of_patience(self, settings: ValidSettings, clock: u64) -> bool
+    pub fn out_of_patience(self, settings: Settings, clock: u64) -> bool
         requires { self.taken ≤ clock }
-        ensures { result ≡ out_of_patience settings.values self clock }
+        ensures { result ≡ out_of_patience settings self clock }
     {
         (1 <= self.phase)
             & (self.phase <= 8)
             & (0 < self.current)
-            & (settings.values.patience <= clock - self.taken)
+            & (settings.patience <= clock - self.taken)
     }
 
     // "a nonzero time at a first piece, save in 9 or in 10 with outcome 1"

@@ -3,7 +3,7 @@ ghost use Rattle.std.specs.Prelude.{◌≡◌, ◌≤◌, ◌<◌, length, eqb};
 ghost use Rattle.tree.specs.rules.Tree.{Node};
 ghost use Rattle.lock.specs.rules.Records.{pieces, piece_at, is_leaf, grip_of, notices_of};
 
-use crate::{Record, ValidSettings};
+use crate::{Record, Settings};
 
 impl Record {
     pub fn piece_count(self) -> u64
@@ -37,22 +37,22 @@ impl Record {
         0
     }
 
-    pub fn notices_of(self, settings: ValidSettings, i: u64) -> u64
-        requires { (i < length (pieces self)) × Node 12 (piece_at self i) }
-        ensures { result ≡ notices_of settings.values self i }
+    pub fn notices_of(self, settings: Settings, i: u64) -> u64
+        requires { (1 ≤ settings.distance) × (settings.distance ≤ 4) × (i < length (pieces self)) × Node 12 (piece_at self i) }
+        ensures { result ≡ notices_of settings self i }
     {
         if i < self.current {
-            return tree::notify_count(settings.values.distance, self.piece_at(i));
+            return tree::notify_count(settings.distance, self.piece_at(i));
         }
         self.notices
     }
 }
 
-impl ValidSettings {
+impl Settings {
     pub fn is_leaf(self, n: u64) -> bool
         requires { Node 12 n }
-        ensures { result ≡ is_leaf self.values n }
+        ensures { result ≡ is_leaf self n }
     {
-        tree::level(n) == self.values.levels
+        tree::level(n) == self.levels
     }
 }

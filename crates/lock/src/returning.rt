@@ -55,7 +55,7 @@ impl Record {
         requires { Pieced self × (self.giving < length (pieces self)) }
         ensures { result ≡ word_returned settings.values self }
     {
-        if self.place < self.notices_of(settings, self.giving) {
+        if self.place < self.notices_of(settings.values, self.giving) {
             self.place = self.place + 1;
             return self;
         }
@@ -118,7 +118,7 @@ impl Record {
         ensures { moved_of self found result ≡ give_back settings.values self found }
     {
         if self.place == 0 {
-            if settings.is_leaf(self.given_piece()) {
+            if settings.values.is_leaf(self.given_piece()) {
                 return self.return_bits(settings, found);
             }
             return Ok(self.return_inner(settings, found));

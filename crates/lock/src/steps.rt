@@ -8,7 +8,7 @@ ghost use Rattle.tree.specs.rules.Tree.{Node};
 ghost use Rattle.lock.specs.laws.Placed.{Pieced};
 ghost use Rattle.lock.specs.laws.StepLaws.{Read};
 
-use crate::{Record, ValidSettings};
+use crate::{Record, Settings, ValidSettings};
 use word::{Dcnt, Dmax, Occ, Tcnt, Tmax};
 
 impl Record {
@@ -130,9 +130,9 @@ impl Record {
     }
 
     // "Beginning a piece zeroes grip, ticket, notices, t1 and t0."
-    fn begin(mut self, settings: ValidSettings, i: u64) -> Record
+    fn begin(mut self, settings: Settings, i: u64) -> Record
         requires { Pieced self × (i < length (pieces self)) }
-        ensures { result ≡ begin settings.values self i }
+        ensures { result ≡ begin settings self i }
     {
         let phase = settings.start_phase(self.piece_at(i));
         self.phase = phase;
@@ -147,9 +147,9 @@ impl Record {
     }
 
     // "A taken piece starts the next the same way, or gives 9."
-    fn taken(self, settings: ValidSettings, clock: u64) -> Record
+    fn taken(self, settings: Settings, clock: u64) -> Record
         requires { Pieced self }
-        ensures { result ≡ taken settings.values self clock }
+        ensures { result ≡ taken settings self clock }
     {
         let mut noted = self.first_noted(clock);
         let next = self.current + 1;
@@ -172,8 +172,8 @@ impl Record {
             self.place = 0;
             return self;
         }
-        if settings.is_leaf(self.current_piece()) {
-            return self.taken(settings, clock);
+        if settings.values.is_leaf(self.current_piece()) {
+            return self.taken(settings.values, clock);
         }
         self.phase = 7;
         self.place = 0;
@@ -196,11 +196,11 @@ impl Record {
     }
 
     // 7 wait
-    pub fn waited(mut self, settings: ValidSettings, clock: u64) -> Record
+    pub fn waited(mut self, settings: Settings, clock: u64) -> Record
         requires { self.t0 ≤ clock }
-        ensures { result ≡ waited settings.values self clock }
+        ensures { result ≡ waited settings self clock }
     {
-        if settings.values.wait <= clock - self.t0 {
+        if settings.wait <= clock - self.t0 {
             self.phase = 8;
             self.place = 0;
             return self;
@@ -222,15 +222,15 @@ impl Record {
             self.place = passed;
             return self;
         }
-        self.taken(settings, clock)
+        self.taken(settings.values, clock)
     }
 }
 
-impl ValidSettings {
+impl Settings {
     // "phase 1 for an inner first piece and 3 for a leaf"
     pub fn start_phase(self, n: u64) -> u64
         requires { Node 12 n }
-        ensures { result ≡ start_phase self.values n }
+        ensures { result ≡ start_phase self n }
     {
         if self.is_leaf(n) {
             return 3;

@@ -7,4 +7,4 @@ use Rattle.lock.proofs.Record.begin.Goals as goal
 pub returns : goal.returns
 returns c =
     let a = c.args in
-    begin_is a.settings.values a.self a.i c.start_phase-phase.result (c.start_phase-phase.ensures ∙ ap (start_phase a.settings.values) c.piece_at.ensures)
+    begin_is a.settings a.self a.i c.start_phase-phase.result (c.start_phase-phase.ensures ∙ ap (start_phase a.settings) c.piece_at.ensures)

@@ -21,9 +21,9 @@ begin-requires c =
 pub returns-then-next-piece_count : goal.returns-then-next-piece_count
 returns-then-next-piece_count c =
     let a = c.args in
-    c.begin.ensures ∙ ap (λ x. begin a.settings.values x (a.self.current + 1)) c.first_noted-noted.ensures ∙ sym (taken_more a.settings.values a.self a.clock (omega (arith, c.piece_count.ensures, c.if-next-piece_count.true)))
+    c.begin.ensures ∙ ap (λ x. begin a.settings x (a.self.current + 1)) c.first_noted-noted.ensures ∙ sym (taken_more a.settings a.self a.clock (omega (arith, c.piece_count.ensures, c.if-next-piece_count.true)))
 
 pub returns : goal.returns
 returns c =
     let a = c.args in
-    ap (to_phase 9) c.first_noted-noted.ensures ∙ sym (taken_last a.settings.values a.self a.clock (omega (arith, c.piece_count.ensures, c.if-next-piece_count.false)))
+    ap (to_phase 9) c.first_noted-noted.ensures ∙ sym (taken_last a.settings a.self a.clock (omega (arith, c.piece_count.ensures, c.if-next-piece_count.false)))
