@@ -21,6 +21,7 @@ impl Record {
     }
 
     // 1 ticket
+    #[tactic(auto, unfolding(crate::specs::rules::Steps::ticket_taken, base::specs::rules::Choice::choose))]
     pub fn ticket_taken(mut self, found: u64) -> Record
         ensures { result ≡ ticket_taken self found }
     {
@@ -32,6 +33,7 @@ impl Record {
     }
 
     // 2 turn
+    #[tactic(auto, unfolding(crate::specs::rules::Steps::turn_awaited, base::specs::rules::Choice::choose))]
     pub fn turn_awaited(mut self, found: u64) -> Record
         requires { self.current < length (pieces self) }
         ensures { result ≡ turn_awaited self found }
@@ -65,6 +67,7 @@ impl Record {
     }
 
     // "note t1 if it is the parent"
+    #[tactic(auto, unfolding(base::specs::rules::Choice::choose))]
     fn parent_noted(mut self, clock: u64) -> Record
         ensures { result ≡ choose (eqb self.place 0) (with_t1 clock self) self }
     {
@@ -76,6 +79,7 @@ impl Record {
     }
 
     // 3 climb
+    #[tactic(auto, unfolding(crate::specs::rules::Steps::climbed, base::specs::rules::Choice::choose))]
     pub fn climbed(mut self, n: u64, found: u64, clock: u64) -> Record
         requires { Read n self }
         ensures { result ≡ climbed self found clock }
@@ -88,6 +92,7 @@ impl Record {
     }
 
     // 4 blocked
+    #[tactic(auto, unfolding(crate::specs::rules::Steps::unblocked, base::specs::rules::Choice::choose))]
     pub fn unblocked(mut self, found: u64) -> Record
         ensures { result ≡ unblocked self found }
     {
@@ -100,6 +105,7 @@ impl Record {
     }
 
     // 5 claim of a leaf
+    #[tactic(auto, unfolding(crate::specs::rules::Steps::bits_claimed, base::specs::rules::Choice::choose))]
     pub fn bits_claimed(mut self, done: bool) -> Record
         ensures { result ≡ bits_claimed self done }
     {
@@ -114,6 +120,7 @@ impl Record {
     }
 
     // 5 claim of an inner node
+    #[tactic(auto, unfolding(crate::specs::rules::Steps::occ_claimed, base::specs::rules::Choice::choose))]
     pub fn occ_claimed(mut self, clock: u64) -> Record
         requires { self.current < length (pieces self) }
         ensures { result ≡ occ_claimed self clock }
