@@ -38,6 +38,7 @@ impl Record {
     }
 
     // "a piece with grip 0 is passed over", and "The step that gives back the last word makes the record idle"
+    #[tactic(auto, unfolding(crate::specs::rules::Steps::piece_returned, base::specs::rules::Choice::choose))]
     fn piece_returned(mut self) -> Record
         requires { self.giving < length (pieces self) }
         ensures { result ≡ piece_returned self }
@@ -51,6 +52,7 @@ impl Record {
         self
     }
 
+    #[tactic(auto, unfolding(crate::specs::rules::Steps::word_returned, base::specs::rules::Choice::choose))]
     fn word_returned(mut self, settings: ValidSettings) -> Record
         requires { Pieced self × (self.giving < length (pieces self)) }
         ensures { result ≡ word_returned settings.values self }
@@ -63,6 +65,7 @@ impl Record {
     }
 
     // "TCnt equal to the ticket makes the grip 2"
+    #[tactic(auto, unfolding(crate::specs::rules::Steps::turn_returned, base::specs::rules::Choice::choose))]
     fn turn_returned(mut self, found: u64) -> Record
         ensures { result ≡ turn_returned self found }
     {

@@ -20,6 +20,7 @@ impl Record {
     }
 
     // 1 ticket
+    #[tactic(auto, unfolding(crate::specs::rules::Steps::ticket_taken, base::specs::rules::Choice::choose))]
     pub fn ticket_taken(mut self, found: u64) -> Record
         ensures { result ≡ ticket_taken self found }
     {
@@ -31,6 +32,7 @@ impl Record {
     }
 
     // 2 turn
+    #[tactic(auto, unfolding(crate::specs::rules::Steps::turn_awaited, base::specs::rules::Choice::choose))]
     pub fn turn_awaited(mut self, found: u64) -> Record
         requires { self.current < length (pieces self) }
         ensures { result ≡ turn_awaited self found }
@@ -64,6 +66,7 @@ impl Record {
     }
 
     // "note t1 if it is the parent"
+    #[tactic(auto, unfolding(base::specs::rules::Choice::choose))]
     fn parent_noted(mut self, clock: u64) -> Record
         ensures { result ≡ choose (eqb self.place 0) (with_t1 clock self) self }
     {
@@ -75,6 +78,7 @@ impl Record {
     }
 
     // 3 climb
+    #[tactic(auto, unfolding(crate::specs::rules::Steps::climbed, base::specs::rules::Choice::choose))]
     pub fn climbed(mut self, n: u64, found: u64, clock: u64) -> Record
         requires { Read n self }
         ensures { result ≡ climbed self found clock }
@@ -87,6 +91,7 @@ impl Record {
     }
 
     // 4 blocked
+    #[tactic(auto, unfolding(crate::specs::rules::Steps::unblocked, base::specs::rules::Choice::choose))]
     pub fn unblocked(mut self, found: u64) -> Record
         ensures { result ≡ unblocked self found }
     {
@@ -99,6 +104,7 @@ impl Record {
     }
 
     // 5 claim of a leaf
+    #[tactic(auto, unfolding(crate::specs::rules::Steps::bits_claimed, base::specs::rules::Choice::choose))]
     pub fn bits_claimed(mut self, done: bool) -> Record
         ensures { result ≡ bits_claimed self done }
     {
@@ -113,6 +119,7 @@ impl Record {
     }
 
     // 5 claim of an inner node
+    #[tactic(auto, unfolding(crate::specs::rules::Steps::occ_claimed, base::specs::rules::Choice::choose))]
     pub fn occ_claimed(mut self, clock: u64) -> Record
         requires { self.current < length (pieces self) }
         ensures { result ≡ occ_claimed self clock }
