@@ -25,11 +25,7 @@ pub fn planners_cause(
 }
 
 // Causes 1, 3 and 4.
-pub fn run_cause(
-    settings: Settings,
-    clients: usize,
-    client: u64,
-) -> Result<ValidSettings, Refusal>
+pub fn run_cause(settings: Settings, clients: usize, client: u64) -> Result<ValidSettings, Refusal>
     ensures number { number_in result ≡ run_cause settings clients client }
     ensures same { IfOk result (λ valid. valid.values ≡ settings) }
     ensures below { OnOk result (client < clients) }
