@@ -11,10 +11,10 @@ unfolding opening_number
 returns-in_err-tree_tests c =
     let a = c.args in
     let told : number_in c.from_residual.result ≡ number_of c.in_err-tree_tests.field-0.0 = search rules in
-    told ∙ refused_first (tree_tests a.settings a.words) ((clients_outside a.clients, 3) ∷ []) _ c.in_err-tree_tests.ensures
+    told ∙ refused_first (tree_tests a.settings a.words) ((clients_outside a.clients, 3) ∷ []) _ c.in_err-tree_tests.ensures.number
 
 pub returns : goal.returns
 unfolding opening_number tree_tests
 returns c =
     let a = c.args in
-    passed_first (tree_tests a.settings a.words) ((clients_outside a.clients, 3) ∷ []) ((λ e. omega (arith, e)), ((λ e. omega (arith, e)), tt)) c.in_ok-tree_tests.ensures _ c.clients_cause.ensures
+    passed_first (tree_tests a.settings a.words) ((clients_outside a.clients, 3) ∷ []) ((λ e. omega (arith, e)), ((λ e. omega (arith, e)), tt)) c.in_ok-tree_tests.ensures.number _ c.clients_cause.ensures
