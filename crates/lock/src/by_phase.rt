@@ -8,7 +8,7 @@ ghost use Rattle.lock.specs.rules.Unreadable.{differ};
 ghost use Rattle.lock.specs.laws.ReadableLaws.{Begun};
 ghost use Rattle.lock.specs.laws.OwnTests.{own_wrong};
 
-use crate::{Record, Settings};
+use crate::{Record, ValidSettings};
 
 // "in 3..5 0 for a leaf, else 2"
 fn lacks_turn(grip: u64, leaf: bool) -> bool
@@ -26,20 +26,21 @@ fn lacks_returning(grip: u64, leaf: bool) -> bool
 
 impl Record {
     // in 10, past the own word and the notices that the piece gave
-    fn past_notices(self, settings: Settings) -> bool
-        requires { Begun settings self }
-        ensures { result ≡ ltb (notices_of settings self self.giving) self.place }
+    fn past_notices(self, settings: ValidSettings) -> bool
+        requires { Begun settings.values self }
+        ensures { result ≡ ltb (notices_of settings.values self self.giving) self.place }
     {
         if self.giving < self.current {
-            return tree::notify_count(settings.distance, self.piece_at(self.giving)) < self.place;
+            return tree::notify_count(settings.values.distance, self.piece_at(self.giving))
+                < self.place;
         }
         self.notices < self.place
     }
 
     // 10: outcome, place, notices, grip, the piece being given back. `count` is how many notices the current piece gives.
-    fn returning_wrong(self, settings: Settings, count: u64, leaf: bool) -> bool
-        requires { Begun settings self × (self.phase ≡ 10) × (count ≡ length (notify_list settings.distance (current_piece self))) × (leaf ≡ is_leaf settings (current_piece self)) }
-        ensures { result ≡ own_wrong settings self }
+    fn returning_wrong(self, settings: ValidSettings, count: u64, leaf: bool) -> bool
+        requires { Begun settings.values self × (self.phase ≡ 10) × (count ≡ length (notify_list settings.values.distance (current_piece self))) × (leaf ≡ is_leaf settings.values (current_piece self)) }
+        ensures { result ≡ own_wrong settings.values self }
     {
         (4 < self.outcome)
             | self.past_notices(settings)
@@ -51,20 +52,24 @@ impl Record {
     }
 
     // 6 to 10, where a piece that is not being returned has its bits or Occ: "3 in 6..9". The phase stays the number that C lends, and is matched as document 01 has it.
-    fn taken_wrong(self, settings: Settings, node: u64, leaf: bool) -> bool
-        requires { Begun settings self × (6 ≤ self.phase) × (node ≡ current_piece self) × (leaf ≡ is_leaf settings (current_piece self)) }
-        ensures { result ≡ own_wrong settings self }
+    fn taken_wrong(self, settings: ValidSettings, node: u64, leaf: bool) -> bool
+        requires { Begun settings.values self × (6 ≤ self.phase) × (node ≡ current_piece self) × (leaf ≡ is_leaf settings.values (current_piece self)) }
+        ensures { result ≡ own_wrong settings.values self }
     {
         let phase = self.phase;
         let place = self.place;
         let notices = self.notices;
-        let count = tree::notify_count(settings.distance, node);
+        let count = tree::notify_count(settings.values.distance, node);
         let strange = (0 < self.outcome) | (0 < self.giving) | (self.grip != 3);
         match phase {
             6 => strange | (count <= place) | (notices != place),
             7 => strange | (leaf | (0 < place)) | (count < notices),
             8 => {
-                let checked = tree::check_count(settings.levels, settings.distance, node);
+                let checked = tree::check_count(
+                    settings.values.levels,
+                    settings.values.distance,
+                    node,
+                );
                 strange | (leaf | (checked <= place)) | (count < notices)
             }
             9 => {
@@ -77,16 +82,16 @@ impl Record {
     }
 
     // outcome and piece being given back, grip, where the phase may be and its place, notices
-    pub(crate) fn own_wrong(self, settings: Settings) -> bool
-        requires { Begun settings self × (1 ≤ self.phase) }
-        ensures { result ≡ own_wrong settings self }
+    pub(crate) fn own_wrong(self, settings: ValidSettings) -> bool
+        requires { Begun settings.values self × (1 ≤ self.phase) }
+        ensures { result ≡ own_wrong settings.values self }
     {
         let phase = self.phase;
         let place = self.place;
         let grip = self.grip;
         let node = self.piece_at(self.current);
         let level = tree::level(node);
-        let leaf = level == settings.levels;
+        let leaf = level == settings.values.levels;
         let strange = (0 < self.outcome) | (0 < self.giving);
         let noticed = 0 < self.notices;
         match phase {

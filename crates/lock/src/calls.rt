@@ -9,10 +9,9 @@ ghost use Rattle.lock.specs.rules.Steps.{touched, moved};
 ghost use Rattle.lock.specs.rules.Unreadable.{differ, unreadable};
 ghost use Rattle.lock.specs.rules.Calls.{first_cause, tree_tests, requested, released, cancelled, stepped_by};
 ghost use Rattle.lock.specs.rules.ByValue.{call_by, answer_to, words_after};
-ghost use Rattle.lock.specs.laws.Active.{Settled};
 ghost use Rattle.lock.specs.laws.ByKind.{clear_bit, left_by};
 
-use crate::{Call, Client, Kind, Record, Settings};
+use crate::{Call, Client, Kind, Record, Settings, ValidSettings};
 use base::Refusal;
 
 // "Node n is word n - 1 of the lent 64-bit words"; 0 stands for no node.
@@ -38,26 +37,25 @@ fn put_word(words: &mut [u64], n: u64, word: u64)
 
 impl Settings {
     // Causes 1 and 2: settings outside their ranges, or a word count that is not the tree's.
-    pub fn tree_tests(self, count: u64) -> Result<(), Refusal>
-        ensures { number_in result ≡ first_cause (tree_tests self count) }
+    pub fn tree_tests(self, count: u64) -> Result<ValidSettings, Refusal>
+        ensures number { number_in result ≡ first_cause (tree_tests self count) }
+        ensures same { IfOk result (λ valid. valid.values ≡ self) }
     {
-        if self.outside() {
-            return Err(Refusal::Settings);
-        }
+        let valid = self.valid()?;
         if count != tree::last_node(self.levels) {
             return Err(Refusal::WordCount);
         }
-        Ok(())
+        Ok(valid)
     }
 }
 
 impl Record {
     // "A request sets window and pieces, zeroes the rest".
-    fn requested(settings: Settings, a: u64, b: u64, first: u64, second: u64) -> Record
-        requires { Settled settings × Window settings.levels a b × (first ≡ get_or (cover_of settings a b) 0 0) × (second ≡ get_or (cover_of settings a b) 1 0) }
-        ensures { result ≡ requested settings a b }
+    fn requested(settings: ValidSettings, a: u64, b: u64, first: u64, second: u64) -> Record
+        requires { Window settings.values.levels a b × (first ≡ get_or (cover_of settings.values a b) 0 0) × (second ≡ get_or (cover_of settings.values a b) 1 0) }
+        ensures { result ≡ requested settings.values a b }
     {
-        let phase = settings.start_phase(first);
+        let phase = settings.values.start_phase(first);
         Record {
             phase,
             left: a,
@@ -89,13 +87,19 @@ impl Record {
     }
 
     // What is left of a step after 1, 2, 5 and 6: patience, else 9 and the work on the one word.
-    fn step(self, words: &mut [u64], settings: Settings, last: u64, clock: u64) -> Result<Record, Refusal>
-        requires { Settled settings × (length words.old ≡ word_count settings.levels) × (unreadable settings self last ≡ false) × (last ≤ clock) }
-        ensures number { number_in result ≡ clear_bit settings self words.old clock }
-        ensures next { IfOk result (λ next. next ≡ (moved settings self (word_at words.old (touched settings self clock)) clock).next) }
-        ensures words { words.new ≡ left_by settings self words.old clock }
+    fn step(
+        self,
+        words: &mut [u64],
+        settings: ValidSettings,
+        last: u64,
+        clock: u64,
+    ) -> Result<Record, Refusal>
+        requires { (length words.old ≡ word_count settings.values.levels) × (unreadable settings.values self last ≡ false) × (last ≤ clock) }
+        ensures number { number_in result ≡ clear_bit settings.values self words.old clock }
+        ensures next { IfOk result (λ next. next ≡ (moved settings.values self (word_at words.old (touched settings.values self clock)) clock).next) }
+        ensures words { words.new ≡ left_by settings.values self words.old clock }
     {
-        if self.out_of_patience(settings, clock) {
+        if self.out_of_patience(settings.values, clock) {
             return Ok(self.sent_back(4));
         }
         let n = self.own_touched(settings);
@@ -127,18 +131,17 @@ impl Record {
     }
 
     // What is left of a request after 1, 2 and 6: 7, "request with l ≥ r or r > N", and 8.
-    pub fn request(self, settings: Settings, a: u64, b: u64) -> Result<Record, Refusal>
-        requires { Settled settings }
-        ensures number { number_in result ≡ first_cause ((window_outside settings.levels a b, 7) ∷ (differ self.phase 0, 8) ∷ []) }
-        ensures next { IfOk result (λ next. next ≡ requested settings a b) }
+    pub fn request(self, settings: ValidSettings, a: u64, b: u64) -> Result<Record, Refusal>
+        ensures number { number_in result ≡ first_cause ((window_outside settings.values.levels a b, 7) ∷ (differ self.phase 0, 8) ∷ []) }
+        ensures next { IfOk result (λ next. next ≡ requested settings.values a b) }
     {
-        if cover::outside(settings.levels, a, b) {
+        if cover::outside(settings.values.levels, a, b) {
             return Err(Refusal::Window);
         }
         if self.phase != 0 {
             return Err(Refusal::Phase);
         }
-        let pieces = cover::piece_numbers(settings.levels, a, b);
+        let pieces = cover::piece_numbers(settings.values.levels, a, b);
         Ok(Record::requested(settings, a, b, pieces.first, pieces.second))
     }
 }
@@ -162,22 +165,28 @@ impl Client {
     }
 
     // The call of a kind. All begin with 1, 2, 5 (only a step) and 6, tested here for all; what comes after is the kind's own. "An accepted step sets the last clock."
-    pub fn act(self, words: &mut [u64], settings: Settings, call: Call, kind: Kind) -> Result<Client, Refusal>
+    pub fn act(
+        self,
+        words: &mut [u64],
+        settings: Settings,
+        call: Call,
+        kind: Kind,
+    ) -> Result<Client, Refusal>
         ensures answer { stepped_by self result ≡ answer_to settings self words.old (call_by kind call.client call.a call.b) }
         ensures words { words.new ≡ words_after settings self words.old (call_by kind call.client call.a call.b) }
     {
-        settings.tree_tests(words.len() as u64)?;
+        let valid = settings.tree_tests(words.len() as u64)?;
         if (kind == Kind::Step) & (call.a < self.clock) {
             return Err(Refusal::Clock);
         }
-        if self.record.unreadable(settings, self.clock) {
+        if self.record.unreadable(valid, self.clock) {
             return Err(Refusal::Unreadable);
         }
         match kind {
-            Kind::Request => Ok(self.with(self.record.request(settings, call.a, call.b)?)),
+            Kind::Request => Ok(self.with(self.record.request(valid, call.a, call.b)?)),
             Kind::Step => Ok(Client {
                 clock: call.a,
-                record: self.record.step(words, settings, self.clock, call.a)?,
+                record: self.record.step(words, valid, self.clock, call.a)?,
             }),
             Kind::Release => Ok(self.with(self.record.release()?)),
             Kind::Cancel => Ok(self.with(self.record.cancel()?)),

@@ -54,10 +54,7 @@ impl From<Result<u64, Refusal>> for StepCount {
 
     fn from(counted: Result<u64, Refusal>) -> StepCount {
         match counted {
-            Ok(steps) => StepCount {
-                number: 0,
-                steps,
-            },
+            Ok(steps) => StepCount { number: 0, steps },
             Err(refusal) => StepCount {
                 number: refusal.number(),
                 steps: 0,

@@ -3,6 +3,7 @@
 
 ghost use Rattle.std.specs.Prelude.{◌≡◌, ℕ};
 ghost use Rattle.lock.specs.rules.ByValue.{call_of, call_by};
+ghost use Rattle.lock.specs.laws.Active.{Settled};
 
 // "H, m and wait T .. travel beside it", and the patience P: the settings of a tree.
 #[repr(C)]
@@ -12,6 +13,13 @@ pub struct Settings {
     pub distance: u64,
     pub wait: u64,
     pub patience: u64,
+}
+
+// Settings within their ranges: what every function behind the test of cause 1 is given.
+#[derive(Clone, Copy)]
+pub struct ValidSettings {
+    pub values: Settings,
+    ghost settled: { Settled values },
 }
 
 // A client record, its fields in document 01's order: phase, outcome, the window's edges, the numbers of its two pieces (0 for none), the current

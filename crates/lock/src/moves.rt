@@ -3,11 +3,10 @@ ghost use Rattle.std.specs.Prelude.{◌≡◌, ◌≤◌, ◌<◌};
 ghost use Rattle.lock.specs.rules.Steps.{touched_in, own_touched};
 ghost use Rattle.lock.specs.laws.Rows.{leaves, moved_of, own_moved, claim_piece};
 ghost use Rattle.lock.specs.rules.Records.{returning};
-ghost use Rattle.lock.specs.laws.Active.{Settled};
 ghost use Rattle.lock.specs.laws.Placed.{Placed, Sound};
 
 use crate::returning::leaves;
-use crate::{Record, Settings};
+use crate::{Record, ValidSettings};
 use base::Refusal;
 use word::{Dmax, Occ, Tmax};
 
@@ -21,12 +20,12 @@ pub struct Moved {
 impl Record {
     // 5 claim
     #[tactic(auto, unfolding(crate::specs::laws::Rows::claim_piece, base::specs::rules::Choice::choose))]
-    fn claim_piece(self, settings: Settings, found: u64, clock: u64) -> Moved
-        requires { Settled settings × Placed settings self }
-        ensures { leaves result.word result.next ≡ claim_piece settings self found clock }
+    fn claim_piece(self, settings: ValidSettings, found: u64, clock: u64) -> Moved
+        requires { Placed settings.values self }
+        ensures { leaves result.word result.next ≡ claim_piece settings.values self found clock }
     {
         let n = self.current_piece();
-        if settings.is_leaf(n) {
+        if settings.values.is_leaf(n) {
             let left = word::take_bits(found, self.wanted(settings, n));
             return leaves(left.unwrap_or(found), self.bits_claimed(left.is_some()));
         }
@@ -34,22 +33,22 @@ impl Record {
     }
 
     // 10 returning: the own word, or the next notice.
-    fn touched_returning(self, settings: Settings) -> u64
-        requires { Settled settings × Placed settings self × (self.phase ≡ 10) }
-        ensures { result ≡ touched_in settings self returning }
+    fn touched_returning(self, settings: ValidSettings) -> u64
+        requires { Placed settings.values self × (self.phase ≡ 10) }
+        ensures { result ≡ touched_in settings.values self returning }
     {
         let n = self.given_piece();
         if self.place == 0 {
             return n;
         }
-        tree::notify_node(settings.distance, n, self.place - 1)
+        tree::notify_node(settings.values.distance, n, self.place - 1)
     }
 
     // The node that the phase touches, 0 for none. A match on the phase number picks the work, a row of the phase table an arm: document 01 has a step be that.
     #[tactic(auto, unfolding(crate::specs::rules::Steps::touched_in, crate::specs::rules::Records::phase_of, base::specs::rules::Choice::choose), using(crate::proofs::laws::MoveLaws::touched_none))]
-    pub fn own_touched(self, settings: Settings) -> u64
-        requires { Settled settings × Sound settings self }
-        ensures { result ≡ own_touched settings self }
+    pub fn own_touched(self, settings: ValidSettings) -> u64
+        requires { Sound settings.values self }
+        ensures { result ≡ own_touched settings.values self }
     {
         let phase = self.phase;
         let place = self.place;
@@ -59,10 +58,10 @@ impl Record {
             3 => tree::ancestor_at(self.current_piece(), place),
             4 => tree::ancestor_at(self.current_piece(), place),
             5 => self.current_piece(),
-            6 => tree::notify_node(settings.distance, self.current_piece(), place),
+            6 => tree::notify_node(settings.values.distance, self.current_piece(), place),
             8 => tree::check_node(
-                settings.levels,
-                settings.distance,
+                settings.values.levels,
+                settings.values.distance,
                 self.current_piece(),
                 place,
             ),
@@ -75,13 +74,13 @@ impl Record {
     #[tactic(auto, unfolding(crate::specs::laws::Rows::moved_in, crate::specs::rules::Records::phase_of, base::specs::rules::Choice::choose), using(crate::proofs::laws::MoveLaws::moved_none))]
     pub fn own_moved(
         self,
-        settings: Settings,
+        settings: ValidSettings,
         n: u64,
         found: u64,
         clock: u64,
     ) -> Result<Moved, Refusal>
-        requires { Settled settings × Sound settings self × (self.t1 ≤ clock) × (self.t0 ≤ clock) × (n ≡ own_touched settings self) }
-        ensures { moved_of self found result ≡ own_moved settings self found clock }
+        requires { Sound settings.values self × (self.t1 ≤ clock) × (self.t0 ≤ clock) × (n ≡ own_touched settings.values self) }
+        ensures { moved_of self found result ≡ own_moved settings.values self found clock }
     {
         let phase = self.phase;
         Ok(match phase {
@@ -94,7 +93,7 @@ impl Record {
                 word::add::<Dmax>(found, 1),
                 self.notice_given(settings, clock),
             ),
-            7 => leaves(found, self.waited(settings, clock)),
+            7 => leaves(found, self.waited(settings.values, clock)),
             8 => leaves(found, self.check_passed(settings, found, clock)),
             10 => self.give_back(settings, found)?,
             _ => leaves(found, self),

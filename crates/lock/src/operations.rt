@@ -3,11 +3,10 @@ ghost use Rattle.std.specs.Prelude.{◌≡◌, ◌≤◌};
 ghost use Rattle.lock.specs.rules.Records.{phase_of};
 ghost use Rattle.lock.specs.rules.Steps.{swap, applied, claim_access, own_word_access, return_access, access_in, own_touched, touched, access};
 ghost use Rattle.lock.specs.rules.Operations.{operation_at, refused_operation, access_of};
-ghost use Rattle.lock.specs.laws.Active.{Settled};
 ghost use Rattle.lock.specs.laws.Rows.{access_made};
 ghost use Rattle.lock.specs.laws.Placed.{Placed, Sound};
 
-use crate::{Operation, Record, Settings};
+use crate::{Operation, Record, ValidSettings};
 use word::{Dcnt, Dmax, InnerField, OCC_RETURNED, Occ, Tcnt, Tmax};
 
 // A 1 in each field that a row adds to.
@@ -140,12 +139,12 @@ impl Operation {
 impl Record {
     // 5 claim
     #[tactic(auto, unfolding(crate::specs::rules::Steps::claim_access, base::specs::rules::Choice::choose))]
-    fn claim_access(self, settings: Settings) -> Access
-        requires { Settled settings × Placed settings self }
-        ensures { access_made result ≡ claim_access settings self }
+    fn claim_access(self, settings: ValidSettings) -> Access
+        requires { Placed settings.values self }
+        ensures { access_made result ≡ claim_access settings.values self }
     {
         let n = self.current_piece();
-        if settings.is_leaf(n) {
+        if settings.values.is_leaf(n) {
             let bits = self.wanted(settings, n);
             return Access::of_bits(bits, 0, bits);
         }
@@ -154,12 +153,12 @@ impl Record {
 
     // 10 returning, at the own word of the piece that is given back
     #[tactic(auto, unfolding(crate::specs::rules::Steps::own_word_access, base::specs::rules::Choice::choose))]
-    fn own_word_access(self, settings: Settings) -> Access
-        requires { Settled settings × Placed settings self }
-        ensures { access_made result ≡ own_word_access settings self }
+    fn own_word_access(self, settings: ValidSettings) -> Access
+        requires { Placed settings.values self }
+        ensures { access_made result ≡ own_word_access settings.values self }
     {
         let n = self.given_piece();
-        if settings.is_leaf(n) {
+        if settings.values.is_leaf(n) {
             let bits = self.wanted(settings, n);
             return Access::of_bits(bits, bits, 0);
         }
@@ -175,9 +174,9 @@ impl Record {
 
     // 10 returning: the own word, or a notice
     #[tactic(auto, unfolding(crate::specs::rules::Steps::return_access, base::specs::rules::Choice::choose))]
-    fn return_access(self, settings: Settings) -> Access
-        requires { Settled settings × Placed settings self }
-        ensures { access_made result ≡ return_access settings self }
+    fn return_access(self, settings: ValidSettings) -> Access
+        requires { Placed settings.values self }
+        ensures { access_made result ≡ return_access settings.values self }
     {
         if self.place == 0 {
             return self.own_word_access(settings);
@@ -187,9 +186,9 @@ impl Record {
 
     // The access of the record's phase. A match on the phase number picks it, a row of the phase table an arm: document 01 has a step be that.
     #[tactic(auto, unfolding(crate::specs::rules::Steps::access_in, crate::specs::rules::Records::phase_of, base::specs::rules::Choice::choose), using(crate::proofs::laws::OperationLaws::access_none))]
-    fn own_access(self, settings: Settings) -> Access
-        requires { Settled settings × Sound settings self }
-        ensures { access_made result ≡ access_in settings self (phase_of self.phase) }
+    fn own_access(self, settings: ValidSettings) -> Access
+        requires { Sound settings.values self }
+        ensures { access_made result ≡ access_in settings.values self (phase_of self.phase) }
     {
         let phase = self.phase;
         match phase {
@@ -206,19 +205,19 @@ impl Record {
     }
 
     // The operation of the record's phase.
-    pub fn own_operation(self, settings: Settings) -> Operation
-        requires { Settled settings × Sound settings self }
-        ensures { result ≡ operation_at (own_touched settings self) (access_in settings self (phase_of self.phase)) }
+    pub fn own_operation(self, settings: ValidSettings) -> Operation
+        requires { Sound settings.values self }
+        ensures { result ≡ operation_at (own_touched settings.values self) (access_in settings.values self (phase_of self.phase)) }
     {
         Operation::at(self.own_touched(settings), self.own_access(settings))
     }
 
     // None where patience has run out.
-    pub fn operation(self, settings: Settings, clock: u64) -> Operation
-        requires { Settled settings × Sound settings self × (self.taken ≤ clock) }
-        ensures { result ≡ operation_at (touched settings self clock) (access settings self clock) }
+    pub fn operation(self, settings: ValidSettings, clock: u64) -> Operation
+        requires { Sound settings.values self × (self.taken ≤ clock) }
+        ensures { result ≡ operation_at (touched settings.values self clock) (access settings.values self clock) }
     {
-        if self.out_of_patience(settings, clock) {
+        if self.out_of_patience(settings.values, clock) {
             return Operation::at(0, Access::None);
         }
         self.own_operation(settings)

@@ -5,11 +5,10 @@ ghost use Rattle.cover.specs.rules.Cover.{Meets};
 ghost use Rattle.lock.specs.rules.Records.{pieces, given_piece, idle_with};
 ghost use Rattle.lock.specs.rules.Steps.{piece_returned, word_returned, turn_returned, wanted};
 ghost use Rattle.lock.specs.laws.Rows.{leaves, moved_of, return_bits, return_inner, give_back};
-ghost use Rattle.lock.specs.laws.Active.{Settled};
 ghost use Rattle.lock.specs.laws.Placed.{Pieced, Placed};
 
 use crate::moves::Moved;
-use crate::{Record, Settings};
+use crate::{Record, ValidSettings};
 use base::Refusal;
 use word::{Dcnt, Tcnt};
 
@@ -54,11 +53,11 @@ impl Record {
     }
 
     #[tactic(auto, unfolding(crate::specs::rules::Steps::word_returned, base::specs::rules::Choice::choose))]
-    fn word_returned(mut self, settings: Settings) -> Record
-        requires { Settled settings × Pieced self × (self.giving < length (pieces self)) }
-        ensures { result ≡ word_returned settings self }
+    fn word_returned(mut self, settings: ValidSettings) -> Record
+        requires { Pieced self × (self.giving < length (pieces self)) }
+        ensures { result ≡ word_returned settings.values self }
     {
-        if self.place < self.notices_of(settings, self.giving) {
+        if self.place < self.notices_of(settings.values, self.giving) {
             self.place = self.place + 1;
             return self;
         }
@@ -78,18 +77,22 @@ impl Record {
     }
 
     // The wanted bits of a leaf that meets the window.
-    pub fn wanted(self, settings: Settings, n: u64) -> u64
-        requires { Settled settings × Meets settings.levels self.left self.right n × (level n ≡ settings.levels) }
-        ensures { result ≡ wanted settings self n }
+    pub fn wanted(self, settings: ValidSettings, n: u64) -> u64
+        requires { Meets settings.values.levels self.left self.right n × (level n ≡ settings.values.levels) }
+        ensures { result ≡ wanted settings.values self n }
     {
-        word::wanted_bits(tree::left_edge(settings.levels, n), self.left, self.right)
+        word::wanted_bits(
+            tree::left_edge(settings.values.levels, n),
+            self.left,
+            self.right,
+        )
     }
 
     // Leaf bits, from all 1 to all 0; 9, "returning leaf finds a wanted bit clear".
     #[tactic(auto, unfolding(crate::specs::laws::Rows::return_bits, base::specs::rules::Choice::choose))]
-    fn return_bits(self, settings: Settings, found: u64) -> Result<Moved, Refusal>
-        requires { Settled settings × Placed settings self × (self.giving < length (pieces self)) × (level (given_piece self) ≡ settings.levels) }
-        ensures { moved_of self found result ≡ return_bits settings self found }
+    fn return_bits(self, settings: ValidSettings, found: u64) -> Result<Moved, Refusal>
+        requires { Placed settings.values self × (self.giving < length (pieces self)) × (level (given_piece self) ≡ settings.values.levels) }
+        ensures { moved_of self found result ≡ return_bits settings.values self found }
     {
         let bits = self.wanted(settings, self.given_piece());
         let left = word::give_bits(found, bits).ok_or(Refusal::ClearBit)?;
@@ -98,9 +101,9 @@ impl Record {
 
     // Occ and the ticket.
     #[tactic(auto, unfolding(crate::specs::laws::Rows::return_inner, base::specs::rules::Choice::choose))]
-    fn return_inner(self, settings: Settings, found: u64) -> Moved
-        requires { Settled settings × Pieced self × (self.giving < length (pieces self)) }
-        ensures { leaves result.word result.next ≡ return_inner settings self found }
+    fn return_inner(self, settings: ValidSettings, found: u64) -> Moved
+        requires { Pieced self × (self.giving < length (pieces self)) }
+        ensures { leaves result.word result.next ≡ return_inner settings.values self found }
     {
         let grip = self.grip_of(self.giving);
         if grip == 3 {
@@ -113,12 +116,12 @@ impl Record {
     }
 
     #[tactic(auto, unfolding(crate::specs::laws::Rows::give_back, base::specs::rules::Choice::choose))]
-    pub fn give_back(self, settings: Settings, found: u64) -> Result<Moved, Refusal>
-        requires { Settled settings × Placed settings self }
-        ensures { moved_of self found result ≡ give_back settings self found }
+    pub fn give_back(self, settings: ValidSettings, found: u64) -> Result<Moved, Refusal>
+        requires { Placed settings.values self }
+        ensures { moved_of self found result ≡ give_back settings.values self found }
     {
         if self.place == 0 {
-            if settings.is_leaf(self.given_piece()) {
+            if settings.values.is_leaf(self.given_piece()) {
                 return self.return_bits(settings, found);
             }
             return Ok(self.return_inner(settings, found));

@@ -5,11 +5,10 @@ ghost use Rattle.tree.specs.rules.Lists.{notify_list, check_list};
 ghost use Rattle.lock.specs.rules.Records.{pieces, current_piece, with_t1};
 ghost use Rattle.lock.specs.rules.Steps.{start_phase, begin, taken, ticket_taken, turn_awaited, go_up, climbed, unblocked, bits_claimed, occ_claimed, all_notified, notice_given, waited, check_passed};
 ghost use Rattle.tree.specs.rules.Tree.{Node};
-ghost use Rattle.lock.specs.laws.Active.{Settled};
 ghost use Rattle.lock.specs.laws.Placed.{Pieced};
 ghost use Rattle.lock.specs.laws.StepLaws.{Read};
 
-use crate::{Record, Settings};
+use crate::{Record, Settings, ValidSettings};
 use word::{Dcnt, Dmax, Occ, Tcnt, Tmax};
 
 impl Record {
@@ -170,9 +169,9 @@ impl Record {
     }
 
     // 6 notify, "After the last"
-    fn all_notified(mut self, settings: Settings, clock: u64) -> Record
-        requires { Settled settings × Pieced self × (self.t1 ≤ clock) }
-        ensures { result ≡ all_notified settings self clock }
+    fn all_notified(mut self, settings: ValidSettings, clock: u64) -> Record
+        requires { Pieced self × (self.t1 ≤ clock) }
+        ensures { result ≡ all_notified settings.values self clock }
     {
         if self.late(settings, clock) {
             self.outcome = 2;
@@ -180,8 +179,8 @@ impl Record {
             self.place = 0;
             return self;
         }
-        if settings.is_leaf(self.current_piece()) {
-            return self.taken(settings, clock);
+        if settings.values.is_leaf(self.current_piece()) {
+            return self.taken(settings.values, clock);
         }
         self.phase = 7;
         self.place = 0;
@@ -189,14 +188,14 @@ impl Record {
     }
 
     // 6 notify
-    pub fn notice_given(mut self, settings: Settings, clock: u64) -> Record
-        requires { Settled settings × Pieced self × (self.place < length (notify_list settings.distance (current_piece self))) × (self.t1 ≤ clock) }
-        ensures { result ≡ notice_given settings self clock }
+    pub fn notice_given(mut self, settings: ValidSettings, clock: u64) -> Record
+        requires { Pieced self × (self.place < length (notify_list settings.values.distance (current_piece self))) × (self.t1 ≤ clock) }
+        ensures { result ≡ notice_given settings.values self clock }
     {
         let given = self.place + 1;
         let n = self.current_piece();
         self.notices = given;
-        if given < tree::notify_count(settings.distance, n) {
+        if given < tree::notify_count(settings.values.distance, n) {
             self.place = given;
             return self;
         }
@@ -217,20 +216,20 @@ impl Record {
     }
 
     // 8 check
-    pub fn check_passed(mut self, settings: Settings, found: u64, clock: u64) -> Record
-        requires { Settled settings × Pieced self × Node settings.levels (current_piece self) × (self.place < length (check_list settings.levels settings.distance (current_piece self))) }
-        ensures { result ≡ check_passed settings self found clock }
+    pub fn check_passed(mut self, settings: ValidSettings, found: u64, clock: u64) -> Record
+        requires { Pieced self × Node settings.values.levels (current_piece self) × (self.place < length (check_list settings.values.levels settings.values.distance (current_piece self))) }
+        ensures { result ≡ check_passed settings.values self found clock }
     {
         if word::get::<Dcnt>(found) != word::get::<Dmax>(found) {
             return self;
         }
         let passed = self.place + 1;
         let n = self.current_piece();
-        if passed < tree::check_count(settings.levels, settings.distance, n) {
+        if passed < tree::check_count(settings.values.levels, settings.values.distance, n) {
             self.place = passed;
             return self;
         }
-        self.taken(settings, clock)
+        self.taken(settings.values, clock)
     }
 }
 

@@ -19,25 +19,13 @@ pub fn any_unreadable(clients: &[Client], settings: Settings) -> bool
     requires { Settled settings }
     ensures { result ≡ any_unreadable settings clients.now }
 {
-    let mut found = false;
-    let mut client = 0;
-    while client < clients.len() {
-        let one = clients[client];
-        found = found | one.record.unreadable(settings, one.clock);
-        client = client + 1;
-    }
-    found
+    clients
+        .iter()
+        .any(|client| client.record.unreadable(settings, client.clock))
 }
 
 pub fn held_count(clients: &[Client]) -> u64
     ensures { result ≡ held_count clients.now }
 {
-    let mut held = 0;
-    let mut client = 0;
-    while client < clients.len() {
-        let one = clients[client];
-        held = held + in_phase_9(one.record);
-        client = client + 1;
-    }
-    held
+    clients.iter().map(|client| in_phase_9(client.record)).sum()
 }

@@ -40,15 +40,12 @@ pub fn row_of(one: Record, settings: Settings, last: u64) -> Row
     }
 }
 
-// A row for each client, in their order.
+// A row for each client, in their order. The rows are written by their place: of what a walk over borrowed rows has written the contract of std's `iter_mut` says nothing.
 pub fn fill_rows(clients: &[Client], rows: &mut [Row], settings: Settings)
     requires { Settled settings × (length rows.old ≡ length clients.now) × (any_unreadable settings clients.now ≡ false) }
     ensures { rows.new ≡ rows_of settings clients.now }
 {
-    let mut client = 0;
-    while client < rows.len() {
-        let one = clients[client];
-        rows[client] = row_of(one.record, settings, one.clock);
-        client = client + 1;
+    for (at, client) in clients.iter().enumerate() {
+        rows[at] = row_of(client.record, settings, client.clock);
     }
 }

@@ -302,5 +302,5 @@ pub extern "C" fn probe_unreadable(
     requires { Settled settings }
     ensures { result ≡ unreadable settings client last }
 {
-    client.unreadable(settings, last)
+    client.unreadable(lock::ValidSettings { values: settings }, last)
 }

@@ -4,8 +4,9 @@ ghost use Rattle.lock.specs.rules.Records.{claim, returning, phase_of};
 ghost use Rattle.lock.specs.laws.Active.{Settled};
 ghost use Rattle.lock.specs.laws.Placed.{Placed, Sound};
 ghost use Rattle.runs.specs.rules.Ahead.{ahead_in, ahead_answer};
+ghost use Rattle.runs.specs.laws.AnswerLaws.{ahead_by};
 
-use crate::Ahead;
+use base::Refusal;
 use lock::{Client, Record, Settings};
 
 // 5: an inner claim with all its notices, a leaf's by itself.
@@ -70,33 +71,19 @@ pub fn count_ahead(own: Record, settings: Settings) -> u64
     }
 }
 
-// Tests 1, 5, 6; never more than there is room for.
-pub fn answer_ahead(client: Client, settings: Settings, clock: u64, room: u64) -> Ahead
-    ensures { result ≡ ahead_answer settings client clock room }
+// How many operations are posted together. Tests 1, 5, 6; never more than there is room for.
+pub fn answer_ahead(
+    client: Client,
+    settings: Settings,
+    clock: u64,
+    room: u64,
+) -> Result<u64, Refusal>
+    ensures { ahead_by result ≡ ahead_answer settings client clock room }
 {
-    let cause = base::number_in(client.post_tests(settings, clock));
+    client.post_tests(settings, clock)?;
     let own = client.record;
-    if cause != 0 {
-        return Ahead {
-            number: cause,
-            count: 0,
-        };
-    }
     if own.out_of_patience(settings, clock) {
-        return Ahead {
-            number: 0,
-            count: 0,
-        };
+        return Ok(0);
     }
-    let count = count_ahead(own, settings);
-    if room < count {
-        return Ahead {
-            number: 0,
-            count: room,
-        };
-    }
-    Ahead {
-        number: 0,
-        count: count,
-    }
+    Ok(room.min(count_ahead(own, settings)))
 }

@@ -39,7 +39,7 @@ fn opening_number(settings: Settings, clients: usize) -> u64
     ensures { result ≡ (Table.opening settings (lent_for settings clients)).number }
 {
     let count = word_count(settings.levels);
-    opening_cause(settings, count, clients)
+    base::number_in(opening_cause(settings, count, clients))
 }
 
 // The number by which a schedule is refused, 0 if its calls are made. The whole file is examined before its opening.

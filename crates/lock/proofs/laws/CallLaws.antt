@@ -63,6 +63,23 @@ module _ (s : Settings) (count : ℕ) (ts : Tests) where
   unfolding tree_tests
   tree_passed e f = cause_skip (settings_outside s) 1 _ e ∙ cause_skip (differ count (word_count s.levels)) 2 ts (ap not (eq-eqb count (word_count s.levels) f))
 
+-- what the test of 1 alone in code gives
+module _ (s : Settings) where
+  refused_at : (b : Bool) → settings_outside s ≡ b → (n : ℕ) (ts : Tests) → n ≡ first_cause ((settings_outside s, 1) ∷ []) → (n ≡ 0 → ⊥) → first_cause ((settings_outside s, 1) ∷ ts) ≡ n
+  unfolding first_cause choose
+  refused_at true f n ts e d = cause_hit (settings_outside s) 1 ts f ∙ sym (e ∙ cause_hit (settings_outside s) 1 [] f)
+  refused_at false f n ts e d = absurd (d (e ∙ cause_skip (settings_outside s) 1 [] f))
+
+  pub settings_refused : (n : ℕ) (ts : Tests) → n ≡ first_cause ((settings_outside s, 1) ∷ []) → (n ≡ 0 → ⊥) → first_cause ((settings_outside s, 1) ∷ ts) ≡ n
+  settings_refused = refused_at (settings_outside s) refl
+
+  passed_at : (b : Bool) → settings_outside s ≡ b → 0 ≡ first_cause ((settings_outside s, 1) ∷ []) → settings_outside s ≡ false
+  passed_at true f e = let z : 0 ≡ 1 = e ∙ cause_hit (settings_outside s) 1 [] f in absurd (omega (arith, z))
+  passed_at false f e = f
+
+  pub settings_passed : 0 ≡ first_cause ((settings_outside s, 1) ∷ []) → settings_outside s ≡ false
+  settings_passed = passed_at (settings_outside s) refl
+
 -- what the test of 1 and 2 in code gives: 0 and both passed, or a number that any chain behind them has too
 pub record TreeTested (s : Settings) (count n : ℕ) : Type 0 where
   pub refused : (n ≡ 0 → ⊥) → (ts : Tests) → first_cause (tree_tests s count ++ ts) ≡ n

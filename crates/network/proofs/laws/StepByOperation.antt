@@ -4,6 +4,7 @@ use Rattle.std.proofs.Math.Path.{refl, sym, ap, ap₂}
 use Rattle.std.proofs.Common.{◌∙◌, arith, eq-eqb, ne_eqb}
 use Rattle.std.proofs.Math.Bool.{not}
 use mathlib.Core.List.{List, [], ◌∷◌, ◌++◌}
+use Rattle.std.proofs.lemmas.List.{set-get_or}
 use Rattle.base.specs.laws.ChoiceLaws.{on_choose, choose_eq, choose_ne, by_eq}
 use Rattle.tree.specs.rules.Tree.{word_count}
 use Rattle.lock.specs.declared.Client.{Client}
@@ -24,7 +25,7 @@ use Rattle.lock.specs.laws.Rows.{claim_piece, return_bits, return_inner, give_ba
 use Rattle.lock.proofs.laws.Rows.{on_moved}
 use Rattle.table.specs.laws.Causes.{table_cause}
 use Rattle.table.specs.laws.CauseLaws.{both_none}
-use Rattle.table.specs.laws.CallLaws.{set_same, table_refuses, table_takes}
+use Rattle.table.specs.laws.CallLaws.{table_refuses, table_takes}
 use Rattle.network.specs.rules.ByOperation.{by_operation}
 
 -- ---- a returning leaf that finds a wanted bit clear leaves its word
@@ -58,7 +59,7 @@ module _ (s : Settings) (r : Record) (w t : ℕ) where
 pub written_same : (words : List ℕ) (n : ℕ) → written words n (word_at words n) ≡ words
 unfolding written word_at
 written_same words zero = refl
-written_same words (suc i) = set_same words i 0
+written_same words (suc i) = set-get_or words i 0
 
 pub node_at : (n : ℕ) (a : Access) → (operation_at n a).node ≡ n
 unfolding operation_at

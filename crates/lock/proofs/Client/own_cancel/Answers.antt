@@ -13,17 +13,17 @@ unfolding own_cancel_answer cancel_tests
 returns-in_err-post_tests c =
     let a = c.args in
     let p = err_from_is_err_and c.from_residual.result c.from_residual.ensures.1 in
-    refused_as _ a.self _ _ _ _ p.1 p.2 (sym (own_refused a.settings a.self _ c.in_err-post_tests.ensures _ (cause_some _)))
+    refused_as _ a.self _ _ _ _ p.1 p.2 (sym (own_refused a.settings a.self _ c.in_err-post_tests.ensures.number _ (cause_some _)))
 
 pub returns-in_err-cancel : goal.returns-in_err-cancel
 unfolding own_cancel_answer cancel_tests
 returns-in_err-cancel c =
     let a = c.args in
     let p = err_from_is_err_and c.from_residual-in_err-cancel.result c.from_residual-in_err-cancel.ensures.1 in
-    own_answered a.settings a.self 0 c.in_ok-post_tests.ensures _ refl (client_with a.self.clock (cancelled a.self.«record»)) _ (refused_as _ a.self _ _ _ _ p.1 p.2 c.in_err-cancel.ensures.number)
+    own_answered a.settings a.self 0 c.in_ok-post_tests.ensures.number _ refl (client_with a.self.clock (cancelled a.self.«record»)) _ (refused_as _ a.self _ _ _ _ p.1 p.2 c.in_err-cancel.ensures.number)
 
 pub returns : goal.returns
 unfolding own_cancel_answer cancel_tests
 returns c =
     let a = c.args in
-    own_answered a.settings a.self 0 c.in_ok-post_tests.ensures _ refl (client_with a.self.clock (cancelled a.self.«record»)) _ (accepted_by _ a.self _ _ c.in_ok-cancel.ensures.number (c.with.ensures ∙ ap (client_with a.self.clock) c.in_ok-cancel.ensures.next))
+    own_answered a.settings a.self 0 c.in_ok-post_tests.ensures.number _ refl (client_with a.self.clock (cancelled a.self.«record»)) _ (accepted_by _ a.self _ _ c.in_ok-cancel.ensures.number (c.with.ensures ∙ ap (client_with a.self.clock) c.in_ok-cancel.ensures.next))

@@ -1,30 +1,29 @@
 -- `lock::Client::post_tests` meets its contract. Assumes nothing.
-use mathlib.Core.Path.{sym, ◌∙◌}
-use Rattle.lock.proofs.laws.SettledLaws.{settled}
-use Rattle.lock.proofs.laws.OperationLaws.{cause_0, cause_1, cause_5, cause_6}
-use borrow.Author.Tests.{lt-ltb, le-ltb}
+use Rattle.std.proofs.Common.{sym, ap, ◌∙◌, lt-ltb, le-ltb}
+use Rattle.std.proofs.lemmas.Result.{err_from_is_err_and}
+use Rattle.lock.specs.rules.Unreadable.{unreadable}
+use Rattle.lock.specs.rules.Operations.{post_tests}
+use Rattle.lock.proofs.laws.CallLaws.{cause_some, settings_refused, settings_passed}
+use Rattle.lock.proofs.laws.OperationLaws.{cause_0, cause_5, cause_6}
 use Rattle.lock.proofs.Client.post_tests.Goals as goal
 
-pub returns-then-outside : goal.returns-then-outside
-returns-then-outside c =
-    let a = c.args in
-    cause_1 a.settings a.self a.clock (sym c.outside.ensures ∙ c.if-outside.true)
+pub returns-in_err-valid-clause-number : goal.returns-in_err-valid-clause-number
+unfolding post_tests
+returns-in_err-valid-clause-number c =
+    let p = err_from_is_err_and c.from_residual.result c.from_residual.ensures.1 in
+    rw (p.1, p.2) (sym (settings_refused c.args.settings _ _ c.in_err-valid.ensures.number (cause_some _)))
 
-pub returns-then-clock-self : goal.returns-then-clock-self
-returns-then-clock-self c =
+pub returns-then-clock-self-clause-number : goal.returns-then-clock-self-clause-number
+returns-then-clock-self-clause-number c =
     let a = c.args in
-    cause_5 a.settings a.self a.clock (sym c.outside.ensures ∙ c.if-outside.false) (lt-ltb _ _ c.if-clock-self.true)
+    cause_5 a.settings a.self a.clock (settings_passed a.settings c.in_ok-valid.ensures.number) (lt-ltb _ _ c.if-clock-self.true)
 
-pub unreadable-requires : goal.unreadable-requires
-unreadable-requires c =
-    settled c.args.settings (sym c.outside.ensures ∙ c.if-outside.false)
-
-pub returns-then-unreadable : goal.returns-then-unreadable
-returns-then-unreadable c =
+pub returns-then-unreadable-clause-number : goal.returns-then-unreadable-clause-number
+returns-then-unreadable-clause-number c =
     let a = c.args in
-    cause_6 a.settings a.self a.clock (sym c.outside.ensures ∙ c.if-outside.false) (le-ltb _ _ c.if-clock-self.false) (sym c.unreadable.ensures ∙ c.if-unreadable.true)
+    cause_6 a.settings a.self a.clock (settings_passed a.settings c.in_ok-valid.ensures.number) (le-ltb _ _ c.if-clock-self.false) (sym (c.unreadable.ensures ∙ ap (λ s. unreadable s a.self.«record» a.self.clock) c.in_ok-valid.ensures.same) ∙ c.if-unreadable.true)
 
-pub returns : goal.returns
-returns c =
+pub returns-clause-number : goal.returns-clause-number
+returns-clause-number c =
     let a = c.args in
-    cause_0 a.settings a.self a.clock (sym c.outside.ensures ∙ c.if-outside.false) (le-ltb _ _ c.if-clock-self.false) (sym c.unreadable.ensures ∙ c.if-unreadable.false)
+    cause_0 a.settings a.self a.clock (settings_passed a.settings c.in_ok-valid.ensures.number) (le-ltb _ _ c.if-clock-self.false) (sym (c.unreadable.ensures ∙ ap (λ s. unreadable s a.self.«record» a.self.clock) c.in_ok-valid.ensures.same) ∙ c.if-unreadable.false)

@@ -9,5 +9,5 @@ pub wanted-bits-requires : goal.wanted-bits-requires
 wanted-bits-requires c =
     let a = c.args in
     let q = c.requires in
-    let h = a.settings.levels in
-    (q.0, subst (λ (n : ℕ). Meets h a.self.left a.self.right n) (sym c.current_piece-n.ensures) (q.1.meets a.self.current q.1.exists), leaf_level a.settings c.current_piece-n.result (sym c.is_leaf.ensures ∙ c.if-is_leaf.true))
+    let h = a.settings.values.levels in
+    (subst (λ (n : ℕ). Meets h a.self.left a.self.right n) (sym c.current_piece-n.ensures) (q.meets a.self.current q.exists), leaf_level a.settings.values c.current_piece-n.result (sym c.is_leaf.ensures ∙ c.if-is_leaf.true))

@@ -10,7 +10,7 @@ pub wanted-requires : goal.wanted-requires
 wanted-requires c =
     let a = c.args in
     let q = c.requires in
-    let p = pieced a.settings a.self q.0 q.1 in
+    let p = pieced a.settings.values a.self c.args.settings.settled q in
     let e = sym c.current_piece-n.ensures in
-    let h = a.settings.levels in
-    (q.0, subst (λ (n : ℕ). Meets h a.self.left a.self.right n) e (q.1.meets a.self.current p.exists), leaf_level a.settings c.current_piece-n.result (sym c.is_leaf.ensures ∙ c.if-is_leaf.true))
+    let h = a.settings.values.levels in
+    (subst (λ (n : ℕ). Meets h a.self.left a.self.right n) e (q.meets a.self.current p.exists), leaf_level a.settings.values c.current_piece-n.result (sym c.is_leaf.ensures ∙ c.if-is_leaf.true))

@@ -12,6 +12,6 @@ pub return_bits-requires : goal.return_bits-requires
 return_bits-requires c =
     let a = c.args in
     let q = c.requires in
-    let g : a.self.giving < length (pieces a.self) = omega (arith, q.1.giving_begun, q.1.exists) in
-    let p = pieced a.settings a.self q.0 q.1 in
-    (q.0, q.1, g, leaf_level a.settings (given_piece a.self) (ap (is_leaf a.settings) (sym c.given_piece.ensures) ∙ sym c.is_leaf.ensures ∙ c.if-is_leaf.true))
+    let g : a.self.giving < length (pieces a.self) = omega (arith, q.giving_begun, q.exists) in
+    let p = pieced a.settings.values a.self c.args.settings.settled q in
+    (q, g, leaf_level a.settings.values (given_piece a.self) (ap (is_leaf a.settings.values) (sym c.given_piece.ensures) ∙ sym c.is_leaf.ensures ∙ c.if-is_leaf.true))

@@ -5,8 +5,8 @@ use Rattle.lock.proofs.Record.own_access.Goals as goal
 
 pub claim_access-requires : goal.claim_access-requires
 claim_access-requires c =
-    (c.requires.0, sound_placed c.args.settings c.args.self c.requires.1 (omega arith))
+    sound_placed c.args.settings.values c.args.self c.requires (omega arith)
 
 pub return_access-requires : goal.return_access-requires
 return_access-requires c =
-    (c.requires.0, sound_placed c.args.settings c.args.self c.requires.1 (omega arith))
+    sound_placed c.args.settings.values c.args.self c.requires (omega arith)

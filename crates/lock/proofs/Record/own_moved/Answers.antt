@@ -13,5 +13,5 @@ climbed-requires c =
     let a = c.args in
     let q = c.requires in
     let e = c.in-3.is in
-    let v = sound_placed a.settings a.self q.1 (omega arith) in
-    record { pieced = pieced a.settings a.self q.0 v; within = v.climbing (inl e); node = q.4 ∙ ap (touched_in a.settings a.self) (at_climb a.self.phase e) }
+    let v = sound_placed a.settings.values a.self q.0 (omega arith) in
+    record { pieced = pieced a.settings.values a.self c.args.settings.settled v; within = v.climbing (inl e); node = q.3 ∙ ap (touched_in a.settings.values a.self) (at_climb a.self.phase e) }

@@ -18,11 +18,11 @@ returns-then-self-ne0-clause-number c =
 
 pub piece_numbers-pieces-requires : goal.piece_numbers-pieces-requires
 piece_numbers-pieces-requires c =
-    inside_window c.requires (sym c.outside.ensures ∙ c.if-outside.false)
+    inside_window c.args.settings.settled (sym c.outside.ensures ∙ c.if-outside.false)
 
 pub requested-requires : goal.requested-requires
 requested-requires c =
-    (c.requires, inside_window c.requires (sym c.outside.ensures ∙ c.if-outside.false), c.piece_numbers-pieces.ensures.first, c.piece_numbers-pieces.ensures.second)
+    (inside_window c.args.settings.settled (sym c.outside.ensures ∙ c.if-outside.false), c.piece_numbers-pieces.ensures.first, c.piece_numbers-pieces.ensures.second)
 
 pub returns-clause-number : goal.returns-clause-number
 unfolding first_cause

@@ -15,40 +15,40 @@ pub out_of_patience-requires : goal.out_of_patience-requires
 out_of_patience-requires c =
     let a = c.args in
     let q = c.requires in
-    let f = readable a.settings a.self a.last q.0 q.2 in
-    omega (arith, f.taken_past, q.3)
+    let f = readable a.settings.values a.self a.last c.args.settings.settled q.1 in
+    omega (arith, f.taken_past, q.2)
 
 pub returns-then-out_of_patience : goal.returns-then-out_of_patience
 returns-then-out_of_patience c =
     let a = c.args in
-    let all = step_sent_back a.settings a.self a.words.now a.clock (sym c.out_of_patience.ensures ∙ c.if-out_of_patience.true) _ c.sent_back.ensures in record { number = all.0; next = all.1; words = all.2 }
+    let all = step_sent_back a.settings.values a.self a.words.now a.clock (sym c.out_of_patience.ensures ∙ c.if-out_of_patience.true) _ c.sent_back.ensures in record { number = all.0; next = all.1; words = all.2 }
 
 pub own_touched-n-requires : goal.own_touched-n-requires
 own_touched-n-requires c =
     let a = c.args in
     let q = c.requires in
-    let f = readable a.settings a.self a.last q.0 q.2 in
-    (q.0, f.sound)
+    let f = readable a.settings.values a.self a.last c.args.settings.settled q.1 in
+    f.sound
 
 pub word_at-requires : goal.word_at-requires
 word_at-requires c =
     let a = c.args in
     let q = c.requires in
-    let f = readable a.settings a.self a.last q.0 q.2 in
-    omega (arith, touched_counted a.settings a.self q.0 f.sound, c.own_touched-n.ensures, q.1)
+    let f = readable a.settings.values a.self a.last c.args.settings.settled q.1 in
+    omega (arith, touched_counted a.settings.values a.self c.args.settings.settled f.sound, c.own_touched-n.ensures, q.0)
 
 pub own_moved-requires : goal.own_moved-requires
 own_moved-requires c =
     let a = c.args in
     let q = c.requires in
-    let f = readable a.settings a.self a.last q.0 q.2 in
-    (q.0, f.sound, omega (arith, f.t1_past, q.3), omega (arith, f.t0_past, q.3), c.own_touched-n.ensures)
+    let f = readable a.settings.values a.self a.last c.args.settings.settled q.1 in
+    (f.sound, omega (arith, f.t1_past, q.2), omega (arith, f.t0_past, q.2), c.own_touched-n.ensures)
 
 pub returns-in_err-moved : goal.returns-in_err-moved
 returns-in_err-moved c =
     let a = c.args in
     let e = sym c.out_of_patience.ensures ∙ c.if-out_of_patience.false in
-    let both = step_refused a.settings a.self a.words.now a.clock _ (step_work a.settings a.self a.words.now a.clock e _ _ _ c.own_touched-n.ensures c.word_at.ensures c.in_err-moved.ensures) (cause_some _) in
+    let both = step_refused a.settings.values a.self a.words.now a.clock _ (step_work a.settings.values a.self a.words.now a.clock e _ _ _ c.own_touched-n.ensures c.word_at.ensures c.in_err-moved.ensures) (cause_some _) in
     let p = err_from_is_err_and c.from_residual.result c.from_residual.ensures.1 in
     rw (p.1, p.2) (record { number = both.0; next = tt; words = both.1 })
 
@@ -56,12 +56,12 @@ pub put_word-requires : goal.put_word-requires
 put_word-requires c =
     let a = c.args in
     let q = c.requires in
-    let f = readable a.settings a.self a.last q.0 q.2 in
-    omega (arith, touched_counted a.settings a.self q.0 f.sound, c.own_touched-n.ensures, q.1)
+    let f = readable a.settings.values a.self a.last c.args.settings.settled q.1 in
+    omega (arith, touched_counted a.settings.values a.self c.args.settings.settled f.sound, c.own_touched-n.ensures, q.0)
 
 pub returns : goal.returns
 returns c =
-    let s = c.args.settings in
+    let s = c.args.settings.values in
     let own = c.args.self in
     let ws = c.args.words.now in
     let t = c.args.clock in
