@@ -41,11 +41,11 @@ given_back-requires c =
 
 pub overflow_add-place : goal.overflow_add-place
 overflow_add-place c =
-    let a = c.args in let d = c.in_default.in_default-own.rest in let w = walks_on a.settings a.own a.i d.0.0.0.0.1 d.0.0.0.1 d.0.0.1 d.0.1 d.1 c.requires.2 in let g = sound_placed a.settings a.own c.requires.1 (phase_some a.settings a.own a.i c.requires.2) in omega (arith, w.0, list_short a.settings a.own c.requires.0 g (phase_of a.own.phase))
+    let a = c.args in let w = walks_on a.settings a.own a.i (λ e. omega (arith, e)) (λ e. omega (arith, e)) (λ e. omega (arith, e)) (λ e. omega (arith, e)) (λ e. omega (arith, e)) c.requires.2 in let g = sound_placed a.settings a.own c.requires.1 (phase_some a.settings a.own a.i c.requires.2) in omega (arith, w.0, list_short a.settings a.own c.requires.0 g (phase_of a.own.phase))
 
 pub standing-requires : goal.standing-requires
 standing-requires c =
-    let a = c.args in let d = c.in_default.in_default-own.rest in let w = walks_on a.settings a.own a.i d.0.0.0.0.1 d.0.0.0.1 d.0.0.1 d.0.1 d.1 c.requires.2 in let g = sound_placed a.settings a.own c.requires.1 (phase_some a.settings a.own a.i c.requires.2) in (c.requires.0, stands_in a.settings a.own g a.own.phase (a.own.place + a.i) (omega (arith, w.0)))
+    let a = c.args in let w = walks_on a.settings a.own a.i (λ e. omega (arith, e)) (λ e. omega (arith, e)) (λ e. omega (arith, e)) (λ e. omega (arith, e)) (λ e. omega (arith, e)) c.requires.2 in let g = sound_placed a.settings a.own c.requires.1 (phase_some a.settings a.own a.i c.requires.2) in (c.requires.0, stands_in a.settings a.own g a.own.phase (a.own.place + a.i) (omega (arith, w.0)))
 
 pub returns-in-1 : goal.returns-in-1
 returns-in-1 c =
@@ -72,4 +72,4 @@ returns-in-10 c =
 
 pub returns-in_default : goal.returns-in_default
 returns-in_default c =
-    let a = c.args in let d = c.in_default.in_default-own.rest in let w = walks_on a.settings a.own a.i d.0.0.0.0.1 d.0.0.0.1 d.0.0.1 d.0.1 d.1 c.requires.2 in c.standing.ensures ∙ sym (ap (λ (l : List Operation). get_or l a.i no_operation) w.1 ∙ walk_at a.settings a.own (phase_of a.own.phase) a.own.place a.i no_operation w.0)
+    let a = c.args in let w = walks_on a.settings a.own a.i (λ e. omega (arith, e)) (λ e. omega (arith, e)) (λ e. omega (arith, e)) (λ e. omega (arith, e)) (λ e. omega (arith, e)) c.requires.2 in c.standing.ensures ∙ sym (ap (λ (l : List Operation). get_or l a.i no_operation) w.1 ∙ walk_at a.settings a.own (phase_of a.own.phase) a.own.place a.i no_operation w.0)
