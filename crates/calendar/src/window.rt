@@ -30,10 +30,7 @@ impl<'a> Window<'a> {
         ensures number { number_in result ≡ order_cause figures.calendar hours.now first last }
         ensures same { IfOk result (λ w. (w.figures.calendar ≡ figures.calendar) × (w.hours.now ≡ hours.now) × (w.first ≡ first) × (w.last ≡ last)) }
     {
-        if figures.hours_wrong(hours) {
-            return Err(Refusal::Calendar);
-        }
-        if figures.unknown(first) | figures.unknown(last) {
+        if figures.hours_wrong(hours) | figures.unknown(first) | figures.unknown(last) {
             return Err(Refusal::Calendar);
         }
         if (last.ward != first.ward) | (figures.unit_of(last) < figures.unit_of(first)) {

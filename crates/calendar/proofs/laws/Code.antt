@@ -46,10 +46,10 @@ module _ (c : Calendar) (hours : List ℕ) (first last : Quarter) where
     wrong_ends e = rw (figures, e)
 
   -- the tests of the code, one after another, are 12 and 13
-  pub tested_12 : {h u v b : Bool} → figures_outside c ≡ false → h ≡ hours_wrong c.wards hours → h ≡ false → u ≡ unknown c first → v ≡ unknown c last → (u || v) ≡ b
+  pub tested_12 : {h u v b : Bool} → figures_outside c ≡ false → h ≡ hours_wrong c.wards hours → u ≡ unknown c first → v ≡ unknown c last → (h || u || v) ≡ b
       → calendar_wrong c hours first last ≡ b
   unfolding calendar_wrong
-  tested_12 figures d g e f t = rw (figures, ← d, g, ← e, ← f) t
+  tested_12 figures d e f t = rw (figures, ← d, ← e, ← f) t
 
   pub tested_13 : {l k : ℕ} {b : Bool} → l ≡ unit_of c.weeks last → k ≡ unit_of c.weeks first → (not (eqb last.ward first.ward) || ltb l k) ≡ b
       → out_of_order c.weeks first last ≡ b
