@@ -1,4 +1,5 @@
-// How many operations a run posts together.
+// How many operations a run posts together. A record's phase is a number that C lends, and document 01 names the match on it as its form. The record and the settings stay two arguments, the record by value as in document
+// 01, and what is known of them stays in the clauses: a struct of both would be built anew at each phase and place at which posted.rt stands the record, and its facts shown again there.
 ghost use Rattle.std.specs.Prelude.{◌≡◌, ◌≤◌, length};
 ghost use Rattle.lock.specs.rules.Records.{claim, returning, phase_of};
 ghost use Rattle.lock.specs.laws.Placed.{Placed, Sound};

@@ -1,4 +1,4 @@
-// The operations that a run posts together, each by its place in their list.
+// The operations that a run posts together, each by its place in their list. A record's phase is a number that C lends, and document 01 names the match on it as its form; why record and settings are two arguments, counts.rt says.
 ghost use Rattle.std.specs.Prelude.{◌≡◌, ◌∷◌, suc, ◌<◌, length, get_or};
 ghost use Rattle.lock.specs.rules.Records.{ticket, returning, phase_of};
 ghost use Rattle.lock.specs.rules.Unreadable.{list_length};

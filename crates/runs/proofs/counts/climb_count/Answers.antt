@@ -29,4 +29,4 @@ returns-in-3 c =
 
 pub returns-in_default : goal.returns-in_default
 returns-in_default c =
-    let a = c.args in let g = c.requires.0 in let k = (pieced a.settings.values a.own c.args.settings.settled g).nodes a.own.current g.exists in let v = bounded a.settings.values.distance (P.current_piece a.own) c.args.settings.settled.distance_some c.args.settings.settled.distance_most k in let e = c.level-d.ensures ∙ ap level c.current_piece.ensures in other_length a.settings.values a.own _ e (omega (arith, v.d_some, e)) (by_lt a.own.phase 3 (λ q. inl (omega (arith, c.requires.1, c.in_default.in_default-own.rest.0.1))) (λ q. inr (omega (arith, c.requires.2, c.in_default.in_default-own.rest.1))))
+    let a = c.args in let g = c.requires.0 in let k = (pieced a.settings.values a.own c.args.settings.settled g).nodes a.own.current g.exists in let v = bounded a.settings.values.distance (P.current_piece a.own) c.args.settings.settled.distance_some c.args.settings.settled.distance_most k in let e = c.level-d.ensures ∙ ap level c.current_piece.ensures in other_length a.settings.values a.own _ e (omega (arith, v.d_some, e)) (by_lt a.own.phase 3 (λ q. inl (omega (arith, c.requires.1))) (λ q. inr (omega (arith, c.requires.2))))

@@ -1,6 +1,7 @@
 -- `runs::counts::count_ahead` meets its contract. Assumes nothing.
 use mathlib.Core.Path.{sym, ap, ◌∙◌}
 use Prim.Native.Nat.{ℕ, ◌-◌}
+use native.Mathlib.Omega.{arith}
 use lib.ListN.{length}
 use Rattle.tree.specs.rules.Lists.{notify_list, check_list}
 use Rattle.lock.specs.rules.Records.{Phase}
@@ -27,4 +28,5 @@ returns-in-10 c =
 
 pub returns-in_default : goal.returns-in_default
 returns-in_default c =
-    let a = c.args in let d = c.in_default.in_default-own.rest in none_length a.settings.values a.own d.0.0.0.0.0.0.0.1 d.0.0.0.0.0.0.1 d.0.0.0.0.0.1 d.0.0.0.0.1 d.0.0.0.1 d.0.0.1 d.0.1 d.1
+    none_length c.args.settings.values c.args.own (λ e. omega (arith, e)) (λ e. omega (arith, e)) (λ e. omega (arith, e)) (λ e. omega (arith, e)) (λ e. omega (arith, e)) (λ e. omega (arith, e))
+    (λ e. omega (arith, e)) (λ e. omega (arith, e))

@@ -41,11 +41,11 @@ given_back-requires c =
 
 pub overflow_add-place : goal.overflow_add-place
 overflow_add-place c =
-    let a = c.args in let d = c.in_default.in_default-own.rest in let w = walks_on a.settings.values a.own a.i d.0.0.0.0.1 d.0.0.0.1 d.0.0.1 d.0.1 d.1 c.requires.1 in let g = sound_placed a.settings.values a.own c.requires.0 (phase_some a.settings.values a.own a.i c.requires.1) in omega (arith, w.0, list_short a.settings.values a.own c.args.settings.settled g (phase_of a.own.phase))
+    let a = c.args in let w = walks_on a.settings.values a.own a.i (λ e. omega (arith, e)) (λ e. omega (arith, e)) (λ e. omega (arith, e)) (λ e. omega (arith, e)) (λ e. omega (arith, e)) c.requires.1 in let g = sound_placed a.settings.values a.own c.requires.0 (phase_some a.settings.values a.own a.i c.requires.1) in omega (arith, w.0, list_short a.settings.values a.own c.args.settings.settled g (phase_of a.own.phase))
 
 pub standing-requires : goal.standing-requires
 standing-requires c =
-    let a = c.args in let d = c.in_default.in_default-own.rest in let w = walks_on a.settings.values a.own a.i d.0.0.0.0.1 d.0.0.0.1 d.0.0.1 d.0.1 d.1 c.requires.1 in let g = sound_placed a.settings.values a.own c.requires.0 (phase_some a.settings.values a.own a.i c.requires.1) in (stands_in a.settings.values a.own g a.own.phase (a.own.place + a.i) (omega (arith, w.0)))
+    let a = c.args in let w = walks_on a.settings.values a.own a.i (λ e. omega (arith, e)) (λ e. omega (arith, e)) (λ e. omega (arith, e)) (λ e. omega (arith, e)) (λ e. omega (arith, e)) c.requires.1 in let g = sound_placed a.settings.values a.own c.requires.0 (phase_some a.settings.values a.own a.i c.requires.1) in (stands_in a.settings.values a.own g a.own.phase (a.own.place + a.i) (omega (arith, w.0)))
 
 pub returns-in-1 : goal.returns-in-1
 returns-in-1 c =
@@ -72,4 +72,4 @@ returns-in-10 c =
 
 pub returns-in_default : goal.returns-in_default
 returns-in_default c =
-    let a = c.args in let d = c.in_default.in_default-own.rest in let w = walks_on a.settings.values a.own a.i d.0.0.0.0.1 d.0.0.0.1 d.0.0.1 d.0.1 d.1 c.requires.1 in c.standing.ensures ∙ sym (ap (λ (l : List Operation). get_or l a.i no_operation) w.1 ∙ walk_at a.settings.values a.own (phase_of a.own.phase) a.own.place a.i no_operation w.0)
+    let a = c.args in let w = walks_on a.settings.values a.own a.i (λ e. omega (arith, e)) (λ e. omega (arith, e)) (λ e. omega (arith, e)) (λ e. omega (arith, e)) (λ e. omega (arith, e)) c.requires.1 in c.standing.ensures ∙ sym (ap (λ (l : List Operation). get_or l a.i no_operation) w.1 ∙ walk_at a.settings.values a.own (phase_of a.own.phase) a.own.place a.i no_operation w.0)
