@@ -1,4 +1,5 @@
 // The cover of a window: the one or two nodes that hold all of it with the least over-cover, in a fixed number of steps.
+// The public functions take a window's three numbers one by one, as C's calls and records have them; inside they are a `TreeWindow`.
 #![tactic(auto, using(crate::proofs::laws::Pieces::methods))]
 
 ghost use Rattle.std.specs.Prelude.{◌≡◌, not, ◌||◌, ◌≤◌, eqb, get_or};
@@ -27,7 +28,7 @@ pub struct Numbers {
     pub second: u64,
 }
 
-// What C is told. number 0: the pieces and their over-cover; else the cause of a refusal, and zeros.
+// What C is told, with the fields that its struct has. number 0: the pieces and their over-cover; else the cause of a refusal, and zeros.
 #[repr(C)]
 #[derive(Clone, Copy)]
 pub struct Answer {

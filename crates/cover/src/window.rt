@@ -58,7 +58,8 @@ impl TreeWindow {
         Ok(TreeWindow::known(h, l, r))
     }
 
-    // How many levels above the leaves its first and last unit lie in one node: the pairs of bits up to the highest in which their leaves' places differ.
+    // How many levels above the leaves its first and last unit lie in one node: the pairs of bits up to the highest in which their leaves' places differ. (None
+    // may differ, and 0 has no `ilog2`.)
     #[tactic(auto, unfolding(crate::specs::laws::Rise::rise))]
     fn rise(self) -> u64
         ensures { result ≡ rise self.left (self.right - 1) }

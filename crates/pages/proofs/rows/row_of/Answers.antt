@@ -8,8 +8,8 @@ returns-then-one-eq0 c =
     let a = c.args in
     row_idle a.settings a.one c.if-one-eq0.true
 
-pub window_pieces-requires : goal.window_pieces-requires
-window_pieces-requires c =
+pub window_pieces-pieces-requires : goal.window_pieces-pieces-requires
+window_pieces-pieces-requires c =
     let a = c.args in
     let readable = c.requires in
     its_window a.settings a.one a.last readable.0 readable.1 c.if-one-eq0.false
