@@ -1,11 +1,10 @@
 // What is asked of all clients of the table: whether a record is unreadable, and how many are in phase 9.
 ghost use Rattle.std.specs.Prelude.{◌≡◌};
-ghost use Rattle.lock.specs.laws.Active.{Settled};
 ghost use Rattle.pages.specs.rules.Pages.{any_unreadable, in_phase9, held_count};
 
-use lock::{Client, Record, Settings};
+use lock::{Client, Record, ValidSettings};
 
-// 1 for a client in phase 9, by its phase number alone.
+// 1 for a client in phase 9, by its phase number alone: what the counts of the pages sum. A record's phase is a number that C lends.
 pub fn in_phase_9(one: Record) -> u64
     ensures { result ≡ in_phase9 one.phase }
 {
@@ -15,9 +14,8 @@ pub fn in_phase_9(one: Record) -> u64
     0
 }
 
-pub fn any_unreadable(clients: &[Client], settings: Settings) -> bool
-    requires { Settled settings }
-    ensures { result ≡ any_unreadable settings clients.now }
+pub fn any_unreadable(clients: &[Client], settings: ValidSettings) -> bool
+    ensures { result ≡ any_unreadable settings.values clients.now }
 {
     clients
         .iter()

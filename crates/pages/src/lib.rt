@@ -29,7 +29,8 @@ pub struct Row {
     pub steps: u64,
 }
 
-// What a forecast run sees: the page's number (0 accepted), its own record, and how many clients are in phase 9; the last two all 0 in a refused page.
+// What a forecast run sees: the page's number (0 accepted), its own record, and how many clients are in phase 9; the last two all 0 in a refused page. The C interface has the number
+// of a refusal beside the answer; in the crate it is a Result.
 #[repr(C)]
 #[derive(Clone, Copy)]
 pub struct RunPage {

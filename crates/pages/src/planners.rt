@@ -13,11 +13,11 @@ use lock::{Client, Settings};
 fn planners_page(clients: &[Client], rows: &mut [Row], settings: Settings) -> Result<(), Refusal>
     ensures { page (number_in result) rows.new ≡ planners_page settings clients.now rows.old }
 {
-    planners_cause(settings, rows.len(), clients.len())?;
-    if any_unreadable(clients, settings) {
+    let valid = planners_cause(settings, rows.len(), clients.len())?;
+    if any_unreadable(clients, valid) {
         return Err(Refusal::Unreadable);
     }
-    fill_rows(clients, rows, settings);
+    fill_rows(clients, rows, valid);
     Ok(())
 }
 

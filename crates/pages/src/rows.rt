@@ -5,9 +5,9 @@ ghost use Rattle.lock.specs.laws.Active.{Settled};
 ghost use Rattle.pages.specs.rules.Pages.{row_of, rows_of, any_unreadable};
 
 use crate::Row;
-use lock::{Client, Record, Settings};
+use lock::{Client, Record, Settings, ValidSettings};
 
-// The row of a readable record. Its pieces are its window's cover, so their over-cover is the cover's. (Only the contract speaks of the client's clock.)
+// The row of a readable record. The documents name it, so that it takes any settings and asks that they are within their ranges, as before. Its pieces are its window's cover, so their over-cover is the cover's. (Only the contract speaks of the client's clock.)
 pub fn row_of(one: Record, settings: Settings, last: u64) -> Row
     requires { Settled settings × (unreadable settings one last ≡ false) }
     ensures { result ≡ row_of settings one }
@@ -41,11 +41,11 @@ pub fn row_of(one: Record, settings: Settings, last: u64) -> Row
 }
 
 // A row for each client, in their order. The rows are written by their place: of what a walk over borrowed rows has written the contract of std's `iter_mut` says nothing.
-pub fn fill_rows(clients: &[Client], rows: &mut [Row], settings: Settings)
-    requires { Settled settings × (length rows.old ≡ length clients.now) × (any_unreadable settings clients.now ≡ false) }
-    ensures { rows.new ≡ rows_of settings clients.now }
+pub fn fill_rows(clients: &[Client], rows: &mut [Row], settings: ValidSettings)
+    requires { (length rows.old ≡ length clients.now) × (any_unreadable settings.values clients.now ≡ false) }
+    ensures { rows.new ≡ rows_of settings.values clients.now }
 {
     for (at, client) in clients.iter().enumerate() {
-        rows[at] = row_of(client.record, settings, client.clock);
+        rows[at] = row_of(client.record, settings.values, client.clock);
     }
 }

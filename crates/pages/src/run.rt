@@ -33,10 +33,10 @@ impl From<Result<(Record, u64), Refusal>> for RunPage {
 fn run_page(clients: &[Client], settings: Settings, client: u64) -> Result<(Record, u64), Refusal>
     ensures { page_by result ≡ run_page settings clients.now client }
 {
-    run_cause(settings, clients.len(), client)?;
+    let valid = run_cause(settings, clients.len(), client)?;
     let own = clients[client as usize];
     let one = own.record;
-    if one.unreadable(settings, own.clock) {
+    if one.unreadable(valid, own.clock) {
         return Err(Refusal::Unreadable);
     }
     Ok((one, held_count(clients)))

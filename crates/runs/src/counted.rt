@@ -5,7 +5,7 @@ ghost use Rattle.runs.specs.laws.AlongLaws.{one_counted, counted_by, completed_b
 
 use crate::posted::operation_ahead;
 use base::Refusal;
-use lock::{Client, Operation, Settings};
+use lock::{Client, Operation, Settings, ValidSettings};
 
 // The client after an operation that was posted and counts: it is the client's next step and is accepted. The completion tests the client, so that its operation needs no test of its own.
 fn one_counted(
@@ -19,7 +19,8 @@ fn one_counted(
 {
     let next = client.completed(settings, clock, found).ok()?;
     let own = client.record;
-    if own.operation(settings, clock) == posted {
+    let valid = ValidSettings { values: settings };
+    if own.operation(valid, clock) == posted {
         return Some(next);
     }
     None
@@ -37,9 +38,10 @@ pub fn counted_along(
     ensures { completed_by client result ≡ completed_all_answer settings client clock found.now }
 {
     let own = client.record;
+    let valid = ValidSettings { values: settings };
     let mut after = client.completed(settings, clock, found[0])?;
     for i in 1..count {
-        let posted = operation_ahead(own, settings, i as u64);
+        let posted = operation_ahead(own, valid, i as u64);
         match one_counted(after, settings, clock, posted, found[i]) {
             Some(next) => after = next,
             None => return Ok((i as u64, after)),

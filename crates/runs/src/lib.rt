@@ -21,6 +21,8 @@ pub use by_value::{
 };
 pub use together::{nolthewyr_completed_all, nolthewyr_operations_ahead};
 
+// The C interface has the number of a refusal beside the answer; in the crate it is a Result.
+
 // How many operations a run posts together: number 0 and the count of those that were put into the lent list; else the cause of a refusal, and 0.
 #[repr(C)]
 #[derive(Clone, Copy)]

@@ -8,7 +8,7 @@ use crate::counts::answer_ahead;
 use crate::posted::operation_ahead;
 use crate::{Ahead, CompletedAll};
 use base::Refusal;
-use lock::{Client, Operation, Settings};
+use lock::{Client, Operation, Settings, ValidSettings};
 
 fn completed_all(
     client: Client,
@@ -49,7 +49,8 @@ pub fn nolthewyr_operations_ahead(
     let answer = answer_ahead(client, settings, clock, operations.len() as u64);
     let own = client.record;
     for i in 0..answer.unwrap_or(0) {
-        operations[i as usize] = operation_ahead(own, settings, i);
+        let valid = ValidSettings { values: settings };
+        operations[i as usize] = operation_ahead(own, valid, i);
     }
     answer.into()
 }

@@ -19,7 +19,7 @@ pub use by_levels::{nolthewyr_cover, nolthewyr_step_count, nolthewyr_word_count}
 pub use causes::{client_cause, clients_cause, clients_outside, opening_cause};
 
 // The call of a kind. All calls over the table are this one function, so that the call by value has one caller and is built into it once; the others only pass
-// their arguments on.
+// their arguments on. The four calls below stay, and answer a number, because the C interface has them so.
 fn acted(
     clients: &mut [Client],
     words: &mut [u64],
@@ -35,7 +35,7 @@ fn acted(
     Ok(())
 }
 
-// The call that its kind names: 0 request, 1 step, 2 release, any other number cancel.
+// The call that its kind names: 0 request, 1 step, 2 release, any other number cancel. It is public and takes every number, and a `Kind` in its place would ask more of callers.
 pub fn table_act(
     clients: &mut [Client],
     words: &mut [u64],

@@ -9,23 +9,32 @@ use Rattle.lock.proofs.laws.CallLaws.{cause_hit, cause_skip}
 use Rattle.pages.specs.laws.Causes.{planners_cause}
 use Rattle.pages.proofs.causes.planners_cause.Goals as goal
 
-pub returns-in_err-settings_cause : goal.returns-in_err-settings_cause
+pub returns-in_err-valid-clause-number : goal.returns-in_err-valid-clause-number
 unfolding planners_cause
-returns-in_err-settings_cause c =
+returns-in_err-valid-clause-number c =
     let a = c.args in
-    let told : number_in c.from_residual.result ≡ number_of c.in_err-settings_cause.field-0.0 = search rules in
-    told ∙ refused_first ((settings_outside a.settings, 1) ∷ []) ((differ a.rows a.clients, 2) ∷ (clients_outside a.clients, 3) ∷ []) _ c.in_err-settings_cause.ensures
+    let told : number_in c.from_residual.result ≡ number_of c.in_err-valid.field-0.0 = search rules in
+    told ∙ refused_first ((settings_outside a.settings, 1) ∷ []) ((differ a.rows a.clients, 2) ∷ (clients_outside a.clients, 3) ∷ []) _ c.in_err-valid.ensures.number
 
-pub returns-then-rows-clients : goal.returns-then-rows-clients
+pub returns-then-rows-clients-clause-number : goal.returns-then-rows-clients-clause-number
 unfolding planners_cause
-returns-then-rows-clients c =
+returns-then-rows-clients-clause-number c =
     let a = c.args in
-    passed_first ((settings_outside a.settings, 1) ∷ []) ((differ a.rows a.clients, 2) ∷ (clients_outside a.clients, 3) ∷ []) ((λ e. omega (arith, e)), tt) c.in_ok-settings_cause.ensures 2
+    passed_first ((settings_outside a.settings, 1) ∷ []) ((differ a.rows a.clients, 2) ∷ (clients_outside a.clients, 3) ∷ []) ((λ e. omega (arith, e)), tt) c.in_ok-valid.ensures.number 2
     (sym (cause_hit (differ a.rows a.clients) 2 _ (ap not (ne_eqb a.rows a.clients c.if-rows-clients.true))))
 
-pub returns : goal.returns
+pub returns-in_err-clients_cause-clause-number : goal.returns-in_err-clients_cause-clause-number
 unfolding planners_cause
-returns c =
+returns-in_err-clients_cause-clause-number c =
     let a = c.args in
-    passed_first ((settings_outside a.settings, 1) ∷ []) ((differ a.rows a.clients, 2) ∷ (clients_outside a.clients, 3) ∷ []) ((λ e. omega (arith, e)), tt) c.in_ok-settings_cause.ensures _
-    (c.clients_cause.ensures ∙ sym (cause_skip (differ a.rows a.clients) 2 _ (ap not (eq-eqb a.rows a.clients c.if-rows-clients.false))))
+    let told : number_in c.from_residual-in_err-clients_cause.result ≡ number_of c.in_err-clients_cause.field-0.0 = search rules in
+    told
+    ∙ passed_first ((settings_outside a.settings, 1) ∷ []) ((differ a.rows a.clients, 2) ∷ (clients_outside a.clients, 3) ∷ []) ((λ e. omega (arith, e)), tt) c.in_ok-valid.ensures.number _
+    (c.in_err-clients_cause.ensures ∙ sym (cause_skip (differ a.rows a.clients) 2 _ (ap not (eq-eqb a.rows a.clients c.if-rows-clients.false))))
+
+pub returns-clause-number : goal.returns-clause-number
+unfolding planners_cause
+returns-clause-number c =
+    let a = c.args in
+    passed_first ((settings_outside a.settings, 1) ∷ []) ((differ a.rows a.clients, 2) ∷ (clients_outside a.clients, 3) ∷ []) ((λ e. omega (arith, e)), tt) c.in_ok-valid.ensures.number 0
+    (c.in_ok-clients_cause.ensures ∙ sym (cause_skip (differ a.rows a.clients) 2 _ (ap not (eq-eqb a.rows a.clients c.if-rows-clients.false))))

@@ -8,5 +8,5 @@ use Rattle.pages.proofs.counts.any_unreadable.Goals as goal
 pub returns : goal.returns
 returns c =
     let a = c.args in
-    any_from_yields_List (unreadable_one a.settings) _ _ _ c.any.ensures.ran (YieldsList-from_slice a.clients.now cc) (λ x b q k. search rules)
-    ∙ any_listed a.settings a.clients.now
+    any_from_yields_List (unreadable_one a.settings.values) _ _ _ c.any.ensures.ran (YieldsList-from_slice a.clients.now cc) (λ x b q k. search rules)
+    ∙ any_listed a.settings.values a.clients.now

@@ -11,13 +11,12 @@ use Rattle.pages.proofs.rows.fill_rows.Goals as goal
 
 pub row_of-requires : goal.row_of-requires
 row_of-requires c =
-    let q = c.requires in
-    (q.0, each_readable c.args.settings c.args.clients.now q.2 c.loop-at.at _ c.loop-at-test.true)
+    (c.args.settings.settled, each_readable c.args.settings.values c.args.clients.now c.requires.1 c.loop-at.at _ c.loop-at-test.true)
 
 pub loop-at-preserved : goal.loop-at-preserved
 unfolding rows_of
 loop-at-preserved c =
-    let s = c.args.settings in
+    let s = c.args.settings.values in
     let clients = c.args.clients.now in
     let rows = c.args.rows.now in
     let at = c.loop-at.at in
@@ -27,16 +26,16 @@ loop-at-preserved c =
     ap (λ (l : List Row). set l at c.row_of.result) c.loop-at.invariant
     ∙ ap (set (paste rows 0 made at) at) (c.row_of.ensures ∙ sym (get_or-map f clients at _ c.row_of.result b))
     ∙ ap (λ (k : ℕ). set (paste rows 0 made at) k (get_or made at c.row_of.result)) (sym (zero-add at))
-    ∙ paste_more rows 0 made at c.row_of.result (omega (arith, c.requires.1)) (omega (arith, length-map clients f))
+    ∙ paste_more rows 0 made at c.row_of.result (omega (arith, c.requires.0)) (omega (arith, length-map clients f))
 
 pub returns : goal.returns
 unfolding rows_of
 returns c =
-    let s = c.args.settings in
+    let s = c.args.settings.values in
     let clients = c.args.clients.now in
     let rows = c.args.rows.now in
     let made = rows_of s clients in
     let f = λ (one : Client). row_of s one.«record» in
     let whole : c.loop-at.at ≡ length made = omega (arith, length-map clients f, c.loop-at-test.false) in
-    let none : drop (0 + c.loop-at.at) rows ≡ [] = drop_of_length-le rows {i = 0 + c.loop-at.at} (omega (arith, c.requires.1, c.loop-at-test.false)) in
+    let none : drop (0 + c.loop-at.at) rows ≡ [] = drop_of_length-le rows {i = 0 + c.loop-at.at} (omega (arith, c.requires.0, c.loop-at-test.false)) in
     c.loop-at.invariant ∙ paste_all rows 0 made c.loop-at.at whole ∙ ap (λ (l : List Row). made ++ l) none ∙ append-nil made

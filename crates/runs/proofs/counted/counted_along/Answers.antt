@@ -16,6 +16,11 @@ use Rattle.runs.proofs.counted.counted_along.Goals as goal
 number_same : (x y : Stepped) → x ≡ y → x.number ≡ y.number
 number_same x y e = ap (λ (z : Stepped). z.number) e
 
+pub invariant_of-valid : goal.invariant_of-valid
+invariant_of-valid c =
+    let a = c.args in
+    let b : 0 < length (ahead_of a.settings a.client a.clock) = omega (arith, c.requires) in record { settled = (posting a.settings a.client a.clock 0 b).settings }
+
 pub returns-in_err-after : goal.returns-in_err-after
 returns-in_err-after c =
     let a = c.args in
@@ -38,7 +43,7 @@ operation_ahead-posted-requires c =
     let a = c.args in
     let i = c.loop-i.i in
     let b : i < length (ahead_of a.settings a.client a.clock) = omega (arith, c.requires.1) in
-    let p = posting a.settings a.client a.clock i b in (p.settings, p.sound, subst (λ (os : List Operation). i < length os) p.list b)
+    let p = posting a.settings a.client a.clock i b in (p.sound, subst (λ (os : List Operation). i < length os) p.list b)
 
 -- what is known of the operation of a turn, by its place
 of_turn : (s : Settings) (t : ℕ) (c d : Client) (o : Operation) (w : ℕ) (answer : Option Client) (i : ℕ) → i < length (ahead_of s c t) → counted_by d answer ≡ one_counted s t d o w

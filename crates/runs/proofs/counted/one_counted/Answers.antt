@@ -16,11 +16,17 @@ returns-in_err-next c =
     ∙ not_taken a.settings a.clock a.client a.posted a.found
     (refused_number a.settings a.clock a.client a.posted a.found _ c.completed.ensures (sym c.ok.ensures.value ∙ c.in_err-next.was))
 
+pub invariant_of-valid : goal.invariant_of-valid
+invariant_of-valid c =
+    let a = c.args in
+    let e = accepted_next a.settings a.clock a.client a.posted a.found _ c.completed.ensures c.in_ok-next.next (sym c.ok.ensures.value ∙ c.in_ok-next.was) in
+    record { settled = (tested a.settings a.client a.clock (sym (passed a.settings a.clock a.client a.posted a.found (sym (ap (λ (x : Stepped). x.number) e))))).settings }
+
 pub operation-requires : goal.operation-requires
 operation-requires c =
     let a = c.args in
     let e = accepted_next a.settings a.clock a.client a.posted a.found _ c.completed.ensures c.in_ok-next.next (sym c.ok.ensures.value ∙ c.in_ok-next.was) in
-    let t = tested a.settings a.client a.clock (sym (passed a.settings a.clock a.client a.posted a.found (sym (ap (λ (x : Stepped). x.number) e)))) in (t.settings, t.sound, t.taken)
+    let t = tested a.settings a.client a.clock (sym (passed a.settings a.clock a.client a.posted a.found (sym (ap (λ (x : Stepped). x.number) e)))) in (t.sound, t.taken)
 
 -- whether the client's own operation is the one that was posted
 own_same : (own due posted : Operation) (eq found : Bool) → own ≡ due → eq ≡ same own posted → eq ≡ found → same due posted ≡ found

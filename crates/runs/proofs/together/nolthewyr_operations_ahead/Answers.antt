@@ -20,13 +20,20 @@ inside os ws k now e h = subst (λ (n : ℕ). k < n) (sym (ap length e ∙ laid_
 pub loop-i-init : goal.loop-i-init
 loop-i-init c = sym (laid_none (ahead_of c.args.settings c.args.client c.args.clock) c.args.operations.now)
 
+pub invariant_of-valid : goal.invariant_of-valid
+invariant_of-valid c =
+    let a = c.args in
+    let n = c.unwrap_or-i-end.ensures ∙ count_by c.answer_ahead-answer.result ∙ counted a.settings a.client a.clock (length a.operations.now) _ c.answer_ahead-answer.ensures in
+    let below : c.loop-i.i < length (ahead_of a.settings a.client a.clock) = omega (arith, n, c.loop-i-test.true) in
+    record { settled = (posting a.settings a.client a.clock c.loop-i.i below).settings }
+
 pub operation_ahead-requires : goal.operation_ahead-requires
 operation_ahead-requires c =
     let a = c.args in
     let n = c.unwrap_or-i-end.ensures ∙ count_by c.answer_ahead-answer.result ∙ counted a.settings a.client a.clock (length a.operations.now) _ c.answer_ahead-answer.ensures in
     let below : c.loop-i.i < length (ahead_of a.settings a.client a.clock) = omega (arith, n, c.loop-i-test.true) in
     let p = posting a.settings a.client a.clock c.loop-i.i below in
-    (p.settings, p.sound, subst (λ (l : List Operation). c.loop-i.i < length l) p.list below)
+    (p.sound, subst (λ (l : List Operation). c.loop-i.i < length l) p.list below)
 
 pub offset_bounds-operations-i : goal.offset_bounds-operations-i
 offset_bounds-operations-i c =
