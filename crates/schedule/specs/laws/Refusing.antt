@@ -3,6 +3,9 @@ use Rattle.std.specs.Prelude.{◌≡◌, refl, List, ℕ, ◌≤◌, ◌<◌, le
 use Rattle.std.proofs.Math.Path.{sym, ap}
 use Rattle.std.proofs.Common.{◌∙◌, arith, length-take}
 use Rattle.base.specs.laws.ChoiceLaws.{choose_eq, choose_ne, by_eq}
+use Rattle.base.specs.declared.Refusal.{Refusal}
+use Rattle.base.specs.declared.Refusal.TheVariants.{Settings, WordCount, Clients, Client, Clock, Unreadable, Window, Phase, ClearBit, File, TooLarge, Calendar, Order, Closed}
+use Rattle.base.specs.rules.Refusals.{number_of}
 use Rattle.io.specs.Counts.{IsPrefixLen}
 use Rattle.schedule.specs.rules.Format.{file_cause}
 use Rattle.schedule.specs.rules.Running.{opening_in}
@@ -11,6 +14,23 @@ use Rattle.schedule.specs.rules.Text.{PutInto}
 use Rattle.schedule.specs.laws.Appended.{Appended}
 
 -- ---- the number
+
+-- a cause has a number other than 0
+pub some_number : (r : Refusal) → number_of r ≡ 0 → ⊥
+some_number Settings e = omega (arith, e)
+some_number WordCount e = omega (arith, e)
+some_number Clients e = omega (arith, e)
+some_number Client e = omega (arith, e)
+some_number Clock e = omega (arith, e)
+some_number Unreadable e = omega (arith, e)
+some_number Window e = omega (arith, e)
+some_number Phase e = omega (arith, e)
+some_number ClearBit e = omega (arith, e)
+some_number File e = omega (arith, e)
+some_number TooLarge e = omega (arith, e)
+some_number Calendar e = omega (arith, e)
+some_number Order e = omega (arith, e)
+some_number Closed e = omega (arith, e)
 
 module _ (bytes : List ℕ) where
   pub file_refuses : (n : ℕ) → n ≡ file_cause bytes → (n ≡ 0 → ⊥) → n ≡ refusal bytes
