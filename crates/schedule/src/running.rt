@@ -1,5 +1,5 @@
 // The client table of a schedule and the words of its tree, on which the calls are made. Nothing is written here.
-ghost use Rattle.std.specs.Prelude.{◌≡◌, ◌≤◌, map, replicate, take};
+ghost use Rattle.std.specs.Prelude.{◌≡◌, ◌≤◌, length, map, replicate, take};
 ghost use Rattle.table.specs.rules.Lent.{lent, left_with};
 ghost use Rattle.lock.specs.rules.ByValue.{call_of};
 ghost use Rattle.lock.specs.rules.History as History;
@@ -77,7 +77,8 @@ impl Table {
 
     // The clients, as many as the schedule has.
     pub fn clients(&self) -> &[Client]
-        ensures { result.now ≡ self.now.clients }
+        ensures clients { result.now ≡ self.now.clients }
+        ensures few { length result.now ≤ 64 }
     {
         &self.clients[..self.count]
     }

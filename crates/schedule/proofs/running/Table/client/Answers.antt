@@ -10,4 +10,4 @@ returns c =
     let client = c.args.client in
     let idle = c.idle.result in
     c.unwrap_or.ensures ∙ ap (λ (o : Option Client). unwrap_or o idle) c.copied.ensures ∙ c.get-own.ensures.lookup.4 (le_refl client) idle
-    ∙ ap (λ (l : List Client). get_or l client idle) c.clients.ensures ∙ ap (get_or c.args.self.now.clients client) c.idle.ensures
+    ∙ ap (λ (l : List Client). get_or l client idle) c.clients.ensures.clients ∙ ap (get_or c.args.self.now.clients client) c.idle.ensures
