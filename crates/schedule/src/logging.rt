@@ -1,8 +1,8 @@
 // The log of a schedule: the file is examined, its opening too, and each call is made and its line written.
-ghost use Rattle.std.specs.Prelude.{◌≡◌, ◌++◌, ◌≤◌, length, map, take};
+ghost use Rattle.std.specs.Prelude.{◌≡◌, ℕ, ◌++◌, ◌≤◌, length, map, take};
 ghost use Rattle.base.specs.rules.Refusals.{number_of};
 ghost use Rattle.io.specs.Counts.{IsPrefixLen};
-ghost use Rattle.lock.specs.rules.ByValue.{call_of};
+ghost use Rattle.lock.specs.rules.ByValue.{call_of, call_by};
 ghost use Rattle.schedule.specs.rules.Log.{room, kind_text, header_line, line, lines, Logged};
 ghost use Rattle.schedule.specs.rules.Refusal.{refused_line};
 ghost use Rattle.schedule.specs.laws.FormatLaws.{call_of_bytes};
@@ -10,18 +10,19 @@ ghost use Rattle.schedule.specs.laws.RunLaws.{fresh};
 
 use crate::{Line, Schedule, format};
 use base::Refusal;
-use lock::{Call, Record, Settings};
+use lock::{Call, Kind, Record, Settings};
 
-// The name of a call's kind: 0 request, 1 step, 2 release, 3 cancel.
-fn kind_name(call: Call) -> &'static [u8]
-    ensures name { result.now ≡ kind_text (call_of call.kind call.client call.a call.b) }
+// The name of a kind.
+#[tactic(auto, unfolding(crate::specs::rules::Log::kind_text))]
+fn kind_name(kind: Kind) -> &'static [u8]
+    ensures name { (client a b : ℕ) → result.now ≡ kind_text (call_by kind client a b) }
     ensures short { length result.now ≤ 7 }
 {
-    match call.kind {
-        0 => b"request",
-        1 => b"step",
-        2 => b"release",
-        _ => b"cancel",
+    match kind {
+        Kind::Request => b"request",
+        Kind::Step => b"step",
+        Kind::Release => b"release",
+        Kind::Cancel => b"cancel",
     }
 }
 
@@ -47,7 +48,7 @@ fn made(k: u64, call: Call, number: u64, after: Record) -> Line
     let mut line = Line::new();
     line.decimal(k);
     line.text(b" ");
-    line.text(kind_name(call));
+    line.text(kind_name(Kind::from(call.kind)));
     line.numbers(&[call.client, number, after.phase, after.left, after.right]);
     line.text(b"\n");
     line
