@@ -51,7 +51,7 @@ impl Record {
             | ((self.outcome == 4) & (self.current == 0))
     }
 
-    // 6 to 10, where a piece that is not being returned has its bits or Occ: "3 in 6..9". The phase stays the number that C lends, and is matched as document 01 has it.
+    // 6 to 10, where a piece that is not being returned has its bits or Occ: "3 in 6..9". Document 01 names this form, a match on the phase number.
     fn taken_wrong(self, settings: ValidSettings, node: u64, leaf: bool) -> bool
         requires { Begun settings.values self × (6 ≤ self.phase) × (node ≡ current_piece self) × (leaf ≡ is_leaf settings.values (current_piece self)) }
         ensures { result ≡ own_wrong settings.values self }

@@ -44,7 +44,7 @@ impl Record {
         tree::notify_node(settings.values.distance, n, self.place - 1)
     }
 
-    // The node that the phase touches, 0 for none. A match on the phase number picks the work, a row of the phase table an arm: document 01 has a step be that.
+    // The node that the phase touches, 0 for none. Document 01 names this form, a match on the phase number 0..10, so the phase is a number here and no enum.
     #[tactic(auto, unfolding(crate::specs::rules::Steps::touched_in, crate::specs::rules::Records::phase_of, base::specs::rules::Choice::choose), using(crate::proofs::laws::MoveLaws::touched_none))]
     pub fn own_touched(self, settings: ValidSettings) -> u64
         requires { Sound settings.values self }

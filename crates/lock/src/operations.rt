@@ -184,7 +184,7 @@ impl Record {
         Access::Add(DCNT_ONE)
     }
 
-    // The access of the record's phase. A match on the phase number picks it, a row of the phase table an arm: document 01 has a step be that.
+    // The access of the record's phase. Document 01 names this form, a match on the phase number 0..10 that picks the one operation.
     #[tactic(auto, unfolding(crate::specs::rules::Steps::access_in, crate::specs::rules::Records::phase_of, base::specs::rules::Choice::choose), using(crate::proofs::laws::OperationLaws::access_none))]
     fn own_access(self, settings: ValidSettings) -> Access
         requires { Sound settings.values self }
