@@ -10,7 +10,7 @@ mod planners;
 mod rows;
 mod run;
 
-pub use counts::in_phase_9;
+pub use counts::{held_count, in_phase_9};
 pub use planners::nolthewyr_planners_page;
 pub use rows::row_of;
 pub use run::nolthewyr_run_page;

@@ -23,19 +23,19 @@ pub fn row_of(one: Record, settings: Settings, last: u64) -> Row
             steps: 0,
         };
     }
-    let answer = cover::cover(settings.levels, one.left, one.right);
+    let pieces = cover::window_pieces(settings.levels, one.left, one.right);
     Row {
         phase: one.phase,
         left: one.left,
         right: one.right,
         first: one.first,
         second: one.second,
-        over: answer.over,
+        over: pieces.over,
         steps: lock::pieces_steps(
             settings.levels,
             settings.distance,
-            answer.first,
-            answer.second,
+            pieces.first,
+            pieces.second,
         ),
     }
 }

@@ -276,7 +276,7 @@ pub extern "C" fn probe_check_node(h: u64, m: u64, n: u64, i: u64) -> u64
 pub extern "C" fn probe_cover(h: u64, l: u64, r: u64) -> cover::Answer
     ensures { result ≡ answer h l r }
 {
-    cover::cover(h, l, r)
+    cover::cover(h, l, r).into()
 }
 
 #[unsafe(no_mangle)]

@@ -2,6 +2,7 @@ pub mod Appended
 pub mod Decimal
 pub mod FormatLaws
 pub mod Little
+pub mod Numbers
 pub mod Refusing
 pub mod RunLaws
 pub mod ShelfLaws

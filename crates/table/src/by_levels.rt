@@ -8,7 +8,7 @@ ghost use Rattle.table.specs.rules.Wanted.{words_wanted};
 pub fn nolthewyr_cover(levels: u64, left: u64, right: u64) -> cover::Answer
     ensures { result ≡ answer levels left right }
 {
-    cover::cover(levels, left, right)
+    cover::cover(levels, left, right).into()
 }
 
 // How many steps [left, right) needs on an otherwise idle tree. Tests 1 for the levels and the distance, then 7.

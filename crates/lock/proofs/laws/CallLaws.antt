@@ -6,8 +6,8 @@ use Rattle.std.proofs.Math.Bool.{true, false, not}
 use borrow.Author.Tests.{eq-eqb, ne_eqb, eqb-true, eqb-false, not-true, not-false}
 use Rattle.std.specs.Prelude.{Result, Ok, Err}
 use Rattle.base.specs.declared.Refusal.{Refusal}
-use Rattle.base.specs.declared.Refusal.TheVariants.{Settings as SettingsOut, WordCount, Clients, Client as NoClient, Clock, Unreadable, Window, Phase, ClearBit, File, TooLarge, Calendar, Order, Closed}
 use Rattle.base.specs.rules.Refusals.{number_of}
+use Rattle.base.specs.laws.RefusalLaws.{some_number}
 use Rattle.base.specs.rules.Choice.{choose}
 use Rattle.base.specs.laws.ChoiceLaws.{on_choose, choose_eq, choose_ne}
 use Rattle.tree.specs.rules.Tree.{word_count}
@@ -120,20 +120,7 @@ module _ (number : ℕ) (c next : Client) where
 -- ---- the answer of a call in code
 
 pub cause_some : (e : Refusal) → number_of e ≡ 0 → ⊥
-cause_some SettingsOut z = omega (arith, z)
-cause_some WordCount z = omega (arith, z)
-cause_some Clients z = omega (arith, z)
-cause_some NoClient z = omega (arith, z)
-cause_some Clock z = omega (arith, z)
-cause_some Unreadable z = omega (arith, z)
-cause_some Window z = omega (arith, z)
-cause_some Phase z = omega (arith, z)
-cause_some ClearBit z = omega (arith, z)
-cause_some File z = omega (arith, z)
-cause_some TooLarge z = omega (arith, z)
-cause_some Calendar z = omega (arith, z)
-cause_some Order z = omega (arith, z)
-cause_some Closed z = omega (arith, z)
+cause_some e z = omega (arith, z, some_number e)
 
 module _ (number : ℕ) (c next : Client) where
   pub accepted_by : (y : Client) → 0 ≡ number → y ≡ next → stepped_by c (Ok y) ≡ answered number c next
