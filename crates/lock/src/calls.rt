@@ -14,7 +14,7 @@ ghost use Rattle.lock.specs.laws.ByKind.{clear_bit, left_by};
 use crate::{Call, Client, Kind, Record, Settings, ValidSettings};
 use base::Refusal;
 
-// "Node n is word n - 1 of the lent 64-bit words"; 0 stands for no node.
+// "Node n is word n - 1 of the lent 64-bit words"; 0 stands for no node, in the rules (`touched`) and in the operations that C is handed, so that an Option would be made and taken apart again.
 fn word_at(words: &[u64], n: u64) -> u64
     requires { n ≤ length words.now }
     ensures { result ≡ word_at words.now n }

@@ -53,7 +53,7 @@ pub struct Client {
     pub record: Record,
 }
 
-// A call as a schedule has it: the kind (0 request, 1 step, 2 release, 3 cancel), the client, the edges a and b of a request or the clock a of a step.
+// A call as a schedule has it: the kind (0 request, 1 step, 2 release, 3 cancel), the client, the edges a and b of a request or the clock a of a step. The C interface has the kind as a number.
 #[repr(C)]
 #[derive(Clone, Copy)]
 pub struct Call {
@@ -86,7 +86,7 @@ impl From<u64> for Kind {
     }
 }
 
-// What a call answers to C: its number (0 accepted), and the client after it.
+// What a call answers to C: its number (0 accepted), and the client after it. In Rattle it is a Result.
 #[repr(C)]
 #[derive(Clone, Copy)]
 pub struct Stepped {
@@ -108,7 +108,7 @@ pub struct Operation {
     pub value: u64,
 }
 
-// How many steps a window needs: number 0 and the steps; else the cause of a refusal, and 0.
+// How many steps a window needs, as C is told: number 0 and the steps; else the cause of a refusal, and 0.
 #[repr(C)]
 #[derive(Clone, Copy)]
 pub struct StepCount {
