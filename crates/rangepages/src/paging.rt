@@ -54,7 +54,8 @@ fn put_both(schedule: &Schedule, out: &mut [u8]) -> usize
     put_records(out, end, &table, held)
 }
 
-// The whole file is examined first. The pages are in the first bytes of `out`; the answer is how many they are.
+// The whole file is examined first, as for the log: one function for both would say in its own contract what the writer that it takes promises, which is no
+// shorter. The pages are in the first bytes of `out`; the answer is how many they are.
 pub fn put_pages(bytes: &[u8], out: &mut [u8]) -> usize
     ensures pages { Paged bytes.now out.old out.new result }
     ensures inside { IsPrefixLen result out.new }

@@ -1,4 +1,5 @@
 pub mod Appended
+pub mod ByPlace
 pub mod Decimal
 pub mod FormatLaws
 pub mod Little

@@ -15,7 +15,7 @@ use std::marker::Model;
 use table::table_act;
 
 // A client table and the words of its tree, in memory for 64 clients and a tree of 6 levels: the first `count` clients and the first `last` words are the
-// schedule's.
+// schedule's. (Two `ArrayVec`s behind one reference could not be lent together.)
 #[derive(Drop)]
 pub struct Table {
     clients: [Client; 64],

@@ -1,6 +1,6 @@
 -- Laws: what is known of a run of a schedule that is not refused, and its pages' text. Assumes nothing.
-use Rattle.std.specs.Prelude.{◌≡◌, ℕ, length, take}
-use Rattle.std.proofs.Common.{ap₂, ◌∙◌}
+use Rattle.std.specs.Prelude.{◌≡◌, ℕ, suc, ◌+◌, ◌≤◌, length, take}
+use Rattle.std.proofs.Common.{ap₂, ◌∙◌, arith}
 use Rattle.std.proofs.Math.Path.{ap}
 use mathlib.Core.List.{List, ◌++◌}
 use Rattle.std.proofs.Math.ListN.{length-replicate}
@@ -14,8 +14,9 @@ use Rattle.lock.proofs.laws.Accepted.{opened_accepted}
 use Rattle.lock.specs.laws.Active.{Settled}
 use Rattle.lock.proofs.claim.Readable.{every_readable}
 use Rattle.pages.specs.declared.Row.{Row}
-use Rattle.pages.specs.rules.Pages.{row_of, held_count}
+use Rattle.pages.specs.rules.Pages.{row_of, in_phase9, held_count}
 use Rattle.pages.proofs.laws.Histories.{same_count}
+use Rattle.pages.proofs.laws.CountLaws.{phase_9_most, held_most}
 use Rattle.schedule.specs.rules.Format.{settings_in, clients_in, calls_in, lent_for}
 use Rattle.schedule.specs.rules.Running.{opening_in, after_calls}
 use Rattle.schedule.specs.rules.Refusal.{refusal}
@@ -23,6 +24,10 @@ use Rattle.schedule.specs.laws.RunLaws.{fresh, all_made}
 use Rattle.schedule.specs.laws.Refusing.{opening_passes, run_whole}
 use Rattle.schedule.specs.laws.Appended.{Appended, joined}
 use Rattle.rangepages.specs.rules.Printed.{row_text, row_line, record_line, line_each, pages_text, pages_of}
+
+-- the count of the first i, and one client more
+pub held_few : (l : List Client) (i n m : ℕ) (r : Record) → n ≡ held_count (take i l) → m ≡ in_phase9 r.phase → n + m ≤ suc i
+held_few l i n m r e f = omega (arith, e, f, held_most l i, phase_9_most r.phase)
 
 -- a line with the client and the row as the code has them
 pub row_put : (s : Settings) (client : ℕ) (own c : Client) (w : Row) → own ≡ c → w ≡ row_of s own.«record» → row_text client w ≡ row_line s client c.«record»

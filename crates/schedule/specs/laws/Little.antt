@@ -1,8 +1,9 @@
 -- Laws of `little`: a number of bytes by its two halves, and its bound. Assumes nothing.
 use Rattle.std.specs.Prelude.{◌≡◌, List, get_or}
-use Rattle.std.proofs.Common.{add-zero, zero-add, suc-add}
+use Rattle.std.proofs.Common.{sym, add-zero, zero-add, suc-add}
 use Prim.Native.Nat.{ℕ, zero, suc, ◌+◌, ◌*◌, ◌^◌, ◌≤◌, ◌<◌}
 use Rattle.std.proofs.Math.Nat.{add-suc, mul_assoc, pow-succ', pow-le-pow_right}
+use Rattle.std.proofs.Math.Numerals.{add-one}
 use native.Mathlib.Omega.{arith}
 use Rattle.schedule.specs.rules.Format.{little}
 
@@ -16,6 +17,16 @@ module _ (bytes : List ℕ) where
       let rest : little (m + n) bytes (suc i) ≡ little m bytes (suc i) + 256 ^ m * above = rw (suc-add i m) at (little_split m n (suc i)) in
       let power : 256 ^ suc m * above ≡ 256 * (256 ^ m * above) = rw (pow-succ' 256 m, mul_assoc 256 (256 ^ m) above) in
       rw (suc-add m n, add-suc i m) (omega arith)
+
+  pub little_two : (i : ℕ) → get_or bytes i 0 + 256 * get_or bytes (i + 1) 0 ≡ little 2 bytes i
+  unfolding little
+  little_two i = rw add-one (omega arith)
+
+  pub little_four : (i : ℕ) → little 2 bytes i + 65536 * little 2 bytes (i + 2) ≡ little 4 bytes i
+  little_four i = sym (little_split 2 2 i)
+
+  pub little_eight : (i : ℕ) → little 4 bytes i + 4294967296 * little 4 bytes (i + 4) ≡ little 8 bytes i
+  little_eight i = sym (little_split 4 4 i)
 
   -- one byte more, below those that are read
   pub little_next : (n m i j : ℕ) → m ≡ suc n → j ≡ suc i → 256 * little n bytes j + get_or bytes i 0 ≡ little m bytes i
