@@ -26,7 +26,7 @@ pub struct ValidSettings {
 // piece (0 or 1, the last begun), the piece being given back, the current piece's grip, ticket, place in the list it walks, notices that the
 // current piece gave, and the noted times; the last of them is the clock at which the first piece was taken.
 #[repr(C)]
-#[derive(Clone, Copy, Default)]
+#[derive(Clone, Copy, Default, PartialEq, Eq)]
 pub struct Record {
     pub phase: u64,
     pub outcome: u64,

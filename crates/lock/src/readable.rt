@@ -7,23 +7,12 @@ ghost use Rattle.lock.specs.laws.OwnTests.{not_begun};
 use crate::{Record, ValidSettings};
 
 impl Record {
-    // "idle with a nonzero field beside the outcome"
+    // "idle with a nonzero field beside the outcome"; a derived `==` says in a proof what it compares, and `!=` does not.
     fn idle_filled(self) -> bool
+        requires { self.phase ≡ 0 }
         ensures { result ≡ idle_filled self }
     {
-        (0 < self.left)
-            | (0 < self.right)
-            | (0 < self.first)
-            | (0 < self.second)
-            | (0 < self.current)
-            | (0 < self.giving)
-            | (0 < self.grip)
-            | (0 < self.ticket)
-            | (0 < self.place)
-            | (0 < self.notices)
-            | (0 < self.t1)
-            | (0 < self.t0)
-            | (0 < self.taken)
+        !(self == Record::idle_with(self.outcome))
     }
 
     // "a window outside the tree, pieces that aren't its cover, a current piece that doesn't exist, a ticket over 32,767", "a noted time after the last clock"; 2.2, "a
