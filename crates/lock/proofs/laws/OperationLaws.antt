@@ -8,14 +8,15 @@ use borrow.Author.Tests.{eq-eqb, ne_eqb, ltb-false, le-ltb}
 use Rattle.std.proofs.Math.Dec.{T}
 use Rattle.base.specs.rules.Choice.{choose}
 use Rattle.base.specs.laws.ChoiceLaws.{choose_no, choose_eq, choose_ne}
+use Rattle.word.specs.rules.Word.{deltas}
 use Rattle.lock.specs.declared.Client.{Client}
 use Rattle.lock.specs.declared.Operation.{Operation}
 use Rattle.lock.specs.declared.Record.{Record}
 use Rattle.lock.specs.declared.Settings.{Settings}
 use Rattle.lock.specs.declared.Stepped.{Stepped}
-use Rattle.lock.specs.rules.Records.{phase_of, client_with}
+use Rattle.lock.specs.rules.Records.{phase_of, current_piece, given_piece, is_leaf, grip_of, client_with}
 use Rattle.lock.specs.rules.Unreadable.{differ, unreadable}
-use Rattle.lock.specs.rules.Steps.{Moved, Access, none, read, add, swap, applied, access_in, out_of_patience, access, touched, completed, moved}
+use Rattle.lock.specs.rules.Steps.{Moved, wanted, Access, none, read, add, swap, applied, claim_access, own_word_access, return_access, access_in, out_of_patience, access, touched, completed, moved}
 use Rattle.lock.specs.rules.Calls.{Tests, first_cause, settings_outside, answered}
 use Rattle.lock.specs.rules.Operations.{operation_at, refused_operation, access_of, post_tests, operation_answer, completed_tests, completed_answer}
 use Rattle.lock.proofs.laws.CallLaws.{cause_hit, cause_skip, answer_accepted, refused_by}
@@ -25,6 +26,49 @@ use Rattle.lock.proofs.laws.Rows.{Nine, moved_nine}
 -- ---- the rows
 
 module _ (s : Settings) (r : Record) where
+  abbrev claimed : ℕ
+  claimed = wanted s r (current_piece r)
+
+  abbrev given : ℕ
+  given = wanted s r (given_piece r)
+
+  pub claim_swap : is_leaf s (current_piece r) ≡ true → claim_access s r ≡ swap claimed 0 claimed claimed
+  unfolding claim_access choose
+  claim_swap e = ap (λ (b : Bool). choose b (swap claimed 0 claimed claimed) (add (deltas 0 1 0 0 0 0))) e
+
+  pub claim_add : is_leaf s (current_piece r) ≡ false → claim_access s r ≡ add (deltas 0 1 0 0 0 0)
+  unfolding claim_access choose
+  claim_add e = ap (λ (b : Bool). choose b (swap claimed 0 claimed claimed) (add (deltas 0 1 0 0 0 0))) e
+
+  abbrev inner : Access
+  inner = choose (eqb (grip_of r r.giving) 3) (add (deltas 0 1 1 0 0 0)) (choose (eqb (grip_of r r.giving) 2) (add (deltas 0 0 1 0 0 0)) read)
+
+  pub own_swap : is_leaf s (given_piece r) ≡ true → own_word_access s r ≡ swap given given given 0
+  unfolding own_word_access choose
+  own_swap e = ap (λ (b : Bool). choose b (swap given given given 0) inner) e
+
+  module _ (e : is_leaf s (given_piece r) ≡ false) where
+    own_inner : own_word_access s r ≡ inner
+    unfolding own_word_access choose
+    own_inner = ap (λ (b : Bool). choose b (swap given given given 0) inner) e
+
+    pub own_occ : grip_of r r.giving ≡ 3 → own_word_access s r ≡ add (deltas 0 1 1 0 0 0)
+    own_occ g = own_inner ∙ choose_eq (grip_of r r.giving) 3 _ _ g
+
+    pub own_turn : grip_of r r.giving ≡ 2 → own_word_access s r ≡ add (deltas 0 0 1 0 0 0)
+    own_turn g = own_inner ∙ choose_ne (grip_of r r.giving) 3 _ _ (λ f. omega arith) ∙ choose_eq (grip_of r r.giving) 2 _ _ g
+
+    pub own_read : (grip_of r r.giving ≡ 3 → ⊥) → (grip_of r r.giving ≡ 2 → ⊥) → own_word_access s r ≡ read
+    own_read d f = own_inner ∙ choose_ne (grip_of r r.giving) 3 _ _ d ∙ choose_ne (grip_of r r.giving) 2 _ _ f
+
+  pub return_own : r.place ≡ 0 → return_access s r ≡ own_word_access s r
+  unfolding return_access
+  return_own e = choose_eq r.place 0 _ _ e
+
+  pub return_notice : (r.place ≡ 0 → ⊥) → return_access s r ≡ add (deltas 0 0 0 0 1 0)
+  unfolding return_access
+  return_notice d = choose_ne r.place 0 _ _ d
+
   -- a phase that touches nothing
   pub access_none : (r.phase ≡ 1 → ⊥) → (r.phase ≡ 2 → ⊥) → (r.phase ≡ 3 → ⊥) → (r.phase ≡ 4 → ⊥) → (r.phase ≡ 5 → ⊥)
       → (r.phase ≡ 6 → ⊥) → (r.phase ≡ 8 → ⊥) → (r.phase ≡ 10 → ⊥) → access_in s r (phase_of r.phase) ≡ none
@@ -46,6 +90,14 @@ module _ (s : Settings) (r : Record) where
 module _ (o : Operation) where
   abbrev exchange : Access
   exchange = swap o.compared o.expected o.swapped o.value
+
+  pub kind_add : o.kind ≡ 2 → access_of o ≡ add o.value
+  unfolding access_of
+  kind_add e = choose_ne o.kind 1 _ _ (λ f. omega arith) ∙ choose_eq o.kind 2 _ _ e
+
+  pub kind_swap : o.kind ≡ 3 → access_of o ≡ exchange
+  unfolding access_of
+  kind_swap e = choose_ne o.kind 1 _ _ (λ f. omega arith) ∙ choose_ne o.kind 2 _ _ (λ f. omega arith) ∙ choose_eq o.kind 3 _ _ e
 
   -- any other leaves the word as it was found
   pub kind_leaves : (w : ℕ) → (o.kind ≡ 2 → ⊥) → (o.kind ≡ 3 → ⊥) → applied (access_of o) w ≡ w
@@ -192,9 +244,13 @@ module _ (s : Settings) (c : Client) (clock n : ℕ) (e : n ≡ first_cause (pos
       unfolding completed_tests
       behind = (post_tested s c clock n e).passed z _ ∙ ap (λ (x : Moved). first_cause ((differ x.number 0, 9) ∷ [])) (sym f)
 
-      pub completed_clear : (m.number ≡ 0 → ⊥) → record { number = m.number; next = c } ≡ completed_answer s c clock found
+      pub completed_clear : (m.number ≡ 0 → ⊥) → record { number = 9; next = c } ≡ completed_answer s c clock found
       unfolding completed_answer
-      completed_clear d =
+      completed_clear d = refused_by _ c next 9 (behind ∙ cause_hit _ 9 [] (ap not (ne_eqb m.number 0 d))) (λ y. omega arith)
+
+      pub completed_nine : (m.number ≡ 0 → ⊥) → record { number = m.number; next = c } ≡ completed_answer s c clock found
+      unfolding completed_answer
+      completed_nine d =
           let nine : m.number ≡ 9 = subst Nine (sym f) (moved_nine s c.«record» found clock) d in
           refused_by _ c next m.number (behind ∙ cause_hit _ 9 [] (ap not (ne_eqb m.number 0 d)) ∙ sym nine) d
 

@@ -6,11 +6,11 @@ use Prim.Native.Nat.{ℕ, suc, ◌+◌, ◌≤◌, ◌<◌}
 use native.Mathlib.Omega.{arith}
 use Rattle.base.specs.rules.Choice.{choose}
 use Rattle.base.specs.laws.ChoiceLaws.{choose_eq, choose_ne, choose_lt, choose_ge}
-use Rattle.word.specs.rules.Word.{Swap, add_tcnt, add_dcnt, give_bits, return_occ}
+use Rattle.word.specs.rules.Word.{Swap, tcnt, add_tcnt, add_dcnt, give_bits, return_occ}
 use Rattle.tree.specs.rules.Tree.{level}
 use Rattle.lock.specs.declared.Record.{Record}
 use Rattle.lock.specs.declared.Settings.{Settings}
-use Rattle.lock.specs.rules.Records.{given_piece, is_leaf, grip_of, notices_of, with_giving, with_place, idle_with}
+use Rattle.lock.specs.rules.Records.{given_piece, is_leaf, grip_of, notices_of, with_giving, with_grip, with_place, idle_with}
 use Rattle.lock.specs.rules.Steps.{piece_returned, word_returned, turn_returned, wanted}
 use Rattle.lock.specs.laws.Rows.{leaves, return_bits, return_inner, give_back}
 
@@ -26,6 +26,14 @@ module _ (r : Record) where
   unfolding piece_returned
   piece_next d =
       choose_ne (grip_of r (suc r.giving)) 0 _ _ (λ e. d (ap (grip_of r) plus_one ∙ e)) ∙ ap (λ (g : ℕ). with_place 0 (with_giving g r)) (sym plus_one)
+
+  pub turn_mine : (w : ℕ) → tcnt w ≡ r.ticket → turn_returned r w ≡ with_grip 2 r
+  unfolding turn_returned
+  turn_mine w e = choose_eq (tcnt w) r.ticket _ r e
+
+  pub turn_not_mine : (w : ℕ) → (tcnt w ≡ r.ticket → ⊥) → turn_returned r w ≡ r
+  unfolding turn_returned
+  turn_not_mine w d = choose_ne (tcnt w) r.ticket _ r d
 
 module _ (s : Settings) (r : Record) where
   pub word_more : r.place < notices_of s r r.giving → word_returned s r ≡ with_place (r.place + 1) r

@@ -15,8 +15,8 @@ use Rattle.tree.proofs.laws.Check.{check_count, check_count_lem}
 use Rattle.tree.proofs.laws.Closed.{first_small}
 use Rattle.lock.specs.declared.Record.{Record}
 use Rattle.lock.specs.declared.Settings.{Settings}
-use Rattle.lock.specs.rules.Records.{pieces, piece_at, current_piece, is_leaf, change, to_phase, with_grip, with_place, with_notices, with_t1, with_t0, sent_back}
-use Rattle.lock.specs.rules.Steps.{start_phase, begin, first_noted, taken, turn_awaited, go_up, climbed, bits_claimed, occ_claimed, late, all_notified, notice_given, waited, check_passed}
+use Rattle.lock.specs.rules.Records.{pieces, piece_at, current_piece, is_leaf, change, to_phase, to_blocked, with_grip, with_place, with_notices, with_t1, with_t0, sent_back}
+use Rattle.lock.specs.rules.Steps.{start_phase, begin, first_noted, taken, turn_awaited, go_up, climbed, unblocked, bits_claimed, occ_claimed, late, all_notified, notice_given, waited, check_passed}
 use Rattle.lock.specs.laws.Placed.{Pieced}
 use Rattle.lock.specs.laws.StepLaws.{Read}
 
@@ -35,6 +35,10 @@ plus_one n = omega arith
 
 module _ (r : Record) where
   -- ---- 2 turn
+
+  pub turn_stays : (w : ℕ) → (tcnt w ≡ r.ticket → ⊥) → turn_awaited r w ≡ r
+  unfolding turn_awaited
+  turn_stays w d = choose_ne (tcnt w) r.ticket _ r d
 
   turn_comes : (w : ℕ) → tcnt w ≡ r.ticket → turn_awaited r w ≡ to_phase (choose (eqb (current_piece r) 1) 5 3) (with_grip 2 r)
   unfolding turn_awaited
@@ -79,15 +83,31 @@ module _ (r : Record) where
         (on_choose (Read n) (eqb r.place 0) (with_t1 t r) r
         (λ _. record { pieced = pieced_kept r (with_t1 t r) v.pieced refl refl refl; within = v.within; node = v.node }) (λ _. v))
 
+  pub climb_set : (w t : ℕ) → occ w ≡ 1 → climbed r w t ≡ to_blocked r
+  unfolding climbed
+  climb_set w t e = choose_eq (occ w) 1 _ _ e
+
   pub climb_clear : (w t : ℕ) → (occ w ≡ 1 → ⊥) → climbed r w t ≡ go_up (choose (eqb r.place 0) (with_t1 t r) r)
   unfolding climbed
   climb_clear w t d = choose_ne (occ w) 1 _ _ d
+
+  pub unblocked_now : (w : ℕ) → occ w ≡ 0 → unblocked r w ≡ to_phase 3 r
+  unfolding unblocked
+  unblocked_now w e = choose_eq (occ w) 0 _ r e
+
+  pub unblocked_not : (w : ℕ) → (occ w ≡ 0 → ⊥) → unblocked r w ≡ r
+  unfolding unblocked
+  unblocked_not w d = choose_ne (occ w) 0 _ r d
 
   -- ---- 5 claim
 
   pub bits_won : (b : Bool) → b ≡ true → bits_claimed r b ≡ to_phase 6 (with_grip 3 r)
   unfolding bits_claimed choose
   bits_won b e = ap (bits_claimed r) e
+
+  pub bits_lost : (b : Bool) → b ≡ false → bits_claimed r b ≡ to_phase 3 r
+  unfolding bits_claimed choose
+  bits_lost b e = ap (bits_claimed r) e
 
   pub occ_root : (t : ℕ) → current_piece r ≡ 1 → occ_claimed r t ≡ to_phase 7 (with_t0 t (with_grip 3 r))
   unfolding occ_claimed

@@ -8,7 +8,7 @@ use Rattle.lock.specs.laws.Rows.{leaves}
 use Rattle.lock.proofs.laws.CallLaws.{cause_some}
 use Rattle.lock.proofs.laws.Touched.{readable}
 use Rattle.lock.proofs.laws.SettledLaws.{settled}
-use Rattle.lock.proofs.laws.OperationLaws.{post_tested, completed_refused, completed_clear, completed_taken}
+use Rattle.lock.proofs.laws.OperationLaws.{post_tested, completed_refused, completed_nine, completed_taken}
 use Rattle.lock.proofs.Client.completed.Goals as goal
 
 pub returns-in_err-valid : goal.returns-in_err-valid
@@ -30,7 +30,7 @@ pub returns-in_err-moved : goal.returns-in_err-moved
 returns-in_err-moved c =
     let a = c.args in
     let p = err_from_is_err_and c.from_residual-in_err-moved.result c.from_residual-in_err-moved.ensures.1 in
-    rw (p.1, p.2) (completed_clear a.settings a.self a.clock 0 c.in_ok-valid.ensures.number a.found refl _ (c.in_err-moved.ensures ∙ ap (λ s. moved s a.self.«record» a.found a.clock) c.in_ok-valid.ensures.same) (cause_some _))
+    rw (p.1, p.2) (completed_nine a.settings a.self a.clock 0 c.in_ok-valid.ensures.number a.found refl _ (c.in_err-moved.ensures ∙ ap (λ s. moved s a.self.«record» a.found a.clock) c.in_ok-valid.ensures.same) (cause_some _))
 
 pub returns : goal.returns
 returns c =
