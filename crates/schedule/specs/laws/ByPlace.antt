@@ -1,5 +1,5 @@
 -- Laws of the calls by their places in a file: call k begins at the offset plus 24 × k, and its bytes are read and tested there. Assumes nothing.
-use Rattle.std.specs.Prelude.{◌≡◌, Bool, false, ◌++◌, List, length, get_or, take, replicate}
+use Rattle.std.specs.Prelude.{◌≡◌, false, ◌++◌, List, length, get_or, take, replicate}
 use Rattle.std.proofs.Math.Path.{refl, sym, subst, ap, ap₂}
 use Rattle.std.proofs.Common.{◌∙◌}
 use Rattle.std.proofs.Math.Bool.{true}

@@ -1,5 +1,4 @@
-use Rattle.std.proofs.Common.{List, ap, ◌∙◌, subst, sym, arith}
-use Rattle.lock.specs.declared.Client.{Client}
+use Rattle.std.proofs.Common.{ap, ◌∙◌, subst, sym, arith}
 use Rattle.lock.specs.rules.History.{AllReadable}
 use Rattle.lock.specs.rules.Table.{State}
 use Rattle.pages.specs.rules.Pages.{held_count}

@@ -1,5 +1,5 @@
 -- After each client its line is behind the others.
-use Rattle.std.proofs.Common.{List, get_or, ap, arith}
+use Rattle.std.proofs.Common.{List, ap, arith}
 use Rattle.lock.specs.declared.Client.{Client}
 use Rattle.lock.specs.rules.Records.{idle_client}
 use Rattle.schedule.specs.laws.Appended.{restated}

@@ -5,7 +5,7 @@ use Rattle.lock.specs.declared.Client.{Client}
 use Rattle.lock.specs.rules.Records.{idle_client}
 use Rattle.lock.specs.rules.Table.{client_at}
 use Rattle.lock.specs.rules.Unreadable.{unreadable}
-use Rattle.schedule.specs.laws.Appended.{Appended, restated}
+use Rattle.schedule.specs.laws.Appended.{restated}
 use Rattle.rangepages.specs.rules.Printed.{row_line, line_each}
 use Rattle.rangepages.specs.laws.Lines.{lined_none, lined_more, lined_all}
 use Rattle.rangepages.specs.laws.Paging.{settled, row_put}
