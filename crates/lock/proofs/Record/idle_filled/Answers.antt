@@ -3,7 +3,7 @@ use Rattle.std.proofs.Common.{◌≡◌, Bool, true, false, ◌&&◌, ◌||◌, 
 use Rattle.base.specs.laws.ChoiceLaws.{by_eq}
 use Rattle.lock.specs.declared.Record.{Record}
 use Rattle.lock.specs.rules.Records.{idle_with}
-use Rattle.lock.specs.rules.Unreadable.{idle_filled, nonzero}
+use Rattle.lock.specs.rules.Unreadable.{idle_filled}
 use Rattle.lock.proofs.Record.idle_filled.Goals as goal
 
 some_differs : (b0 b1 b2 b3 b4 b5 b6 b7 b8 b9 b10 b11 b12 : Bool) → not (b0 && (b1 && (b2 && (b3 && (b4 && (b5 && (b6 && (b7 && (b8 && (b9 && (b10 && (b11 && (b12))))))))))))) ≡ (not b0 || not b1 || not b2 || not b3 || not b4 || not b5 || not b6 || not b7 || not b8 || not b9 || not b10 || not b11 || not b12)
