@@ -5,7 +5,6 @@ use Rattle.lock.specs.rules.Unreadable.{unreadable}
 use Rattle.lock.proofs.laws.CallLaws.{cause_some}
 use Rattle.pages.specs.rules.Pages.{own_client, held_count}
 use Rattle.pages.specs.laws.RunLaws.{refused_page, accepted_page, page_by}
-use Rattle.pages.proofs.laws.CauseLaws.{run_tested}
 use Rattle.pages.proofs.laws.RunLaws.{run_refuses, run_takes, own_refused, own_accepted}
 use Rattle.pages.proofs.run.run_page.Goals as goal
 
