@@ -2,6 +2,7 @@
 use Rattle.std.specs.Prelude.{◌≡◌, refl, Bool, ◌||◌, eqb, length, get_or, take}
 use Rattle.std.proofs.Math.Path.{sym, ap}
 use Rattle.std.proofs.Common.{◌∙◌, add-one, arith}
+use Rattle.std.proofs.Math.Bool.{or-false, or_assoc}
 use Rattle.std.proofs.lemmas.List.Recursion.{same_from_clauses, is_sum_by}
 use Rattle.std.specs.List.{list_any, sum_by}
 use mathlib.Core.List.{List, [], ◌∷◌}
@@ -17,6 +18,16 @@ use Rattle.pages.specs.rules.Pages.{any_unreadable, in_phase9, held_count}
 module _ (s : Settings) where
   abbrev pub unreadable_one : Client → Bool
   unreadable_one c = unreadable s c.«record» c.clock
+
+  any_suc : (l : List Client) (i : ℕ) (d : Client) → i < length l → (any_unreadable s (take i l) || unreadable_one (get_or l i d)) ≡ any_unreadable s (take (suc i) l)
+  unfolding any_unreadable
+  any_suc [] i d h = absurd (omega arith)
+  any_suc (c ∷ cs) zero d h = sym (or-false (unreadable_one c))
+  any_suc (c ∷ cs) (suc i) d h =
+      or_assoc (unreadable_one c) (any_unreadable s (take i cs)) (unreadable_one (get_or cs i d)) ∙ ap (λ (b : Bool). unreadable_one c || b) (any_suc cs i d (omega arith))
+
+  pub any_next : (l : List Client) (i : ℕ) (d : Client) → i < length l → (any_unreadable s (take i l) || unreadable_one (get_or l i d)) ≡ any_unreadable s (take (i + 1) l)
+  any_next l i d h = any_suc l i d h ∙ ap (λ (k : ℕ). any_unreadable s (take k l)) (sym (add-one i))
 
   -- it is the library's `list_any` of this test
   pub any_listed : (l : List Client) → list_any unreadable_one l ≡ any_unreadable s l
