@@ -62,6 +62,7 @@ impl Client {
         })
     }
 
+    // The three calls that touch no word, alike but for the record's own call: one function that takes it as a closure would be longer than the two lines of each.
     pub fn own_request(self, settings: Settings, a: u64, b: u64) -> Result<Client, Refusal>
         ensures { stepped_by self result ≡ own_request_answer settings self a b }
     {

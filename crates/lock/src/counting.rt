@@ -22,7 +22,7 @@ fn piece_steps(h: u64, m: u64, n: u64) -> u64
     notified + 3 + tree::check_count(h, m, n)
 }
 
-// What the pieces of a window need together, second 0 for none.
+// What the pieces of a window need together, second 0 for none, as in C's records and rows, from which it comes.
 pub fn pieces_steps(h: u64, m: u64, first: u64, second: u64) -> u64
     requires { (h ≤ 12) × (1 ≤ m) × (m ≤ 4) × Node h first × ((second ≡ 0 → ⊥) → Node h second) }
     ensures { result ≡ pieces_steps h m first second }

@@ -95,7 +95,7 @@ pub struct Stepped {
 }
 
 // What a run posts: number 0, the kind (0 none, 1 read, 2 masked add, 3 masked compare-and-swap) and the node (0 for none); of a swap the mask and the bits that are compared, and the mask and the
-// bits that are set; of an add in `value` the deltas of the six fields, each where its field is. Refused: the cause, and 0.
+// bits that are set; of an add in `value` the deltas of the six fields, each where its field is. Refused: the cause, and 0. The C interface has it so; in Rattle what is done to a word is an `Access`.
 #[repr(C)]
 #[derive(Clone, Copy, Default, PartialEq, Eq)]
 pub struct Operation {
@@ -116,6 +116,8 @@ pub struct StepCount {
     pub steps: u64,
 }
 
+// What is known of a record and its settings together (`Sound`, `Placed`, `Pieced`, `Begun`, and that no noted time is past the clock) stays in the clauses of their methods, and settings, word and clock stay
+// arguments: document 01 has a record go into a step by value and the next one come back, of which these facts are yet to be shown. A type for a record with them would be taken apart again in each method.
 mod by_phase;
 mod by_value;
 mod calls;

@@ -119,6 +119,7 @@ impl Operation {
         }
     }
 
+    // As C is told of a refusal, whose number may be any.
     pub fn refused(number: u64) -> Operation
         ensures { result ≡ refused_operation number }
     {

@@ -18,7 +18,7 @@ pub use run::nolthewyr_run_page;
 // What planners see of a client: its phase, its window's edges, its pieces' numbers (second 0 for none) and their over-cover, and how many steps the window needs on an otherwise
 // idle tree; all 0 for an idle one.
 #[repr(C)]
-#[derive(Clone, Copy)]
+#[derive(Clone, Copy, Default)]
 pub struct Row {
     pub phase: u64,
     pub left: u64,

@@ -7,21 +7,13 @@ ghost use Rattle.pages.specs.rules.Pages.{row_of, rows_of, any_unreadable};
 use crate::Row;
 use lock::{Client, Record, Settings, ValidSettings};
 
-// The row of a readable record. The documents name it, so that it takes any settings and asks that they are within their ranges, as before. Its pieces are its window's cover, so their over-cover is the cover's. (Only the contract speaks of the client's clock.)
+// The row of a readable record. The documents name it with these conditions, so its settings are not asked for as a type. Its pieces are its window's cover, so their over-cover is the cover's. (Only the contract speaks of the client's clock.)
 pub fn row_of(one: Record, settings: Settings, last: u64) -> Row
     requires { Settled settings × (unreadable settings one last ≡ false) }
     ensures { result ≡ row_of settings one }
 {
     if one.phase == 0 {
-        return Row {
-            phase: 0,
-            left: 0,
-            right: 0,
-            first: 0,
-            second: 0,
-            over: 0,
-            steps: 0,
-        };
+        return Row::default();
     }
     let pieces = cover::window_pieces(settings.levels, one.left, one.right);
     Row {

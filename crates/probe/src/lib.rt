@@ -1,4 +1,5 @@
 // The functions of the crates word, tree, cover and lock under names that C can link, each with its own contract, for the comparison with the model.
+// (Many are of one shape: C links each by a name of its own, has no generic functions, and passes numbers.)
 #![tactic(auto)]
 
 ghost use Rattle.std.specs.Prelude.{◌≡◌, ◌+◌, ◌^◌, ◌≤◌, ◌<◌, length, get_or};

@@ -87,7 +87,7 @@ impl Line {
         self.spaced(n);
     }
 
-    // Copies the line to lent bytes, behind what they have before `at`, and answers where it ends.
+    // Copies the line to lent bytes, behind what they have before `at`, and answers where it ends: the log and the pages go into the bytes that their callers lend.
     pub fn put(&self, out: &mut [u8], at: usize) -> usize
         requires { at + length self.now ≤ length out.old }
         ensures { Appended out.old at out.new result self.now }

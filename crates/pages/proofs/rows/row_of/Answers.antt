@@ -1,12 +1,14 @@
 -- `pages::rows::row_of` meets its contract. Assumes nothing.
 use Rattle.pages.proofs.laws.RowLaws.{row_idle, its_window, told, answer_steps, row_active}
+use Rattle.std.proofs.Common.{◌≡◌, ◌∙◌}
 use borrow.Author.Rules.{rules}
 use Rattle.pages.proofs.rows.row_of.Goals as goal
 
 pub returns-then-one-eq0 : goal.returns-then-one-eq0
 returns-then-one-eq0 c =
     let a = c.args in
-    row_idle a.settings a.one c.if-one-eq0.true
+    let zeros : c.default.result ≡ record { phase = 0; left = 0; right = 0; first = 0; second = 0; over = 0; steps = 0 } = search rules in
+    zeros ∙ row_idle a.settings a.one c.if-one-eq0.true
 
 pub window_pieces-pieces-requires : goal.window_pieces-pieces-requires
 window_pieces-pieces-requires c =
