@@ -1,5 +1,6 @@
 // What a phase asks of a record beside what every phase asks: one expression a phase, of the tests that the clauses of document 01's paragraph "Unreadable" leave there. That
-// it is that paragraph is shown by a law a phase (proofs/laws/PhaseTests.antt). A clause more is one `|` in the expressions that it concerns, and its law.
+// it is that paragraph is shown by a law a phase (proofs/laws/PhaseTests.antt). A clause more is one `|` in the expressions that it concerns, and its law. The matches are on the
+// phase number, as document 01 has it. Why what is known of a record stays in the clauses, lib.rt says.
 ghost use Rattle.std.specs.Prelude.{◌≡◌, ◌&&◌, ◌≤◌, ltb, length};
 ghost use Rattle.base.specs.rules.Choice.{choose};
 ghost use Rattle.tree.specs.rules.Lists.{notify_list};

@@ -44,10 +44,11 @@ impl Client {
 
     // Which operation is posted now.
     pub fn operation(self, settings: Settings, clock: u64) -> Result<Operation, Refusal>
-        ensures { operation_by result ≡ operation_answer settings self clock }
+        ensures number { number_in result ≡ first_cause (post_tests settings self clock) }
+        ensures operation { operation_by result ≡ operation_answer settings self clock }
     {
-        let valid = self.post_tests(settings, clock)?;
-        Ok(self.record.operation(valid, clock))
+        let tested = self.post_tests(settings, clock)?;
+        Ok(self.record.operation(tested, clock))
     }
 
     // What becomes of the client when the word found comes back.

@@ -24,7 +24,8 @@ pub struct ValidSettings {
 
 // A client record, its fields in document 01's order: phase, outcome, the window's edges, the numbers of its two pieces (0 for none), the current
 // piece (0 or 1, the last begun), the piece being given back, the current piece's grip, ticket, place in the list it walks, notices that the
-// current piece gave, and the noted times; the last of them is the clock at which the first piece was taken.
+// current piece gave, and the noted times; the last of them is the clock at which the first piece was taken. Phase, outcome and grip are numbers: C lends the record, and may lend any numbers, and document 01 has a
+// match on the phase number 0..10.
 #[repr(C)]
 #[derive(Clone, Copy, Default, PartialEq, Eq)]
 pub struct Record {
@@ -117,7 +118,7 @@ pub struct StepCount {
 }
 
 // What is known of a record and its settings together (`Sound`, `Placed`, `Pieced`, `Begun`, and that no noted time is past the clock) stays in the clauses of their methods, and settings, word and clock stay
-// arguments: document 01 has a record go into a step by value and the next one come back, of which these facts are yet to be shown. A type for a record with them would be taken apart again in each method.
+// arguments. A type with these facts would be no plainer: document 01 has a record go into a step by value and the next one come back, so each method would take it apart, change some of its fifteen fields, and hand back a record of which nothing is shown yet.
 mod by_phase;
 mod by_value;
 mod calls;

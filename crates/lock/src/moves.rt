@@ -1,4 +1,4 @@
-// The work of a step's phase: the node that it touches, and a match on the phase number that picks what it does there.
+// The work of a step's phase: the node that it touches, and a match on the phase number that picks what it does there, as document 01 has it. Why what is known of a record stays in the clauses, lib.rt says.
 ghost use Rattle.std.specs.Prelude.{◌≡◌, ◌≤◌, ◌<◌};
 ghost use Rattle.lock.specs.rules.Steps.{touched_in, own_touched};
 ghost use Rattle.lock.specs.laws.Rows.{leaves, moved_of, own_moved, claim_piece};
@@ -26,8 +26,10 @@ impl Record {
     {
         let n = self.current_piece();
         if settings.values.is_leaf(n) {
-            let left = word::take_bits(found, self.wanted(settings, n));
-            return leaves(left.unwrap_or(found), self.bits_claimed(left.is_some()));
+            return match word::take_bits(found, self.wanted(settings, n)) {
+                Some(left) => leaves(left, self.bits_claimed(true)),
+                None => leaves(found, self.bits_claimed(false)),
+            };
         }
         leaves(word::add::<Occ>(found, 1), self.occ_claimed(clock))
     }

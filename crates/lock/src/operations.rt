@@ -1,4 +1,4 @@
-// The operation of a step: the node, and what is done to the word there. A run on another machine posts it; the words are not here.
+// The operation of a step: the node, and what is done to the word there. A run on another machine posts it; the words are not here. Why what is known of a record stays in the clauses, lib.rt says.
 ghost use Rattle.std.specs.Prelude.{◌≡◌, ◌≤◌};
 ghost use Rattle.lock.specs.rules.Records.{phase_of};
 ghost use Rattle.lock.specs.rules.Steps.{swap, applied, claim_access, own_word_access, return_access, access_in, own_touched, touched, access};

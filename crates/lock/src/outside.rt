@@ -24,7 +24,7 @@ impl Settings {
             | (4294967295 < self.patience)
     }
 
-    // The settings as tested, or cause 1.
+    // The settings as tested, or cause 1. A method, like `tree_tests` and `post_tests`, which take more than the settings and so can be no `TryFrom`.
     pub fn valid(self) -> Result<ValidSettings, Refusal>
         ensures number { number_in result ≡ first_cause ((settings_outside self, 1) ∷ []) }
         ensures same { IfOk result (λ valid. valid.values ≡ self) }

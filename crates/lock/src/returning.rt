@@ -1,4 +1,4 @@
-// Phase 10: "Returning goes piece by piece, first piece first, each with its own word at place 0 and its notices after it."
+// Phase 10: "Returning goes piece by piece, first piece first, each with its own word at place 0 and its notices after it." Why what is known of a record stays in the clauses, lib.rt says.
 ghost use Rattle.std.specs.Prelude.{◌≡◌, ◌≤◌, ◌<◌, length};
 ghost use Rattle.tree.specs.rules.Tree.{level, Node};
 ghost use Rattle.cover.specs.rules.Cover.{Meets};

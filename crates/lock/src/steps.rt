@@ -1,4 +1,4 @@
-// The next record of each phase, a method for each row of the phase table.
+// The next record of each phase, a method for each row of the phase table. Why what is known of a record stays in the clauses, lib.rt says.
 ghost use Rattle.std.specs.Prelude.{◌≡◌, ◌≤◌, ◌<◌, eqb, length};
 ghost use Rattle.base.specs.rules.Choice.{choose};
 ghost use Rattle.tree.specs.rules.Lists.{notify_list, check_list};

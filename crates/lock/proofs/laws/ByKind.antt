@@ -92,7 +92,7 @@ module _ (s : Settings) (own : Client) (words : List ℕ) where
   rest_of (cancel c) = (eqb r.phase 0 || eqb r.phase 9 || eqb r.phase 10, 8) ∷ []
 
   -- all tests of a call, the first ones in common
-  abbrev number_by : Call → ℕ
+  abbrev pub number_by : Call → ℕ
   number_by k = first_cause (tree_tests s (length words) ++ ((back_of last k, 5) ∷ (unreadable s r last, 6) ∷ rest_of k))
 
   -- a call that is refused, and one that is not
@@ -118,7 +118,7 @@ module _ (s : Settings) (own : Client) (words : List ℕ) where
   words_by (cancel c) = words
 
   -- where the first tests pass, what is left of the call decides
-  left_call : (k : Call) (x : Stepped) (vs : List ℕ) → number_by k ≡ first_cause (rest_of k) → x ≡ answered (first_cause (rest_of k)) own (next_by k) → vs ≡ words_by k
+  pub left_call : (k : Call) (x : Stepped) (vs : List ℕ) → number_by k ≡ first_cause (rest_of k) → x ≡ answered (first_cause (rest_of k)) own (next_by k) → vs ≡ words_by k
       → (x ≡ answer_to s own words k) × (vs ≡ words_after s own words k)
   unfolding tree_tests first_cause choose back_of rest_of next_by words_by answer_to words_after request_tests step_tests release_tests cancel_tests request_number request_answer release_answer cancel_answer step_number step_answer step_words
   left_call (request c a b) x vs e q w = (q ∙ ap (λ (m : ℕ). answered m own (next_by (request c a b))) (sym e), w)

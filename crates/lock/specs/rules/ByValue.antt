@@ -14,6 +14,7 @@ unfoldable pub call_of : ℕ → ℕ → ℕ → ℕ → Call
 call_of kind client a b =
     choose (eqb kind 0) (request client a b) (choose (eqb kind 1) (step client a) (choose (eqb kind 2) (release client) (cancel client)))
 
+-- the same of a kind in code, which has no number over 3
 abbrev pub call_by : Kind → ℕ → ℕ → ℕ → Call
 call_by Request client a b = request client a b
 call_by Step client a b = step client a

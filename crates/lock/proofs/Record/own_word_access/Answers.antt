@@ -8,9 +8,6 @@ use Rattle.lock.specs.rules.Records.{pieces}
 use Rattle.lock.proofs.laws.ReturnLaws.{leaf_level}
 use Rattle.lock.proofs.Record.own_word_access.Goals as goal
 
-pub given_piece-n-requires : goal.given_piece-n-requires
-given_piece-n-requires c = omega (arith, c.requires.giving_begun, c.requires.exists)
-
 pub wanted-bits-requires : goal.wanted-bits-requires
 wanted-bits-requires c =
     let a = c.args in

@@ -14,11 +14,6 @@ returns-in_err-valid-clause-number c =
     let p = err_from_is_err_and c.from_residual.result c.from_residual.ensures.1 in
     rw (p.1, p.2) (sym (settings_refused c.args.self _ _ c.in_err-valid.ensures.number (cause_some _)))
 
-pub last_node-requires : goal.last_node-requires
-last_node-requires c =
-    let v = settled c.args.self (settings_passed c.args.self c.in_ok-valid.ensures.number) in
-    (omega (arith, v.levels_some), v.levels_most)
-
 pub returns-then-count-last_node-clause-number : goal.returns-then-count-last_node-clause-number
 unfolding tree_tests
 returns-then-count-last_node-clause-number c =
