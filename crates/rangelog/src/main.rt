@@ -2,10 +2,14 @@
 // cannot be written, it says so on standard error and ends with status 1.
 #![tactic(auto)]
 
+use schedule::ROOM;
 use std::process::ExitCode;
 
+// Room for the longest schedule, 65,536 bytes, and one byte more, so that a file that is too long is seen to be.
+const FILE: usize = 65_537;
+
 fn main(rt: HostRuntime) -> ExitCode {
-    reading::run::<65537, 400000, _>(
+    reading::run::<FILE, ROOM, _>(
         &rt,
         "rangelog",
         "standard output could not be written, and the log is not whole",

@@ -10,8 +10,8 @@ ghost use Rattle.rangepages.specs.rules.Printed.{row_line, record_line, line_eac
 use crate::lines;
 use schedule::{Schedule, Table};
 
-// How many bytes are lent for both pages.
-pub const ROOM: usize = 34000;
+// Room for both pages: a row of at most 168 bytes and a record of at most 357 for each of 64 clients.
+pub const ROOM: usize = 34_000;
 
 // "a line for each client, number and row"
 fn put_rows(out: &mut [u8], schedule: &Schedule, table: &Table) -> usize
@@ -65,6 +65,6 @@ pub fn put_pages(bytes: &[u8], out: &mut [u8]) -> usize
     }
     match Schedule::read(bytes) {
         Ok(schedule) => put_both(&schedule, out),
-        Err(refusal) => schedule::refused(refusal).put(out, 0),
+        Err(refusal) => schedule::refused(refusal.number()).put(out, 0),
     }
 }

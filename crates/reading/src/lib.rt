@@ -12,7 +12,7 @@ use std::io::Read;
 use std::process::ExitCode;
 
 // Room for N bytes, all 0.
-fn room<const N: usize>() -> [u8; N]
+pub fn room<const N: usize>() -> [u8; N]
     ensures { N ≡ length result }
 {
     [0; N]
@@ -63,7 +63,7 @@ fn complain(rt: &impl Eprint, name: &str, what: &str, error: &io::Error) {
 
 // A program over a schedule: reads standard input, at most `FILE` bytes of it, lets `work` put a text of at most `TEXT` bytes into lent bytes, whose number it
 // answers, and writes the text to standard output, and nothing else. If the one cannot be read or the other cannot be written, it says so on standard error and ends
-// with status 1.
+// with status 1. It promises nothing of them: no contract can say what a stream is given.
 pub fn run<const FILE: usize, const TEXT: usize, F: FnOnce(&[u8], &mut [u8]) -> usize>(
     rt: &HostRuntime,
     name: &str,

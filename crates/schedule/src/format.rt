@@ -71,7 +71,8 @@ pub fn call_in(bytes: &[u8; 24]) -> Call
     }
 }
 
-// "an unknown kind or a filled zero field"; "Request: a = l, b = r. Step: a = clock, b = 0. Else both 0."
+// "an unknown kind or a filled zero field"; "Request: a = l, b = r. Step: a = clock, b = 0. Else both 0." The kind is a number here: the file's byte may be any number,
+// and an unknown kind is what is tested.
 pub fn call_wrong(bytes: &[u8; 24]) -> bool
     ensures { result ≡ wrong bytes.now }
 {

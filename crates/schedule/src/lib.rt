@@ -9,6 +9,6 @@ mod text;
 
 pub use examined::Schedule;
 pub use format::Header;
-pub use logging::{log, refused};
+pub use logging::{ROOM, log, refused};
 pub use running::Table;
-pub use text::Line;
+pub use text::{Line, put_bytes};

@@ -1,6 +1,5 @@
 // The log of a schedule: the file is examined, its opening too, and each call is made and its line written.
 ghost use Rattle.std.specs.Prelude.{◌≡◌, ℕ, ◌++◌, ◌≤◌, length, map, take};
-ghost use Rattle.base.specs.rules.Refusals.{number_of};
 ghost use Rattle.io.specs.Counts.{IsPrefixLen};
 ghost use Rattle.lock.specs.rules.ByValue.{call_of, call_by};
 ghost use Rattle.schedule.specs.rules.Log.{room, kind_text, header_line, line, lines, Logged};
@@ -9,8 +8,10 @@ ghost use Rattle.schedule.specs.laws.FormatLaws.{call_of_bytes};
 ghost use Rattle.schedule.specs.laws.RunLaws.{fresh};
 
 use crate::{Line, Schedule, format};
-use base::Refusal;
 use lock::{Call, Kind, Record, Settings};
+
+// Room for every log: a line of at most 112 bytes, and one of at most 144 for each of 2729 calls.
+pub const ROOM: usize = 400_000;
 
 // The name of a kind.
 #[tactic(auto, unfolding(crate::specs::rules::Log::kind_text))]
@@ -54,13 +55,13 @@ fn made(k: u64, call: Call, number: u64, after: Record) -> Line
     line
 }
 
-// The line of a refused file or opening.
-pub fn refused(refusal: Refusal) -> Line
-    ensures line { result ≡ refused_line (number_of refusal) }
+// The line of a refused file or opening: the number of what refuses it.
+pub fn refused(number: u64) -> Line
+    ensures line { result ≡ refused_line number }
     ensures short { length result ≤ 29 }
 {
     let mut line = Line::new();
-    line.named(b"refused", refusal.number());
+    line.named(b"refused", number);
     line.text(b"\n");
     line
 }
@@ -87,11 +88,11 @@ pub fn log(bytes: &[u8], out: &mut [u8]) -> usize
     ensures log { Logged bytes.now out.old out.new result }
     ensures inside { IsPrefixLen result out.new }
 {
-    if out.len() < 400000 {
+    if out.len() < ROOM {
         return 0;
     }
     match Schedule::read(bytes) {
         Ok(schedule) => put_log(&schedule, out),
-        Err(refusal) => refused(refusal).put(out, 0),
+        Err(refusal) => refused(refusal.number()).put(out, 0),
     }
 }

@@ -15,7 +15,8 @@ use std::marker::Model;
 use table::table_act;
 
 // A client table and the words of its tree, in memory for 64 clients and a tree of 6 levels: the first `count` clients and the first `last` words are the
-// schedule's. (Two `ArrayVec`s behind one reference could not be lent together.)
+// schedule's. The arrays stand with their counts behind a model, which is the form for a buffer with a private length here; as `ArrayVec`s they would be filled by a
+// loop each before the first call.
 #[derive(Drop)]
 pub struct Table {
     clients: [Client; 64],
@@ -43,7 +44,7 @@ fn filled<T: Copy, const N: usize>(value: T) -> [T; N]
     [value; N]
 }
 
-// A call on the first clients and the first words. The fields of a table are lent to it one by one: two parts of what lies behind one reference cannot be lent at
+// A call on the first clients and the first words. The fields of a table are lent to it one by one: two slices of what lies behind one reference cannot be lent at
 // once.
 fn act_front(
     clients: &mut [Client; 64],

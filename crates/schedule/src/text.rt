@@ -7,8 +7,8 @@ ghost use Rattle.schedule.specs.rules.Text.{decimal, spaced};
 use std::marker::Model;
 
 // A line that is being written, seen as the bytes that it has so far. A number has at most 20 digits and one byte before or behind it, and no line has more
-// than seventeen numbers. It is not written by `write!`, which promises the text only where it answers Ok: no clause of the library says that it does where there is
-// room, and a log may not be given up.
+// than seventeen numbers: 20 + 17 * 20 are 360 bytes. It is a private buffer with its length behind a model, which is the form for such a buffer here. It is not written
+// by `write!`, which promises the text only where it answers Ok: no clause of the library says that it does where there is room, and a log may not be given up.
 #[derive(Drop)]
 pub struct Line {
     bytes: [u8; 360],
@@ -23,6 +23,16 @@ impl Model for Line {
     ghost view = { λ line. take line.end line.bytes };
 
     ghost invariant = { λ line. line.end ≤ 360 };
+}
+
+// Copies a text of any length to lent bytes, behind what they have before `at`, and answers where it ends.
+pub fn put_bytes(out: &mut [u8], at: usize, text: &[u8]) -> usize
+    requires { at + length text.now ≤ length out.old }
+    ensures { Appended out.old at out.new result text.now }
+{
+    let end = at + text.len();
+    out[at..end].copy_from_slice(text);
+    end
 }
 
 impl Line {
@@ -92,8 +102,6 @@ impl Line {
         requires { at + length self.now ≤ length out.old }
         ensures { Appended out.old at out.new result self.now }
     {
-        let end = at + self.end;
-        out[at..end].copy_from_slice(&self.bytes[..self.end]);
-        end
+        put_bytes(out, at, &self.bytes[..self.end])
     }
 }

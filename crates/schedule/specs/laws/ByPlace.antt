@@ -1,7 +1,7 @@
 -- Laws of the calls by their places in a file: call k begins at the offset plus 24 × k, and its bytes are read and tested there. Assumes nothing.
 use Rattle.std.specs.Prelude.{◌≡◌, false, ◌++◌, List, length, get_or, take, replicate}
 use Rattle.std.proofs.Math.Path.{refl, sym, subst, ap, ap₂}
-use Rattle.std.proofs.Common.{◌∙◌}
+use Rattle.std.proofs.Common.{◌∙◌, append-nil}
 use Rattle.std.proofs.Math.Bool.{true}
 use Prim.Native.Nat.{ℕ, zero, suc, ◌+◌, ◌-◌, ◌*◌, ◌≤◌, ◌<◌}
 use Rattle.std.proofs.Math.Numerals.{add-one}
@@ -17,6 +17,7 @@ use Rattle.schedule.specs.rules.Format.{little, settings_in, clients_in, count_i
 use Rattle.schedule.specs.rules.Log.{header_line, lines, log_of}
 use Rattle.schedule.specs.rules.Refusal.{refusal}
 use Rattle.schedule.specs.rules.Running.{opening_in, after_calls}
+use Rattle.schedule.specs.laws.Appended.{Appended}
 use Rattle.schedule.specs.laws.Refusing.{run_whole}
 use Rattle.schedule.specs.laws.ShelfLaws.{take_replicate}
 
@@ -120,6 +121,34 @@ module _ (s : Settings) (bytes : List ℕ) where
   pub run_done : (st : State) (k : ℕ) → count_in bytes ≤ k → run_from st k ≡ st
   unfolding run calls_from
   run_done st k b = ap (λ (n : ℕ). run s st (calls_from bytes k n)) (let e : count_in bytes - k ≡ 0 = omega arith in e)
+
+-- ---- all calls: what is written so far, and the lines of the calls from k on, are the whole text
+
+module _ (s : Settings) (bytes : List ℕ) (whole : List ℕ) where
+  pub record Written (st : State) (k : ℕ) (out : List ℕ) (end : ℕ) : Type 0 where
+    pub begun : k ≤ count_in bytes
+    pub text : take end out ++ lines s st k (calls_from bytes k (count_in bytes - k)) ≡ whole
+    pub inside : end ≤ length out
+    pub most : end ≤ 112 + 144 * k
+
+  -- all calls are made
+  pub written_all : (st : State) (k : ℕ) (out : List ℕ) (end : ℕ) → Written st k out end → count_in bytes ≤ k → take end out ≡ whole
+  unfolding lines calls_from
+  written_all st k out end v b =
+      let none : count_in bytes - k ≡ 0 = omega arith in
+      sym (append-nil (take end out)) ∙ sym (ap (λ (n : ℕ). take end out ++ lines s st k (calls_from bytes k n)) none) ∙ v.text
+
+-- before the first call
+pub written_first : (s : Settings) (bytes : List ℕ) (st : State) (clients : ℕ) (old out : List ℕ) (end : ℕ) → Appended old 0 out end (header_line s clients) → end ≤ 0 + 112
+    → Written s bytes (header_line s clients ++ lines s st 0 (calls_in bytes)) st 0 out end
+unfolding calls_in
+written_first s bytes st clients old out end a b = record {
+  begun = omega arith;
+  text = ap (λ (l : List ℕ). l ++ lines s st 0 (calls_from bytes 0 (count_in bytes - 0))) a.text
+      ∙ ap (λ (n : ℕ). header_line s clients ++ lines s st 0 (calls_from bytes 0 n)) (let e : count_in bytes - 0 ≡ count_in bytes = omega arith in e);
+  inside = omega (arith, a.room, a.same);
+  most = omega arith;
+}
 
 -- ---- the log
 

@@ -1,5 +1,6 @@
 use Rattle.std.proofs.Common.{ap, sym, ◌∙◌, map}
 use Rattle.lock.proofs.laws.CallLaws.{cause_some}
+use Rattle.schedule.specs.rules.Refusal.{refused_line}
 use Rattle.schedule.specs.laws.Appended.{restated}
 use Rattle.schedule.specs.laws.FormatLaws.{call_of_bytes, chunks_calls}
 use Rattle.schedule.specs.laws.Refusing.{refused_whole, put_whole}
@@ -19,4 +20,4 @@ pub returns-in-Err-clause-pages : goal.returns-in-Err-clause-pages
 unfolding pages_of
 returns-in-Err-clause-pages c =
     put_whole _ _ _ c.if-out-lt-ROOM.false _ _
-    (refused_whole _ _ _ c.in-Err.ensures.number (cause_some c.in-Err.refusal) _ _ _ (restated c.refused.ensures.line c.put.ensures))
+    (refused_whole _ _ _ c.in-Err.ensures.number (cause_some c.in-Err.refusal) _ _ _ (restated (c.refused.ensures.line ∙ ap refused_line c.number.ensures) c.put.ensures))

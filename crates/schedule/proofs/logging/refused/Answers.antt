@@ -4,4 +4,4 @@ use Rattle.schedule.proofs.logging.refused.Goals as goal
 
 pub returns-clause-line : goal.returns-clause-line
 unfolding refused_line
-returns-clause-line c = simp (c.text.ensures, c.named.ensures.piece, c.new-line.ensures, c.number.ensures, append_assoc)
+returns-clause-line c = simp (c.text.ensures, c.named.ensures.piece, c.new-line.ensures, append_assoc)
