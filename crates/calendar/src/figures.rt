@@ -23,7 +23,7 @@ impl TryFrom<Calendar> for Figures {
 
     ghost try_from_gives = { λ calendar result. (number_in result ≡ figures_cause calendar) × IfOk result (λ f. f.calendar ≡ calendar) };
 
-    // Tests 1 for the levels, then 12 for the other figures.
+    // Tests 1 for the levels, then 12 for the other figures. The range of the levels is stated where it is tested.
     fn try_from(calendar: Calendar) -> Result<Figures, Refusal> {
         if (calendar.levels < 2) | (12 < calendar.levels) {
             return Err(Refusal::Settings);

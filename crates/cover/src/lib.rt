@@ -60,7 +60,7 @@ impl From<Result<Pieces, Refusal>> for Answer {
     }
 }
 
-// Whether [l, r) is no window of the tree. The public functions take the levels and both edges one by one, as the calls and records of C have them.
+// Whether [l, r) is no window of the tree.
 pub fn outside(h: u64, l: u64, r: u64) -> bool
     requires { (2 ≤ h) × (h ≤ 12) }
     ensures { result ≡ window_outside h l r }

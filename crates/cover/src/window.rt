@@ -44,7 +44,7 @@ impl TreeWindow {
         }
     }
 
-    // "it tests 1 for H, then 7"
+    // "it tests 1 for H, then 7". The range of the levels is stated where it is tested.
     pub fn tested(h: u64, l: u64, r: u64) -> Result<TreeWindow, Refusal>
         ensures refused { number_in result ≡ choose (levels_outside h) 1 (choose (window_outside h l r) 7 0) }
         ensures window { IfOk result (λ w. (w.levels ≡ h) × (w.left ≡ l) × (w.right ≡ r)) }

@@ -4,7 +4,7 @@ ghost use Rattle.pages.specs.rules.Pages.{any_unreadable, in_phase9, held_count}
 
 use lock::{Client, Record, ValidSettings};
 
-// 1 for a client in phase 9, by its phase number alone: what the counts of the pages sum. A record's phase is a number that C lends.
+// 1 for a client in phase 9, by its phase number alone. It is public and named, so that its result may not change; and the counts of the pages sum what it answers.
 pub fn in_phase_9(one: Record) -> u64
     ensures { result ≡ in_phase9 one.phase }
 {

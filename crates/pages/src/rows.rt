@@ -32,7 +32,7 @@ pub fn row_of(one: Record, settings: Settings, last: u64) -> Row
     }
 }
 
-// A row for each client, in their order. The rows are written by their place: of what a walk over borrowed rows has written the contract of std's `iter_mut` says nothing.
+// A row for each client, in their order. The rows are written by their place: a `zip` of the clients with the rows' `iter_mut` says nothing of what was written, and `iter_mut` alone would look the clients up by their place.
 pub fn fill_rows(clients: &[Client], rows: &mut [Row], settings: ValidSettings)
     requires { (length rows.old ≡ length clients.now) × (any_unreadable settings.values clients.now ≡ false) }
     ensures { rows.new ≡ rows_of settings.values clients.now }

@@ -17,8 +17,8 @@ impl From<Result<(Record, u64), Refusal>> for RunPage {
         match seen {
             Ok((own, held)) => RunPage {
                 number: 0,
-                own: own,
-                held: held,
+                own,
+                held,
             },
             Err(refusal) => RunPage {
                 number: refusal.number(),

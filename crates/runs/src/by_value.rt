@@ -1,4 +1,4 @@
-// The calls of a run whose words are in another machine's memory: its client goes in and comes back by value, and nothing is lent. They are of one shape, since C links each by a name of its own.
+// The calls of a run whose words are in another machine's memory: its client goes in and comes back by value, and nothing is lent. They are of one shape, since C links each by a name of its own; and C hands client, settings and clock one by one.
 ghost use Rattle.std.specs.Prelude.{◌≡◌};
 ghost use Rattle.lock.specs.rules.Steps.{applied};
 ghost use Rattle.lock.specs.rules.Operations.{access_of, operation_answer, completed_answer, own_request_answer, own_release_answer, own_cancel_answer};

@@ -26,7 +26,7 @@ fn one_counted(
     None
 }
 
-// One operation after another, up to the first that does not count. There is one at least, and `count` of them have a word. The first is the client's next step in any case, and may be refused by 9.
+// One operation after another, up to the first that does not count. There is one at least, and `count` stands beside `found` because it says how many of the words found are those of posted operations: they may be fewer than the words lent, and the rule speaks of all of these. `i` is the place of an operation and of its word. The first is the client's next step in any case, and may be refused by 9.
 pub fn counted_along(
     client: Client,
     settings: Settings,

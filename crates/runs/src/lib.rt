@@ -36,10 +36,7 @@ impl From<Result<u64, Refusal>> for Ahead {
 
     fn from(answer: Result<u64, Refusal>) -> Ahead {
         match answer {
-            Ok(count) => Ahead {
-                number: 0,
-                count: count,
-            },
+            Ok(count) => Ahead { number: 0, count },
             Err(refusal) => Ahead {
                 number: refusal.number(),
                 count: 0,
@@ -65,8 +62,8 @@ impl CompletedAll {
         match answer {
             Ok((counted, next)) => CompletedAll {
                 number: 0,
-                counted: counted,
-                next: next,
+                counted,
+                next,
             },
             Err(refusal) => CompletedAll {
                 number: refusal.number(),

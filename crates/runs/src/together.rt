@@ -1,4 +1,5 @@
 // The calls of a run that posts operations together: which they are, and what becomes of its client when the words found have come back.
+// Client, settings and clock travel as in the calls of C, which hands them one by one; so do they in counted.rt.
 ghost use Rattle.std.specs.Prelude.{◌≡◌, length};
 ghost use Rattle.runs.specs.rules.Ahead.{laid, ahead_of, ahead_answer, completed_all_answer};
 ghost use Rattle.runs.specs.laws.AlongLaws.{completed_by};

@@ -18,7 +18,7 @@ pub fn nolthewyr_step_count(levels: u64, distance: u64, left: u64, right: u64) -
     lock::StepCount::from(lock::step_count(levels, distance, left, right))
 }
 
-// How many words are to be lent; 0 for a number of levels that no tree has, since the C interface has no Option.
+// How many words are to be lent; 0 for a number of levels that no tree has, since the C interface has no Option. The range of the levels is stated where it is tested.
 pub fn nolthewyr_word_count(levels: u64) -> u64
     ensures { result ≡ words_wanted levels }
 {

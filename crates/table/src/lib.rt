@@ -19,7 +19,8 @@ pub use by_levels::{nolthewyr_cover, nolthewyr_step_count, nolthewyr_word_count}
 pub use causes::{client_cause, clients_cause, clients_outside, opening_cause};
 
 // The call of a kind. All calls over the table are this one function, so that the call by value has one caller and is built into it once; the others only pass
-// their arguments on. The four calls below stay, and answer a number, because the C interface has them so.
+// their arguments on. The four calls below and `nolthewyr_open` answer a number: they are what may not change, since the documents name their contracts, and `table_c` exports them.
+// `call.kind` is not read here: C's four calls ignore it, and `kind` is the call's name. C lends the clients and the words, and hands the settings and the call, one by one.
 fn acted(
     clients: &mut [Client],
     words: &mut [u64],
@@ -35,7 +36,7 @@ fn acted(
     Ok(())
 }
 
-// The call that its kind names: 0 request, 1 step, 2 release, any other number cancel. It is public and takes every number, and a `Kind` in its place would ask more of callers.
+// The call that its kind names: 0 request, 1 step, 2 release, any other number cancel. It is public and takes every number, and `Kind::from` gives each its kind.
 pub fn table_act(
     clients: &mut [Client],
     words: &mut [u64],
@@ -105,7 +106,7 @@ fn opened(clients: &mut [Client], words: &mut [u64], settings: Settings) -> Resu
     Ok(())
 }
 
-// "Opening tests 1 to 3, then zeroes words, records and clock", every client's.
+// "Opening tests 1 to 3, then zeroes words, records and clock", every client's. Its number is what may not change, as that of the calls above.
 pub fn nolthewyr_open(clients: &mut [Client], words: &mut [u64], settings: Settings) -> u64
     ensures { left_with result clients.new words.new ≡ Table.opening settings (lent clients.old words.old) }
 {

@@ -1,6 +1,6 @@
 // Node numbers of the quaternary tree: level, parent, child, range of units, and the lists of nodes that a client walks. No function has a
 // loop: a step of k levels is a shift by 2 * k bits. `Node 12 n` says that n is a node of the highest tree. There is no type for such a number, nor for h
-// and m: all three are numbers of C's records and settings, compared there and used as indices, so that each of the 21 calls in `lock` and `runs` would make
+// and m: all three are numbers of C's records and settings, compared there and used as indices, so that each call in `lock` and `runs` would make
 // the type under the very clause that stands here, and the number would be taken out again.
 #![tactic(auto, using(crate::proofs::laws::Code::shifts))]
 

@@ -1,4 +1,4 @@
--- To be believed: the table "Refused calls, in order of testing" of document 01, and the causes that document 02 adds: each cause has its number. Assumes nothing.
+-- To be believed: document 01's table "Refused calls, in order of testing" (1 to 9) and its section "The schedule program" (10 and 11), and document 02's request 2.6 (12 to 14): each cause has its number. Assumes nothing.
 use Rattle.std.specs.Prelude.{ℕ, Result, Ok, Err}
 use Rattle.base.specs.declared.Refusal.{Refusal}
 use Rattle.base.specs.declared.Refusal.TheVariants.{Settings, WordCount, Clients, Client, Clock, Unreadable, Window, Phase, ClearBit, File, TooLarge, Calendar, Order, Closed}

@@ -20,10 +20,12 @@ figures_cause c = choose (levels_outside c.levels) 1 (choose (figures_outside c)
 unfoldable pub order_cause : Calendar → List ℕ → Quarter → Quarter → ℕ
 order_cause c hours first last = choose (calendar_wrong c hours first last) 12 (choose (out_of_order c.weeks first last) 13 0)
 
+-- what C is told of a window's edges
 abbrev pub window_told : Result (ℕ × ℕ) Refusal → WindowAnswer
 window_told (Ok edges) = record { number = 0; left = edges.0; right = edges.1 }
 window_told (Err cause) = window_refused (number_of cause)
 
+-- what C is told of a quarter
 abbrev pub quarter_told : Result Quarter Refusal → QuarterAnswer
 quarter_told (Ok at) = quarter_found at
 quarter_told (Err cause) = quarter_refused (number_of cause)
