@@ -9,7 +9,7 @@ use crate::window::Window;
 use crate::{Calendar, Quarter, QuarterAnswer, WindowAnswer};
 use base::Refusal;
 
-// The edges of the window from `first` to `last`.
+// The edges of the window from `first` to `last`, which C hands one by one, as it does hours and calendar.
 fn edges(
     hours: &[u64],
     calendar: Calendar,

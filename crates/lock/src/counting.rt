@@ -1,4 +1,4 @@
-// How many steps a window needs on an otherwise idle tree, worked out from its pieces: no word is touched.
+// How many steps a window needs on an otherwise idle tree, worked out from its pieces: no word is touched. H, m and the edges come one by one, as C asks by them.
 ghost use Rattle.std.specs.Prelude.{◌≡◌, ◌≤◌};
 ghost use Rattle.tree.specs.rules.Tree.{Node};
 ghost use Rattle.lock.specs.rules.StepCount.{step_count_by, step_count_answer};

@@ -46,7 +46,7 @@ impl Record {
         tree::notify_node(settings.values.distance, n, self.place - 1)
     }
 
-    // The node that the phase touches, 0 for none. Document 01 names this form, a match on the phase number 0..10, so the phase is a number here and no enum.
+    // The node that the phase touches, 0 for none as in the rules and in the operations that C has. Document 01 names this form, a match on the phase number 0..10, so the phase is a number here and no enum.
     #[tactic(auto, unfolding(crate::specs::rules::Steps::touched_in, crate::specs::rules::Records::phase_of, base::specs::rules::Choice::choose), using(crate::proofs::laws::MoveLaws::touched_none))]
     pub fn own_touched(self, settings: ValidSettings) -> u64
         requires { Sound settings.values self }

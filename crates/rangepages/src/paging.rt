@@ -42,7 +42,7 @@ fn put_records(out: &mut [u8], at: usize, table: &Table, held: u64) -> usize
     end
 }
 
-// Makes the calls and writes both pages.
+// Makes the calls and writes both pages, where the lent bytes have been seen to have room.
 fn put_both(schedule: &Schedule, out: &mut [u8]) -> usize
     requires { room ≤ length out.old }
     ensures pages { take result out.new ≡ pages_text schedule.now.settings (run schedule.now.settings (fresh schedule.now.settings schedule.now.clients) (map call_of_bytes schedule.now.calls.now)).clients }
