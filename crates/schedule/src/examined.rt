@@ -44,15 +44,11 @@ fn parts(bytes: &[u8]) -> Result<(Header, &[[u8; 24]]), Refusal>
     if 65536 < bytes.len() {
         return Err(Refusal::File);
     }
-    let Some(header) = Header::read(bytes) else {
-        return Err(Refusal::File);
-    };
+    let header = Header::read(bytes).ok_or(Refusal::File)?;
     if header.offset < 20 {
         return Err(Refusal::File);
     }
-    let Some(calls) = header.calls(bytes) else {
-        return Err(Refusal::File);
-    };
+    let calls = header.calls(bytes).ok_or(Refusal::File)?;
     if format::any_wrong(calls) {
         return Err(Refusal::File);
     }
