@@ -9,7 +9,7 @@ ghost use Rattle.lock.specs.laws.Placed.{Placed, Sound};
 use crate::{Operation, Record, ValidSettings};
 use word::{Dcnt, Dmax, InnerField, OCC_RETURNED, Occ, Tcnt, Tmax};
 
-// A 1 in each field that a row adds to.
+// A 1 in each field that a row adds to. Tried: one constant that the trait provides; the check does not support it in a constant's value yet.
 const DMAX_ONE: u64 = 1 << Dmax::SHIFT;
 
 const DCNT_ONE: u64 = 1 << Dcnt::SHIFT;

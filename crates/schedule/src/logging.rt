@@ -66,7 +66,7 @@ pub fn refused(number: u64) -> Line
     line
 }
 
-// Makes the calls and writes their lines, where the lent bytes have been seen to have room: the header line, and "After it each call has a line".
+// Makes the calls and writes their lines, where the lent bytes have been seen to have room (`Schedule::run` has the same loop without lines; here one comes between two calls): the header line, and "After it each call has a line".
 fn put_log(schedule: &Schedule, out: &mut [u8]) -> usize
     requires { room ≤ length out.old }
     ensures log { take result out.new ≡ header_line schedule.now.settings schedule.now.clients ++ lines schedule.now.settings (fresh schedule.now.settings schedule.now.clients) 0 (map call_of_bytes schedule.now.calls.now) }
