@@ -21,7 +21,7 @@ fn planners_page(clients: &[Client], rows: &mut [Row], settings: Settings) -> Re
     Ok(())
 }
 
-// A row for each client. Tests 1, 2 (other than one row a client), 3, 6 (any record); a refused page leaves every row as it was. It answers a number, which may not change: the documents name its contract, and `pages_c` exports it.
+// A row for each client. Tests 1, 2 (other than one row a client), 3, 6 (any record); a refused page leaves every row as it was. It answers a number, which may not change: docs/LINKING.md names it, and `pages_c` exports it with its clause word for word.
 pub fn nolthewyr_planners_page(clients: &[Client], rows: &mut [Row], settings: Settings) -> u64
     ensures { page result rows.new ≡ planners_page settings clients.now rows.old }
 {

@@ -19,7 +19,7 @@ pub use by_levels::{nolthewyr_cover, nolthewyr_step_count, nolthewyr_word_count}
 pub use causes::{client_cause, clients_cause, clients_outside, opening_cause};
 
 // The call of a kind. All calls over the table are this one function, so that the call by value has one caller and is built into it once; the others only pass
-// their arguments on. The four calls below and `nolthewyr_open` answer a number: they are what may not change, since the documents name their contracts, and `table_c` exports them.
+// their arguments on. The four calls below and `nolthewyr_open` answer a number: they are what may not change, since docs/LINKING.md names them, and `table_c` exports them with their clauses word for word.
 // `call.kind` is not read here: C's four calls ignore it, and `kind` is the call's name. C lends the clients and the words, and hands the settings and the call, one by one.
 fn acted(
     clients: &mut [Client],
