@@ -7,8 +7,8 @@ ghost use Rattle.schedule.specs.rules.Text.{decimal, spaced};
 use std::marker::Model;
 
 // A line that is being written, seen as the bytes that it has so far. A number has at most 20 digits and one byte before or behind it, and no line has more
-// than seventeen numbers: 20 + 17 * 20 are 360 bytes. It is a private buffer with its length behind a model, which is the form for such a buffer here. It is not written
-// by `write!`, which promises the text only where it answers Ok: no clause of the library says that it does where there is room, and a log may not be given up.
+// than seventeen numbers: 357 bytes. The buffer is private and stands with its length behind a model, which is the form for such a buffer here. It is not written by
+// `write!`, which promises the text only where it answers Ok: no clause of the library says that it does where there is room, and a log may not be given up.
 #[derive(Drop)]
 pub struct Line {
     bytes: [u8; 360],
