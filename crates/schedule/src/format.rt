@@ -7,8 +7,8 @@ ghost use Rattle.schedule.specs.laws.FormatLaws.{CallRead, wrong, header_in};
 
 use lock::{Call, Settings};
 
-// "little-endian": the number that N bytes from `at` on hold. A loop over places: a `fold` over the bytes from behind was tried, and the proof of its clause
-// `callable`, that no turn overflows, did not close.
+// "little-endian": the number that N bytes from `at` on hold. A loop over places: of a `fold` over the bytes from behind, which was tried, the check leaves open that no turn overflows (`callable`)
+// and what comes out.
 fn number_at<const N: usize>(bytes: &[u8], at: usize) -> u64
     requires few { N ≤ 8 }
     requires inside { at + N ≤ length bytes.now }
