@@ -8,3 +8,5 @@ pub mod Figures
 pub mod HoursLaws
 pub mod Inverse
 pub mod SomeBelow
+pub mod Told
+pub mod Window

@@ -2,3 +2,4 @@ pub mod Closed
 pub mod Days
 pub mod Figures
 pub mod HoursLaws
+pub mod Told

@@ -2,33 +2,37 @@
 // only the first seven are looked at, since then the same days of the week come again. So nine pairs of hours are looked at, at most, however long the window.
 ghost use Rattle.std.specs.Prelude.{◌≡◌, ◌+◌, ◌-◌, ◌*◌, ◌≤◌, ◌<◌, min, length};
 ghost use Rattle.calendar.specs.rules.Windows.{some_closed};
-ghost use Rattle.calendar.specs.laws.Closed.{closed_in_day, closed_in_days, Ordered};
+ghost use Rattle.calendar.specs.laws.Closed.{closed_in_day, closed_in_days};
 
-use crate::Quarter;
+use crate::window::Window;
 
-// Whether a quarter of the day, from `from` to `to`, is closed.
-fn closed_in_day(hours: &[u64], ward: u64, day: u64, from: u64, to: u64) -> bool
-    requires { (ward < 64) × (day < 7) × (14 * ward + 14 ≤ length hours.now) }
-    ensures { result ≡ closed_in_day hours.now ward day from to }
-{
-    let pair = (7 * ward + day) as usize;
-    let opening = hours[2 * pair];
-    let closing = hours[2 * pair + 1];
-    (from < opening) | (closing <= to)
+// The hours of one ward, among the lent ones. The C interface needs them one after another, opening and closing in turn.
+#[derive(Clone, Copy)]
+struct WardHours<'a> {
+    hours: &'a [u64],
+    ward: u64,
+    ghost there: { 14 * ward + 14 ≤ length hours.now },
 }
 
-// Whether one of so many days after `day` has a closed quarter.
-fn closed_in_days(hours: &[u64], ward: u64, day: u64, days: u64) -> bool
-    requires { (ward < 64) × (day < 7) × (14 * ward + 14 ≤ length hours.now) × (days ≤ 7) }
-    ensures { result ≡ closed_in_days hours.now ward day days }
-{
-    let mut closed = false;
-    let mut after = 0;
-    while after < days {
-        closed = closed | closed_in_day(hours, ward, (day + 1 + after) % 7, 0, 95);
-        after = after + 1;
+impl WardHours<'_> {
+    // Whether a quarter of the day, from `from` to `to`, is closed.
+    fn closed_in_day(self, day: u64, from: u64, to: u64) -> bool
+        requires { day < 7 }
+        ensures { result ≡ closed_in_day self.entry.hours.now self.entry.ward day from to }
+    {
+        let pair = (7 * self.ward + day) as usize;
+        let opening = self.hours[2 * pair];
+        let closing = self.hours[2 * pair + 1];
+        (from < opening) | (closing <= to)
     }
-    closed
+
+    // Whether one of so many days after `day` has a closed quarter.
+    fn closed_in_days(self, day: u64, days: u64) -> bool
+        requires { (day < 7) × (days ≤ 7) }
+        ensures { result ≡ closed_in_days self.entry.hours.now self.entry.ward day days }
+    {
+        (0..days).any(|after| self.closed_in_day((day + 1 + after) % 7, 0, 95))
+    }
 }
 
 // How many whole days lie between a first day and the one that comes `days` days after it; seven at most.
@@ -36,19 +40,26 @@ fn whole_days(days: u64) -> u64
     requires { 0 < days }
     ensures { result ≡ min 7 (days - 1) }
 {
-    if 7 < days { 7 } else { days - 1 }
+    (days - 1).min(7)
 }
 
-// Whether some quarter of the window is closed. (Of `weeks` the contract speaks alone.)
-pub fn some_closed(hours: &[u64], weeks: u64, first: Quarter, last: Quarter) -> bool
-    requires { Ordered weeks hours.now first last }
-    ensures { result ≡ some_closed weeks hours.now first last }
-{
-    let days = 7 * last.week + last.day - (7 * first.week + first.day);
-    if days == 0 {
-        return closed_in_day(hours, first.ward, first.day, first.quarter, last.quarter);
+impl Window<'_> {
+    // Whether some quarter of the window is closed.
+    pub fn some_closed(self) -> bool
+        ensures { result ≡ some_closed self.entry.figures.calendar.weeks self.entry.hours.now self.entry.first self.entry.last }
+    {
+        let first = self.first;
+        let last = self.last;
+        let ward = WardHours {
+            hours: self.hours,
+            ward: first.ward,
+        };
+        let days = 7 * last.week + last.day - (7 * first.week + first.day);
+        if days == 0 {
+            return ward.closed_in_day(first.day, first.quarter, last.quarter);
+        }
+        ward.closed_in_day(first.day, first.quarter, 95)
+            | ward.closed_in_day(last.day, 0, last.quarter)
+            | ward.closed_in_days(first.day, whole_days(days))
     }
-    closed_in_day(hours, first.ward, first.day, first.quarter, 95)
-        | closed_in_day(hours, first.ward, last.day, 0, last.quarter)
-        | closed_in_days(hours, first.ward, first.day, whole_days(days))
 }

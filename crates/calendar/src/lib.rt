@@ -6,7 +6,9 @@ mod calls;
 mod closed;
 mod figures;
 mod hours;
+mod told;
 mod units;
+mod window;
 
 pub use calls::{nolthewyr_calendar_quarter, nolthewyr_calendar_window};
 
@@ -21,7 +23,7 @@ pub struct Calendar {
 
 // A quarter of an hour: day 0..6 of its week, quarter 0..95 of its day.
 #[repr(C)]
-#[derive(Clone, Copy)]
+#[derive(Clone, Copy, Default)]
 pub struct Quarter {
     pub ward: u64,
     pub week: u64,
@@ -29,7 +31,7 @@ pub struct Quarter {
     pub quarter: u64,
 }
 
-// number 0: the edges of the window; else the cause of a refusal, and zeros.
+// number 0: the edges of the window; else the cause of a refusal, and zeros. The C interface needs this form of a result.
 #[repr(C)]
 #[derive(Clone, Copy)]
 pub struct WindowAnswer {
@@ -38,7 +40,7 @@ pub struct WindowAnswer {
     pub right: u64,
 }
 
-// number 0: the quarter that a unit is; else the cause of a refusal, and zeros.
+// number 0: the quarter that a unit is; else the cause of a refusal, and zeros. The C interface needs this form of a result.
 #[repr(C)]
 #[derive(Clone, Copy)]
 pub struct QuarterAnswer {

@@ -1,26 +1,28 @@
 // The unit of a quarter, and the quarter of a unit.
-ghost use Rattle.std.specs.Prelude.{◌≡◌, ◌<◌};
-ghost use Rattle.calendar.specs.rules.Calendar.{unit_of, quarter_of};
-ghost use Rattle.calendar.specs.laws.Figures.{Small};
+ghost use Rattle.std.specs.Prelude.{◌≡◌};
+ghost use Rattle.calendar.specs.rules.Calendar.{unit_of, quarter_of, Known};
 
 use crate::Quarter;
+use crate::figures::Figures;
 
-pub fn unit_of(weeks: u64, at: Quarter) -> u64
-    requires { Small weeks at }
-    ensures { result ≡ unit_of weeks at }
-{
-    (at.ward * weeks + at.week) * 672 + at.day * 96 + at.quarter
-}
+impl Figures {
+    // A type for a quarter that the calendar has would be no plainer: only windows ask for units, and a window knows its two ends.
+    pub fn unit_of(self, at: Quarter) -> u64
+        requires { Known self.calendar at }
+        ensures { result ≡ unit_of self.calendar.weeks at }
+    {
+        (at.ward * self.calendar.weeks + at.week) * 672 + at.day * 96 + at.quarter
+    }
 
-pub fn quarter_of(weeks: u64, unit: u64) -> Quarter
-    requires { 0 < weeks }
-    ensures { result ≡ quarter_of weeks unit }
-{
-    let week = unit / 672;
-    Quarter {
-        ward: week / weeks,
-        week: week % weeks,
-        day: unit / 96 % 7,
-        quarter: unit % 96,
+    pub fn quarter_of(self, unit: u64) -> Quarter
+        ensures { result ≡ quarter_of self.calendar.weeks unit }
+    {
+        let week = unit / 672;
+        Quarter {
+            ward: week / self.calendar.weeks,
+            week: week % self.calendar.weeks,
+            day: unit / 96 % 7,
+            quarter: unit % 96,
+        }
     }
 }

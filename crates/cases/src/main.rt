@@ -4,32 +4,35 @@
 use std::io;
 
 fn main(rt: HostRuntime) -> io::Result<()> {
-    print_cover(&rt, 60, 70)?;
-    print_cover(&rt, 0, 129)?;
-    print_cover(&rt, 0, 256)?;
-    print_cover(&rt, 10, 300)?;
-    print_cover(&rt, 100, 700)?;
-    print_cover(&rt, 500, 520)?;
-    print_cover(&rt, 0, 1024)?;
-    print_cover(&rt, 0, 1025)?;
-    print_cover(&rt, 5, 5)
+    for (l, r) in [
+        (60, 70),
+        (0, 129),
+        (0, 256),
+        (10, 300),
+        (100, 700),
+        (500, 520),
+        (0, 1024),
+        (0, 1025),
+        (5, 5),
+    ] {
+        print_cover(&rt, l, r)?;
+    }
+    Ok(())
 }
 
 fn print_cover(rt: &impl Print, l: u64, r: u64) -> io::Result<()> {
     print!(rt; "cover of [{l}, {r})")?;
-    let a = cover::cover(3, l, r);
-    if a.number == 0 {
-        print_pieces(rt, a)?;
-    } else {
-        print!(rt; ": refused {}", a.number)?;
+    match cover::cover(3, l, r) {
+        Ok(pieces) => print_pieces(rt, pieces)?,
+        Err(refusal) => print!(rt; ": refused {}", refusal.number())?,
     }
     println!(rt)
 }
 
-fn print_pieces(rt: &impl Print, a: cover::Answer) -> io::Result<()> {
-    print!(rt; ": node {}", a.first)?;
-    if a.second != 0 {
-        print!(rt; " and node {}", a.second)?;
+fn print_pieces(rt: &impl Print, pieces: cover::Pieces) -> io::Result<()> {
+    print!(rt; ": node {}", pieces.first)?;
+    if pieces.second != 0 {
+        print!(rt; " and node {}", pieces.second)?;
     }
-    print!(rt; ", over-cover {}", a.over)
+    print!(rt; ", over-cover {}", pieces.over)
 }

@@ -5,6 +5,7 @@ pub mod Lowest
 pub mod Order
 pub mod Over
 pub mod Overlap
+pub mod Pieces
 pub mod Rise
 pub mod Split
 pub mod Two

@@ -2,6 +2,7 @@ pub mod Accepted
 pub mod ActiveLaws
 pub mod Advancing
 pub mod ByKind
+pub mod ByNumber
 pub mod CallLaws
 pub mod ClaimLaws
 pub mod CoverLaws

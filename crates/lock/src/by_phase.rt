@@ -1,5 +1,6 @@
 // What a phase asks of a record beside what every phase asks: one expression a phase, of the tests that the clauses of document 01's paragraph "Unreadable" leave there. That
-// it is that paragraph is shown by a law a phase (proofs/laws/PhaseTests.antt). A clause more is one `|` in the expressions that it concerns, and its law.
+// it is that paragraph is shown by a law a phase (proofs/laws/PhaseTests.antt). A clause more is one `|` in the expressions that it concerns, and its law. The matches are on the
+// phase number, as document 01 has it. Why what is known of a record stays in the clauses, lib.rt says.
 ghost use Rattle.std.specs.Prelude.{◌≡◌, ◌&&◌, ◌≤◌, ltb, length};
 ghost use Rattle.base.specs.rules.Choice.{choose};
 ghost use Rattle.tree.specs.rules.Lists.{notify_list};
@@ -8,7 +9,7 @@ ghost use Rattle.lock.specs.rules.Unreadable.{differ};
 ghost use Rattle.lock.specs.laws.ReadableLaws.{Begun};
 ghost use Rattle.lock.specs.laws.OwnTests.{own_wrong};
 
-use crate::{Record, Settings};
+use crate::{Record, ValidSettings};
 
 // "in 3..5 0 for a leaf, else 2"
 fn lacks_turn(grip: u64, leaf: bool) -> bool
@@ -26,20 +27,21 @@ fn lacks_returning(grip: u64, leaf: bool) -> bool
 
 impl Record {
     // in 10, past the own word and the notices that the piece gave
-    fn past_notices(self, settings: Settings) -> bool
-        requires { Begun settings self }
-        ensures { result ≡ ltb (notices_of settings self self.giving) self.place }
+    fn past_notices(self, settings: ValidSettings) -> bool
+        requires { Begun settings.values self }
+        ensures { result ≡ ltb (notices_of settings.values self self.giving) self.place }
     {
         if self.giving < self.current {
-            return tree::notify_count(settings.distance, self.piece_at(self.giving)) < self.place;
+            return tree::notify_count(settings.values.distance, self.piece_at(self.giving))
+                < self.place;
         }
         self.notices < self.place
     }
 
     // 10: outcome, place, notices, grip, the piece being given back. `count` is how many notices the current piece gives.
-    fn returning_wrong(self, settings: Settings, count: u64, leaf: bool) -> bool
-        requires { Begun settings self × (self.phase ≡ 10) × (count ≡ length (notify_list settings.distance (current_piece self))) × (leaf ≡ is_leaf settings (current_piece self)) }
-        ensures { result ≡ own_wrong settings self }
+    fn returning_wrong(self, settings: ValidSettings, count: u64, leaf: bool) -> bool
+        requires { Begun settings.values self × (self.phase ≡ 10) × (count ≡ length (notify_list settings.values.distance (current_piece self))) × (leaf ≡ is_leaf settings.values (current_piece self)) }
+        ensures { result ≡ own_wrong settings.values self }
     {
         (4 < self.outcome)
             | self.past_notices(settings)
@@ -50,21 +52,25 @@ impl Record {
             | ((self.outcome == 4) & (self.current == 0))
     }
 
-    // 6 to 10, where a piece that is not being returned has its bits or Occ: "3 in 6..9"
-    fn taken_wrong(self, settings: Settings, node: u64, leaf: bool) -> bool
-        requires { Begun settings self × (6 ≤ self.phase) × (node ≡ current_piece self) × (leaf ≡ is_leaf settings (current_piece self)) }
-        ensures { result ≡ own_wrong settings self }
+    // 6 to 10, where a piece that is not being returned has its bits or Occ: "3 in 6..9". Document 01 names this form, a match on the phase number.
+    fn taken_wrong(self, settings: ValidSettings, node: u64, leaf: bool) -> bool
+        requires { Begun settings.values self × (6 ≤ self.phase) × (node ≡ current_piece self) × (leaf ≡ is_leaf settings.values (current_piece self)) }
+        ensures { result ≡ own_wrong settings.values self }
     {
         let phase = self.phase;
         let place = self.place;
         let notices = self.notices;
-        let count = tree::notify_count(settings.distance, node);
+        let count = tree::notify_count(settings.values.distance, node);
         let strange = (0 < self.outcome) | (0 < self.giving) | (self.grip != 3);
         match phase {
             6 => strange | (count <= place) | (notices != place),
             7 => strange | (leaf | (0 < place)) | (count < notices),
             8 => {
-                let checked = tree::check_count(settings.levels, settings.distance, node);
+                let checked = tree::check_count(
+                    settings.values.levels,
+                    settings.values.distance,
+                    node,
+                );
                 strange | (leaf | (checked <= place)) | (count < notices)
             }
             9 => {
@@ -77,16 +83,16 @@ impl Record {
     }
 
     // outcome and piece being given back, grip, where the phase may be and its place, notices
-    pub(crate) fn own_wrong(self, settings: Settings) -> bool
-        requires { Begun settings self × (1 ≤ self.phase) }
-        ensures { result ≡ own_wrong settings self }
+    pub(crate) fn own_wrong(self, settings: ValidSettings) -> bool
+        requires { Begun settings.values self × (1 ≤ self.phase) }
+        ensures { result ≡ own_wrong settings.values self }
     {
         let phase = self.phase;
         let place = self.place;
         let grip = self.grip;
         let node = self.piece_at(self.current);
         let level = tree::level(node);
-        let leaf = level == settings.levels;
+        let leaf = level == settings.values.levels;
         let strange = (0 < self.outcome) | (0 < self.giving);
         let noticed = 0 < self.notices;
         match phase {

@@ -1,20 +1,20 @@
-// The calls by value: from the client, the lent tree, the settings and the call to the number and the client after it.
-ghost use Rattle.std.specs.Prelude.{◌≡◌, false, ◌||◌, [], ◌∷◌, ◌≤◌, eqb, length, get_or};
+// The calls by value: from the client, the lent tree, the settings and the call to the client after it, or to the cause of its refusal.
+ghost use Rattle.std.specs.Prelude.{◌≡◌, false, ◌||◌, [], ◌∷◌, ◌≤◌, eqb, length, get_or, IfOk};
+ghost use Rattle.base.specs.rules.Refusals.{number_in};
 ghost use Rattle.tree.specs.rules.Tree.{word_count};
 ghost use Rattle.cover.specs.rules.Answer.{window_outside};
 ghost use Rattle.cover.specs.laws.Lowest.{Window};
-ghost use Rattle.lock.specs.declared.Stepped.{Stepped};
 ghost use Rattle.lock.specs.rules.Records.{cover_of, word_at, written, sent_back, client_with, idle_client};
 ghost use Rattle.lock.specs.rules.Steps.{touched, moved};
 ghost use Rattle.lock.specs.rules.Unreadable.{differ, unreadable};
-ghost use Rattle.lock.specs.rules.Calls.{first_cause, tree_tests, requested, released, cancelled, answered};
-ghost use Rattle.lock.specs.rules.ByValue.{call_of, answer_to, words_after};
-ghost use Rattle.lock.specs.laws.Active.{Settled};
-ghost use Rattle.lock.specs.laws.ByKind.{stepped_of, clear_bit, left_by};
+ghost use Rattle.lock.specs.rules.Calls.{first_cause, tree_tests, requested, released, cancelled, stepped_by};
+ghost use Rattle.lock.specs.rules.ByValue.{call_by, answer_to, words_after};
+ghost use Rattle.lock.specs.laws.ByKind.{clear_bit, left_by};
 
-use crate::{Acted, Call, Client, Record, Settings, Stepped};
+use crate::{Call, Client, Kind, Record, Settings, ValidSettings};
+use base::Refusal;
 
-// "Node n is word n - 1 of the lent 64-bit words"; 0 stands for no node.
+// "Node n is word n - 1 of the lent 64-bit words"; 0 stands for no node, in the rules (`touched`) and in the operations that C is handed, so that an Option would be made and taken apart again.
 fn word_at(words: &[u64], n: u64) -> u64
     requires { n ≤ length words.now }
     ensures { result ≡ word_at words.now n }
@@ -37,42 +37,32 @@ fn put_word(words: &mut [u64], n: u64, word: u64)
 
 impl Settings {
     // Causes 1 and 2: settings outside their ranges, or a word count that is not the tree's.
-    pub fn tree_cause(self, count: u64) -> u64
-        ensures { result ≡ first_cause (tree_tests self count) }
+    pub fn tree_tests(self, count: u64) -> Result<ValidSettings, Refusal>
+        ensures number { number_in result ≡ first_cause (tree_tests self count) }
+        ensures same { IfOk result (λ valid. valid.values ≡ self) }
     {
-        if self.outside() {
-            return 1;
-        }
+        let valid = self.valid()?;
         if count != tree::last_node(self.levels) {
-            return 2;
+            return Err(Refusal::WordCount);
         }
-        0
+        Ok(valid)
     }
 }
 
 impl Record {
     // "A request sets window and pieces, zeroes the rest".
-    fn requested(settings: Settings, a: u64, b: u64, first: u64, second: u64) -> Record
-        requires { Settled settings × Window settings.levels a b × (first ≡ get_or (cover_of settings a b) 0 0) × (second ≡ get_or (cover_of settings a b) 1 0) }
-        ensures { result ≡ requested settings a b }
+    fn requested(settings: ValidSettings, a: u64, b: u64, first: u64, second: u64) -> Record
+        requires { Window settings.values.levels a b × (first ≡ get_or (cover_of settings.values a b) 0 0) × (second ≡ get_or (cover_of settings.values a b) 1 0) }
+        ensures { result ≡ requested settings.values a b }
     {
-        let phase = settings.start_phase(first);
+        let phase = settings.values.start_phase(first);
         Record {
-            phase: phase,
-            outcome: 0,
+            phase,
             left: a,
             right: b,
-            first: first,
-            second: second,
-            current: 0,
-            giving: 0,
-            grip: 0,
-            ticket: 0,
-            place: 0,
-            notices: 0,
-            t1: 0,
-            t0: 0,
-            taken: 0,
+            first,
+            second,
+            ..Record::default()
         }
     }
 
@@ -96,108 +86,63 @@ impl Record {
         self.sent_back(3)
     }
 
-    // "As it was": a refused call gives its number only.
-    fn refused(self, number: u64, last: u64) -> Acted
-        ensures { result ≡ record { number = number; clock = last; next = self } }
+    // What is left of a step after 1, 2, 5 and 6: patience, else 9 and the work on the one word.
+    fn step(
+        self,
+        words: &mut [u64],
+        settings: ValidSettings,
+        last: u64,
+        clock: u64,
+    ) -> Result<Record, Refusal>
+        requires { (length words.old ≡ word_count settings.values.levels) × (unreadable settings.values self last ≡ false) × (last ≤ clock) }
+        ensures number { number_in result ≡ clear_bit settings.values self words.old clock }
+        ensures next { IfOk result (λ next. next ≡ (moved settings.values self (word_at words.old (touched settings.values self clock)) clock).next) }
+        ensures words { words.new ≡ left_by settings.values self words.old clock }
     {
-        Acted {
-            number: number,
-            clock: last,
-            next: self,
-        }
-    }
-
-    // What is left of a step after 1, 2, 5 and 6: patience, else 9 and the work on the one word. "An accepted step sets the last clock."
-    fn step(self, words: &mut [u64], settings: Settings, last: u64, clock: u64) -> Acted
-        requires { Settled settings × (length words.old ≡ word_count settings.levels) × (unreadable settings self last ≡ false) × (last ≤ clock) }
-        ensures answer { stepped_of result ≡ answered (clear_bit settings self words.old clock) (client_with last self) (client_with clock (moved settings self (word_at words.old (touched settings self clock)) clock).next) }
-        ensures words { words.new ≡ left_by settings self words.old clock }
-    {
-        if self.out_of_patience(settings, clock) {
-            return Acted {
-                number: 0,
-                clock: clock,
-                next: self.sent_back(4),
-            };
+        if self.out_of_patience(settings.values, clock) {
+            return Ok(self.sent_back(4));
         }
         let n = self.own_touched(settings);
-        let m = self.own_moved(settings, n, word_at(words, n), clock);
-        if m.number != 0 {
-            return self.refused(9, last);
-        }
-        put_word(words, n, m.word);
-        let next = m.next;
-        Acted {
-            number: 0,
-            clock: clock,
-            next: next,
-        }
-    }
-
-    // The end of a call that touches no word: 8, where the phase is wrong for the call, or the next record. The clock stays.
-    fn unless(self, wrong: bool, next: Record, last: u64) -> Acted
-        ensures { stepped_of result ≡ answered (first_cause ((wrong, 8) ∷ [])) (client_with last self) (client_with last next) }
-    {
-        if wrong {
-            return self.refused(8, last);
-        }
-        Acted {
-            number: 0,
-            clock: last,
-            next: next,
-        }
+        let moved = self.own_moved(settings, n, word_at(words, n), clock)?;
+        put_word(words, n, moved.word);
+        Ok(moved.next)
     }
 
     // What is left of a release after 1, 2 and 6: 8, "release when not held".
-    pub fn release(self, last: u64) -> Acted
-        ensures { stepped_of result ≡ answered (first_cause ((differ self.phase 9, 8) ∷ [])) (client_with last self) (client_with last (released self)) }
+    pub fn release(self) -> Result<Record, Refusal>
+        ensures number { number_in result ≡ first_cause ((differ self.phase 9, 8) ∷ []) }
+        ensures next { IfOk result (λ next. next ≡ released self) }
     {
-        self.unless(self.phase != 9, self.sent_back(1), last)
+        if self.phase != 9 {
+            return Err(Refusal::Phase);
+        }
+        Ok(self.sent_back(1))
     }
 
     // What is left of a cancel after 1, 2 and 6: 8, "cancel in 0, 9 or 10".
-    pub fn cancel(self, last: u64) -> Acted
-        ensures { stepped_of result ≡ answered (first_cause ((eqb self.phase 0 || eqb self.phase 9 || eqb self.phase 10, 8) ∷ [])) (client_with last self) (client_with last (cancelled self)) }
+    pub fn cancel(self) -> Result<Record, Refusal>
+        ensures number { number_in result ≡ first_cause ((eqb self.phase 0 || eqb self.phase 9 || eqb self.phase 10, 8) ∷ []) }
+        ensures next { IfOk result (λ next. next ≡ cancelled self) }
     {
-        let wrong = (self.phase == 0) | (self.phase == 9) | (self.phase == 10);
-        self.unless(wrong, self.cancelled(), last)
+        if (self.phase == 0) | (self.phase == 9) | (self.phase == 10) {
+            return Err(Refusal::Phase);
+        }
+        Ok(self.cancelled())
     }
 
     // What is left of a request after 1, 2 and 6: 7, "request with l ≥ r or r > N", and 8.
-    pub fn request(self, settings: Settings, last: u64, a: u64, b: u64) -> Acted
-        requires { Settled settings }
-        ensures { stepped_of result ≡ answered (first_cause ((window_outside settings.levels a b, 7) ∷ (differ self.phase 0, 8) ∷ [])) (client_with last self) (client_with last (requested settings a b)) }
+    pub fn request(self, settings: ValidSettings, a: u64, b: u64) -> Result<Record, Refusal>
+        ensures number { number_in result ≡ first_cause ((window_outside settings.values.levels a b, 7) ∷ (differ self.phase 0, 8) ∷ []) }
+        ensures next { IfOk result (λ next. next ≡ requested settings.values a b) }
     {
-        if cover::outside(settings.levels, a, b) {
-            return self.refused(7, last);
+        if cover::outside(settings.values.levels, a, b) {
+            return Err(Refusal::Window);
         }
-        let pieces = cover::piece_numbers(settings.levels, a, b);
-        let next = Record::requested(settings, a, b, pieces.first, pieces.second);
-        self.unless(self.phase != 0, next, last)
-    }
-
-    // The call that its kind names: 0 request, 1 step, 2 release, any other number cancel. All begin with 1, 2, 5 (only a step) and 6, tested here for all; what comes
-    // after is the kind's own.
-    fn act(self, words: &mut [u64], settings: Settings, call: Call, last: u64, kind: u64) -> Acted
-        ensures answer { stepped_of result ≡ answer_to settings (client_with last self) words.old (call_of kind call.client call.a call.b) }
-        ensures words { words.new ≡ words_after settings (client_with last self) words.old (call_of kind call.client call.a call.b) }
-    {
-        let cause = settings.tree_cause(words.len() as u64);
-        if cause != 0 {
-            return self.refused(cause, last);
+        if self.phase != 0 {
+            return Err(Refusal::Phase);
         }
-        if (kind == 1) & (call.a < last) {
-            return self.refused(5, last);
-        }
-        if self.unreadable(settings, last) {
-            return self.refused(6, last);
-        }
-        match kind {
-            0 => self.request(settings, last, call.a, call.b),
-            1 => self.step(words, settings, last, call.a),
-            2 => self.release(last),
-            _ => self.cancel(last),
-        }
+        let pieces = cover::piece_numbers(settings.values.levels, a, b);
+        Ok(Record::requested(settings, a, b, pieces.first, pieces.second))
     }
 }
 
@@ -206,19 +151,45 @@ impl Client {
     pub fn idle() -> Client
         ensures { result ≡ idle_client }
     {
+        Client::default()
+    }
+
+    // With another record, by the same clock.
+    pub fn with(self, next: Record) -> Client
+        ensures { result ≡ client_with self.clock next }
+    {
         Client {
-            clock: 0,
-            record: Record::idle_with(0),
+            clock: self.clock,
+            record: next,
         }
     }
 
-    // The call that its kind names, on the record, by the client's own clock.
-    pub fn act(self, words: &mut [u64], settings: Settings, call: Call, kind: u64) -> Stepped
-        ensures answer { result ≡ answer_to settings self words.old (call_of kind call.client call.a call.b) }
-        ensures words { words.new ≡ words_after settings self words.old (call_of kind call.client call.a call.b) }
+    // The call of a kind. All begin with 1, 2, 5 (only a step) and 6, tested here for all; what comes after is the kind's own. "An accepted step sets the last clock."
+    pub fn act(
+        self,
+        words: &mut [u64],
+        settings: Settings,
+        call: Call,
+        kind: Kind,
+    ) -> Result<Client, Refusal>
+        ensures answer { stepped_by self result ≡ answer_to settings self words.old (call_by kind call.client call.a call.b) }
+        ensures words { words.new ≡ words_after settings self words.old (call_by kind call.client call.a call.b) }
     {
-        let own = self.record;
-        let acted = own.act(words, settings, call, self.clock, kind);
-        acted.stepped()
+        let valid = settings.tree_tests(words.len() as u64)?;
+        if (kind == Kind::Step) & (call.a < self.clock) {
+            return Err(Refusal::Clock);
+        }
+        if self.record.unreadable(valid, self.clock) {
+            return Err(Refusal::Unreadable);
+        }
+        match kind {
+            Kind::Request => Ok(self.with(self.record.request(valid, call.a, call.b)?)),
+            Kind::Step => Ok(Client {
+                clock: call.a,
+                record: self.record.step(words, valid, self.clock, call.a)?,
+            }),
+            Kind::Release => Ok(self.with(self.record.release()?)),
+            Kind::Cancel => Ok(self.with(self.record.cancel()?)),
+        }
     }
 }

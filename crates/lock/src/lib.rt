@@ -1,6 +1,10 @@
 // The lock: what each call does to one client's record and to the lent tree.
 #![tactic(auto)]
 
+ghost use Rattle.std.specs.Prelude.{◌≡◌, ℕ};
+ghost use Rattle.lock.specs.rules.ByValue.{call_of, call_by};
+ghost use Rattle.lock.specs.laws.Active.{Settled};
+
 // "H, m and wait T .. travel beside it", and the patience P: the settings of a tree.
 #[repr(C)]
 #[derive(Clone, Copy)]
@@ -11,11 +15,19 @@ pub struct Settings {
     pub patience: u64,
 }
 
+// Settings within their ranges: what every function behind the test of cause 1 is given.
+#[derive(Clone, Copy)]
+pub struct ValidSettings {
+    pub values: Settings,
+    ghost settled: { Settled values },
+}
+
 // A client record, its fields in document 01's order: phase, outcome, the window's edges, the numbers of its two pieces (0 for none), the current
 // piece (0 or 1, the last begun), the piece being given back, the current piece's grip, ticket, place in the list it walks, notices that the
-// current piece gave, and the noted times; the last of them is the clock at which the first piece was taken.
+// current piece gave, and the noted times; the last of them is the clock at which the first piece was taken. Phase, outcome and grip are numbers: C lends the record, and may lend any numbers, and document 01 has a
+// match on the phase number 0..10.
 #[repr(C)]
-#[derive(Clone, Copy)]
+#[derive(Clone, Copy, Default, PartialEq, Eq)]
 pub struct Record {
     pub phase: u64,
     pub outcome: u64,
@@ -36,13 +48,13 @@ pub struct Record {
 
 // A client, as the client table has it: its last clock, "kept beside the record", and its record.
 #[repr(C)]
-#[derive(Clone, Copy)]
+#[derive(Clone, Copy, Default)]
 pub struct Client {
     pub clock: u64,
     pub record: Record,
 }
 
-// A call as a schedule has it: the kind (0 request, 1 step, 2 release, 3 cancel), the client, the edges a and b of a request or the clock a of a step.
+// A call as a schedule has it: the kind (0 request, 1 step, 2 release, 3 cancel), the client, the edges a and b of a request or the clock a of a step. The C interface has the kind as a number.
 #[repr(C)]
 #[derive(Clone, Copy)]
 pub struct Call {
@@ -52,15 +64,30 @@ pub struct Call {
     pub b: u64,
 }
 
-// What a call on a record gives: its number (0 accepted), the clock and the record after it.
-#[derive(Clone, Copy)]
-pub struct Acted {
-    pub number: u64,
-    pub clock: u64,
-    pub next: Record,
+// What a call asks for.
+#[derive(Clone, Copy, Debug, PartialEq, Eq)]
+pub enum Kind {
+    Request,
+    Step,
+    Release,
+    Cancel,
 }
 
-// What a call answers: its number (0 accepted), and the client after it.
+// "u8 kind (0 request, 1 step, 2 release, 3 cancel)"; any other number is a cancel too.
+impl From<u64> for Kind {
+    ghost from_gives = { λ number kind. (client a b : ℕ) → call_by kind client a b ≡ call_of number client a b };
+
+    fn from(number: u64) -> Kind {
+        match number {
+            0 => Kind::Request,
+            1 => Kind::Step,
+            2 => Kind::Release,
+            _ => Kind::Cancel,
+        }
+    }
+}
+
+// What a call answers to C: its number (0 accepted), and the client after it. In Rattle it is a Result.
 #[repr(C)]
 #[derive(Clone, Copy)]
 pub struct Stepped {
@@ -68,18 +95,10 @@ pub struct Stepped {
     pub next: Client,
 }
 
-// What a phase's own work makes of the word found at the touched node: 0 or 9, the word that it leaves there, and the next record.
-#[derive(Clone, Copy)]
-pub struct Moved {
-    pub number: u64,
-    pub word: u64,
-    pub next: Record,
-}
-
 // What a run posts: number 0, the kind (0 none, 1 read, 2 masked add, 3 masked compare-and-swap) and the node (0 for none); of a swap the mask and the bits that are compared, and the mask and the
-// bits that are set; of an add in `value` the deltas of the six fields, each where its field is. Refused: the cause, and 0.
+// bits that are set; of an add in `value` the deltas of the six fields, each where its field is. Refused: the cause, and 0. The C interface has it so; in Rattle what is done to a word is an `Access`.
 #[repr(C)]
-#[derive(Clone, Copy)]
+#[derive(Clone, Copy, Default, PartialEq, Eq)]
 pub struct Operation {
     pub number: u64,
     pub kind: u64,
@@ -90,7 +109,7 @@ pub struct Operation {
     pub value: u64,
 }
 
-// How many steps a window needs: number 0 and the steps; else the cause of a refusal, and 0.
+// How many steps a window needs, as C is told: number 0 and the steps; else the cause of a refusal, and 0.
 #[repr(C)]
 #[derive(Clone, Copy)]
 pub struct StepCount {
@@ -98,6 +117,8 @@ pub struct StepCount {
     pub steps: u64,
 }
 
+// What is known of a record and its settings together (`Sound`, `Placed`, `Pieced`, `Begun`, and that no noted time is past the clock) stays in the clauses of their methods, and settings, word and clock stay
+// arguments. A type with these facts would be no plainer: document 01 has a record go into a step by value and the next one come back, so each method would take it apart, change some of its fifteen fields, and hand back a record of which nothing is shown yet.
 mod by_phase;
 mod by_value;
 mod calls;

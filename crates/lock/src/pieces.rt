@@ -6,6 +6,7 @@ ghost use Rattle.lock.specs.rules.Records.{pieces, piece_at, is_leaf, grip_of, n
 use crate::{Record, Settings};
 
 impl Record {
+    // The second piece is 0 for none: a record is C's.
     pub fn piece_count(self) -> u64
         ensures { result ≡ length (pieces self) }
     {

@@ -2,39 +2,26 @@
 // every call on every record, so the clauses that another implies in a phase are left out there.
 ghost use Rattle.std.specs.Prelude.{◌≡◌};
 ghost use Rattle.lock.specs.rules.Unreadable.{idle_filled, unreadable};
-ghost use Rattle.lock.specs.laws.Active.{Settled};
 ghost use Rattle.lock.specs.laws.OwnTests.{not_begun};
 
-use crate::{Record, Settings};
+use crate::{Record, ValidSettings};
 
 impl Record {
-    // "idle with a nonzero field beside the outcome"
+    // "idle with a nonzero field beside the outcome"; a derived `==` says in a proof what it compares, and `!=` does not.
     fn idle_filled(self) -> bool
+        requires { self.phase ≡ 0 }
         ensures { result ≡ idle_filled self }
     {
-        (0 < self.left)
-            | (0 < self.right)
-            | (0 < self.first)
-            | (0 < self.second)
-            | (0 < self.current)
-            | (0 < self.giving)
-            | (0 < self.grip)
-            | (0 < self.ticket)
-            | (0 < self.place)
-            | (0 < self.notices)
-            | (0 < self.t1)
-            | (0 < self.t0)
-            | (0 < self.taken)
+        !(self == Record::idle_with(self.outcome))
     }
 
     // "a window outside the tree, pieces that aren't its cover, a current piece that doesn't exist, a ticket over 32,767", "a noted time after the last clock"; 2.2, "a
     // nonzero time at a first piece, save in 9 or in 10 with outcome 1"
-    fn not_begun(self, settings: Settings, last: u64) -> bool
-        requires { Settled settings }
-        ensures { result ≡ not_begun settings self last }
+    fn not_begun(self, settings: ValidSettings, last: u64) -> bool
+        ensures { result ≡ not_begun settings.values self last }
     {
         cover::not_cover(
-            settings.levels,
+            settings.values.levels,
             self.left,
             self.right,
             self.first,
@@ -45,9 +32,8 @@ impl Record {
             | self.taken_first()
     }
 
-    pub fn unreadable(self, settings: Settings, last: u64) -> bool
-        requires { Settled settings }
-        ensures { result ≡ unreadable settings self last }
+    pub fn unreadable(self, settings: ValidSettings, last: u64) -> bool
+        ensures { result ≡ unreadable settings.values self last }
     {
         if self.phase == 0 {
             return (4 < self.outcome) | self.idle_filled();

@@ -1,15 +1,15 @@
-// The next record of each phase, a method for each row of the phase table.
+// The next record of each phase, a method for each row of the phase table. Why what is known of a record stays in the clauses, lib.rt says.
 ghost use Rattle.std.specs.Prelude.{◌≡◌, ◌≤◌, ◌<◌, eqb, length};
 ghost use Rattle.base.specs.rules.Choice.{choose};
 ghost use Rattle.tree.specs.rules.Lists.{notify_list, check_list};
 ghost use Rattle.lock.specs.rules.Records.{pieces, current_piece, with_t1};
 ghost use Rattle.lock.specs.rules.Steps.{start_phase, begin, taken, ticket_taken, turn_awaited, go_up, climbed, unblocked, bits_claimed, occ_claimed, all_notified, notice_given, waited, check_passed};
 ghost use Rattle.tree.specs.rules.Tree.{Node};
-ghost use Rattle.lock.specs.laws.Active.{Settled};
 ghost use Rattle.lock.specs.laws.Placed.{Pieced};
 ghost use Rattle.lock.specs.laws.StepLaws.{Read};
 
-use crate::{Record, Settings};
+use crate::{Record, Settings, ValidSettings};
+use word::{Dcnt, Dmax, Occ, Tcnt, Tmax};
 
 impl Record {
     pub fn current_piece(self) -> u64
@@ -20,10 +20,11 @@ impl Record {
     }
 
     // 1 ticket
+    #[tactic(auto, unfolding(crate::specs::rules::Steps::ticket_taken, base::specs::rules::Choice::choose))]
     pub fn ticket_taken(mut self, found: u64) -> Record
         ensures { result ≡ ticket_taken self found }
     {
-        self.ticket = word::tmax(found);
+        self.ticket = word::get::<Tmax>(found);
         self.grip = 1;
         self.phase = 2;
         self.place = 0;
@@ -31,12 +32,13 @@ impl Record {
     }
 
     // 2 turn
+    #[tactic(auto, unfolding(crate::specs::rules::Steps::turn_awaited, base::specs::rules::Choice::choose))]
     pub fn turn_awaited(mut self, found: u64) -> Record
         requires { self.current < length (pieces self) }
         ensures { result ≡ turn_awaited self found }
     {
         let n = self.current_piece();
-        if word::tcnt(found) != self.ticket {
+        if word::get::<Tcnt>(found) != self.ticket {
             return self;
         }
         self.grip = 2;
@@ -64,6 +66,7 @@ impl Record {
     }
 
     // "note t1 if it is the parent"
+    #[tactic(auto, unfolding(base::specs::rules::Choice::choose))]
     fn parent_noted(mut self, clock: u64) -> Record
         ensures { result ≡ choose (eqb self.place 0) (with_t1 clock self) self }
     {
@@ -75,11 +78,12 @@ impl Record {
     }
 
     // 3 climb
+    #[tactic(auto, unfolding(crate::specs::rules::Steps::climbed, base::specs::rules::Choice::choose))]
     pub fn climbed(mut self, n: u64, found: u64, clock: u64) -> Record
         requires { Read n self }
         ensures { result ≡ climbed self found clock }
     {
-        if word::occ(found) == 1 {
+        if word::get::<Occ>(found) == 1 {
             self.phase = 4;
             return self;
         }
@@ -87,10 +91,11 @@ impl Record {
     }
 
     // 4 blocked
+    #[tactic(auto, unfolding(crate::specs::rules::Steps::unblocked, base::specs::rules::Choice::choose))]
     pub fn unblocked(mut self, found: u64) -> Record
         ensures { result ≡ unblocked self found }
     {
-        if word::occ(found) == 0 {
+        if word::get::<Occ>(found) == 0 {
             self.phase = 3;
             self.place = 0;
             return self;
@@ -99,6 +104,7 @@ impl Record {
     }
 
     // 5 claim of a leaf
+    #[tactic(auto, unfolding(crate::specs::rules::Steps::bits_claimed, base::specs::rules::Choice::choose))]
     pub fn bits_claimed(mut self, done: bool) -> Record
         ensures { result ≡ bits_claimed self done }
     {
@@ -113,6 +119,7 @@ impl Record {
     }
 
     // 5 claim of an inner node
+    #[tactic(auto, unfolding(crate::specs::rules::Steps::occ_claimed, base::specs::rules::Choice::choose))]
     pub fn occ_claimed(mut self, clock: u64) -> Record
         requires { self.current < length (pieces self) }
         ensures { result ≡ occ_claimed self clock }
@@ -162,9 +169,9 @@ impl Record {
     }
 
     // 6 notify, "After the last"
-    fn all_notified(mut self, settings: Settings, clock: u64) -> Record
-        requires { Settled settings × Pieced self × (self.t1 ≤ clock) }
-        ensures { result ≡ all_notified settings self clock }
+    fn all_notified(mut self, settings: ValidSettings, clock: u64) -> Record
+        requires { Pieced self × (self.t1 ≤ clock) }
+        ensures { result ≡ all_notified settings.values self clock }
     {
         if self.late(settings, clock) {
             self.outcome = 2;
@@ -172,8 +179,8 @@ impl Record {
             self.place = 0;
             return self;
         }
-        if settings.is_leaf(self.current_piece()) {
-            return self.taken(settings, clock);
+        if settings.values.is_leaf(self.current_piece()) {
+            return self.taken(settings.values, clock);
         }
         self.phase = 7;
         self.place = 0;
@@ -181,14 +188,14 @@ impl Record {
     }
 
     // 6 notify
-    pub fn notice_given(mut self, settings: Settings, clock: u64) -> Record
-        requires { Settled settings × Pieced self × (self.place < length (notify_list settings.distance (current_piece self))) × (self.t1 ≤ clock) }
-        ensures { result ≡ notice_given settings self clock }
+    pub fn notice_given(mut self, settings: ValidSettings, clock: u64) -> Record
+        requires { Pieced self × (self.place < length (notify_list settings.values.distance (current_piece self))) × (self.t1 ≤ clock) }
+        ensures { result ≡ notice_given settings.values self clock }
     {
         let given = self.place + 1;
         let n = self.current_piece();
         self.notices = given;
-        if given < tree::notify_count(settings.distance, n) {
+        if given < tree::notify_count(settings.values.distance, n) {
             self.place = given;
             return self;
         }
@@ -209,20 +216,20 @@ impl Record {
     }
 
     // 8 check
-    pub fn check_passed(mut self, settings: Settings, found: u64, clock: u64) -> Record
-        requires { Settled settings × Pieced self × Node settings.levels (current_piece self) × (self.place < length (check_list settings.levels settings.distance (current_piece self))) }
-        ensures { result ≡ check_passed settings self found clock }
+    pub fn check_passed(mut self, settings: ValidSettings, found: u64, clock: u64) -> Record
+        requires { Pieced self × Node settings.values.levels (current_piece self) × (self.place < length (check_list settings.values.levels settings.values.distance (current_piece self))) }
+        ensures { result ≡ check_passed settings.values self found clock }
     {
-        if word::dcnt(found) != word::dmax(found) {
+        if word::get::<Dcnt>(found) != word::get::<Dmax>(found) {
             return self;
         }
         let passed = self.place + 1;
         let n = self.current_piece();
-        if passed < tree::check_count(settings.levels, settings.distance, n) {
+        if passed < tree::check_count(settings.values.levels, settings.values.distance, n) {
             self.place = passed;
             return self;
         }
-        self.taken(settings, clock)
+        self.taken(settings.values, clock)
     }
 }
 

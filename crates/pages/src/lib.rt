@@ -10,7 +10,7 @@ mod planners;
 mod rows;
 mod run;
 
-pub use counts::in_phase_9;
+pub use counts::{held_count, in_phase_9};
 pub use planners::nolthewyr_planners_page;
 pub use rows::row_of;
 pub use run::nolthewyr_run_page;
@@ -18,7 +18,7 @@ pub use run::nolthewyr_run_page;
 // What planners see of a client: its phase, its window's edges, its pieces' numbers (second 0 for none) and their over-cover, and how many steps the window needs on an otherwise
 // idle tree; all 0 for an idle one.
 #[repr(C)]
-#[derive(Clone, Copy)]
+#[derive(Clone, Copy, Default)]
 pub struct Row {
     pub phase: u64,
     pub left: u64,
@@ -29,7 +29,8 @@ pub struct Row {
     pub steps: u64,
 }
 
-// What a forecast run sees: the page's number (0 accepted), its own record, and how many clients are in phase 9; the last two all 0 in a refused page.
+// What a forecast run sees: the page's number (0 accepted), its own record, and how many clients are in phase 9; the last two all 0 in a refused page. The C interface has the number
+// of a refusal beside the answer; in the crate it is a Result.
 #[repr(C)]
 #[derive(Clone, Copy)]
 pub struct RunPage {

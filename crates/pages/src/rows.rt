@@ -5,50 +5,39 @@ ghost use Rattle.lock.specs.laws.Active.{Settled};
 ghost use Rattle.pages.specs.rules.Pages.{row_of, rows_of, any_unreadable};
 
 use crate::Row;
-use lock::{Client, Record, Settings};
+use lock::{Client, Record, Settings, ValidSettings};
 
-// The row of a readable record. Its pieces are its window's cover, so their over-cover is the cover's. (Only the contract speaks of the client's clock.)
+// The row of a readable record. The documents name it with these conditions, so its settings are not asked for as a type. Its pieces are its window's cover, so their over-cover is the cover's. (Only the contract speaks of the client's clock.)
 pub fn row_of(one: Record, settings: Settings, last: u64) -> Row
     requires { Settled settings × (unreadable settings one last ≡ false) }
     ensures { result ≡ row_of settings one }
 {
     if one.phase == 0 {
-        return Row {
-            phase: 0,
-            left: 0,
-            right: 0,
-            first: 0,
-            second: 0,
-            over: 0,
-            steps: 0,
-        };
+        return Row::default();
     }
-    let answer = cover::cover(settings.levels, one.left, one.right);
+    let pieces = cover::window_pieces(settings.levels, one.left, one.right);
     Row {
         phase: one.phase,
         left: one.left,
         right: one.right,
         first: one.first,
         second: one.second,
-        over: answer.over,
+        over: pieces.over,
         steps: lock::pieces_steps(
             settings.levels,
             settings.distance,
-            answer.first,
-            answer.second,
+            pieces.first,
+            pieces.second,
         ),
     }
 }
 
-// A row for each client, in their order.
-pub fn fill_rows(clients: &[Client], rows: &mut [Row], settings: Settings)
-    requires { Settled settings × (length rows.old ≡ length clients.now) × (any_unreadable settings clients.now ≡ false) }
-    ensures { rows.new ≡ rows_of settings clients.now }
+// A row for each client, in their order. The rows are written by their place: a `zip` of the clients with the rows' `iter_mut` says nothing of what was written, and `iter_mut` alone would look the clients up by their place.
+pub fn fill_rows(clients: &[Client], rows: &mut [Row], settings: ValidSettings)
+    requires { (length rows.old ≡ length clients.now) × (any_unreadable settings.values clients.now ≡ false) }
+    ensures { rows.new ≡ rows_of settings.values clients.now }
 {
-    let mut client = 0;
-    while client < rows.len() {
-        let one = clients[client];
-        rows[client] = row_of(one.record, settings, one.clock);
-        client = client + 1;
+    for (at, client) in clients.iter().enumerate() {
+        rows[at] = row_of(client.record, settings.values, client.clock);
     }
 }

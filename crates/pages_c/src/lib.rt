@@ -1,4 +1,5 @@
 // The pages, as C links them. Each makes the call of the crate `pages` that has its name, and states the clauses of that call again, word for word.
+// (All of one shape: C links each by a name of its own, and has no generic functions.)
 #![tactic(auto)]
 
 ghost use Rattle.std.specs.Prelude.{◌≡◌};

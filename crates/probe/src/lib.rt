@@ -1,14 +1,17 @@
 // The functions of the crates word, tree, cover and lock under names that C can link, each with its own contract, for the comparison with the model.
+// (Many are of one shape: C links each by a name of its own, has no generic functions, and passes numbers.)
 #![tactic(auto)]
 
 ghost use Rattle.std.specs.Prelude.{◌≡◌, ◌+◌, ◌^◌, ◌≤◌, ◌<◌, length, get_or};
-ghost use Rattle.word.specs.rules.Word.{Place, field, add_field, occ, tcnt, tmax, dcnt, dmax, add_occ, add_tcnt, add_tmax, add_dcnt, add_dmax, layout, add_fields, return_occ, wanted_bits, masked_swap, take_bits, give_bits};
+ghost use Rattle.word.specs.rules.Word.{Place, field, add_field, occ, tcnt, tmax, dcnt, dmax, add_occ, add_tcnt, add_tmax, add_dcnt, add_dmax, layout, add_fields, return_occ, wanted_bits, swap_of, masked_swap, take_bits, give_bits};
 ghost use Rattle.tree.specs.rules.Tree.{parent, child, first, last, level, Node, size, left};
 ghost use Rattle.tree.specs.rules.Lists.{ancestor, ancestors, notify_list, check_list};
 ghost use Rattle.cover.specs.rules.Answer.{answer};
 ghost use Rattle.lock.specs.laws.Active.{Settled};
 ghost use Rattle.lock.specs.rules.Unreadable.{unreadable};
 ghost use Rattle.lock.specs.rules.ByValue.{call_of, answer_to, words_after};
+
+use word::{Dcnt, Dmax, Occ, Tcnt, Tmax};
 
 #[unsafe(no_mangle)]
 pub extern "C" fn probe_field(word: u64, shift: u64, width: u64) -> u64
@@ -30,70 +33,70 @@ pub extern "C" fn probe_add_field(word: u64, shift: u64, width: u64, delta: u64)
 pub extern "C" fn probe_occ(word: u64) -> u64
     ensures { result ≡ occ word }
 {
-    word::occ(word)
+    word::get::<Occ>(word)
 }
 
 #[unsafe(no_mangle)]
 pub extern "C" fn probe_tcnt(word: u64) -> u64
     ensures { result ≡ tcnt word }
 {
-    word::tcnt(word)
+    word::get::<Tcnt>(word)
 }
 
 #[unsafe(no_mangle)]
 pub extern "C" fn probe_tmax(word: u64) -> u64
     ensures { result ≡ tmax word }
 {
-    word::tmax(word)
+    word::get::<Tmax>(word)
 }
 
 #[unsafe(no_mangle)]
 pub extern "C" fn probe_dcnt(word: u64) -> u64
     ensures { result ≡ dcnt word }
 {
-    word::dcnt(word)
+    word::get::<Dcnt>(word)
 }
 
 #[unsafe(no_mangle)]
 pub extern "C" fn probe_dmax(word: u64) -> u64
     ensures { result ≡ dmax word }
 {
-    word::dmax(word)
+    word::get::<Dmax>(word)
 }
 
 #[unsafe(no_mangle)]
 pub extern "C" fn probe_add_occ(word: u64, delta: u64) -> u64
     ensures { result ≡ add_occ delta word }
 {
-    word::add_occ(word, delta)
+    word::add::<Occ>(word, delta)
 }
 
 #[unsafe(no_mangle)]
 pub extern "C" fn probe_add_tcnt(word: u64, delta: u64) -> u64
     ensures { result ≡ add_tcnt delta word }
 {
-    word::add_tcnt(word, delta)
+    word::add::<Tcnt>(word, delta)
 }
 
 #[unsafe(no_mangle)]
 pub extern "C" fn probe_add_tmax(word: u64, delta: u64) -> u64
     ensures { result ≡ add_tmax delta word }
 {
-    word::add_tmax(word, delta)
+    word::add::<Tmax>(word, delta)
 }
 
 #[unsafe(no_mangle)]
 pub extern "C" fn probe_add_dcnt(word: u64, delta: u64) -> u64
     ensures { result ≡ add_dcnt delta word }
 {
-    word::add_dcnt(word, delta)
+    word::add::<Dcnt>(word, delta)
 }
 
 #[unsafe(no_mangle)]
 pub extern "C" fn probe_add_dmax(word: u64, delta: u64) -> u64
     ensures { result ≡ add_dmax delta word }
 {
-    word::add_dmax(word, delta)
+    word::add::<Dmax>(word, delta)
 }
 
 #[unsafe(no_mangle)]
@@ -118,6 +121,24 @@ pub extern "C" fn probe_wanted_bits(edge: u64, l: u64, r: u64) -> u64
     word::wanted_bits(edge, l, r)
 }
 
+// A masked compare-and-swap as C is told of it: whether it was done, and the word that it leaves.
+#[repr(C)]
+#[derive(Clone, Copy)]
+pub struct Swap {
+    pub done: bool,
+    pub word: u64,
+}
+
+// The swap of an answer for the word found.
+fn swap_of(left: Option<u64>, found: u64) -> Swap
+    ensures { record { done = result.done; word = result.word } ≡ swap_of left found }
+{
+    Swap {
+        done: left.is_some(),
+        word: left.unwrap_or(found),
+    }
+}
+
 #[unsafe(no_mangle)]
 pub extern "C" fn probe_masked_swap(
     word: u64,
@@ -125,24 +146,27 @@ pub extern "C" fn probe_masked_swap(
     expected: u64,
     swapped: u64,
     value: u64,
-) -> word::Swap
-    ensures { result ≡ masked_swap compared expected swapped value word }
+) -> Swap
+    ensures { record { done = result.done; word = result.word } ≡ masked_swap compared expected swapped value word }
 {
-    word::masked_swap(word, compared, expected, swapped, value)
+    swap_of(
+        word::masked_swap(word, compared, expected, swapped, value),
+        word,
+    )
 }
 
 #[unsafe(no_mangle)]
-pub extern "C" fn probe_take_bits(word: u64, bits: u64) -> word::Swap
-    ensures { result ≡ take_bits bits word }
+pub extern "C" fn probe_take_bits(word: u64, bits: u64) -> Swap
+    ensures { record { done = result.done; word = result.word } ≡ take_bits bits word }
 {
-    word::take_bits(word, bits)
+    swap_of(word::take_bits(word, bits), word)
 }
 
 #[unsafe(no_mangle)]
-pub extern "C" fn probe_give_bits(word: u64, bits: u64) -> word::Swap
-    ensures { result ≡ give_bits bits word }
+pub extern "C" fn probe_give_bits(word: u64, bits: u64) -> Swap
+    ensures { record { done = result.done; word = result.word } ≡ give_bits bits word }
 {
-    word::give_bits(word, bits)
+    swap_of(word::give_bits(word, bits), word)
 }
 
 #[unsafe(no_mangle)]
@@ -253,7 +277,7 @@ pub extern "C" fn probe_check_node(h: u64, m: u64, n: u64, i: u64) -> u64
 pub extern "C" fn probe_cover(h: u64, l: u64, r: u64) -> cover::Answer
     ensures { result ≡ answer h l r }
 {
-    cover::cover(h, l, r)
+    cover::cover(h, l, r).into()
 }
 
 #[unsafe(no_mangle)]
@@ -267,7 +291,7 @@ pub extern "C" fn probe_act(
     ensures answer { result ≡ answer_to settings client words.old (call_of kind call.client call.a call.b) }
     ensures words { words.new ≡ words_after settings client words.old (call_of kind call.client call.a call.b) }
 {
-    client.act(words, settings, call, kind)
+    client.stepped(client.act(words, settings, call, lock::Kind::from(kind)))
 }
 
 #[unsafe(no_mangle)]
@@ -279,5 +303,5 @@ pub extern "C" fn probe_unreadable(
     requires { Settled settings }
     ensures { result ≡ unreadable settings client last }
 {
-    client.unreadable(settings, last)
+    client.unreadable(lock::ValidSettings { values: settings }, last)
 }

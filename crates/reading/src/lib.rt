@@ -1,7 +1,7 @@
 // Standard input, read to its end into an array of the program's own, and the line about a read or a write that failed: what the programs over a schedule share.
 #![tactic(auto)]
 
-ghost use Rattle.std.specs.Prelude.{◌≡◌, ◌<◌, IsNone, IsSome, length, take};
+ghost use Rattle.std.specs.Prelude.{◌≡◌, ◌^◌, ◌<◌, ◌≤◌, IfOk, IfErr, length, take};
 ghost use Rattle.std.specs.Io.KnownBytes.{Consumes, IsAtEnd};
 ghost use Rattle.io.specs.Counts.{IsPrefixLen};
 
@@ -9,61 +9,37 @@ use arrayvec::ArrayString;
 use std::fmt::Write;
 use std::io;
 use std::io::Read;
+use std::process::ExitCode;
 
-// What came of reading: whether a read failed, and with which error, and how many bytes were read before.
+// Room for N bytes, all 0.
+pub fn room<const N: usize>() -> [u8; N]
+    ensures { N ≡ length result }
+{
+    [0; N]
+}
+
+// A read that failed: its error, and how many bytes were read before.
 #[derive(Drop)]
-pub struct Input {
-    pub failed: Option<io::Error>,
+pub struct Failed {
+    pub error: io::Error,
     pub count: usize,
 }
 
-// Room for the longest schedule, 65,536 bytes, and one byte more, so that a file that is too long is seen to be.
-pub fn file_room() -> [u8; 65537]
-    ensures { 65537 ≡ length result }
-{
-    [0; 65537]
-}
-
-// One read: no bytes and no failure is the end of the input.
-fn read_once<R: Read>(reader: &mut R, room: &mut [u8]) -> Input
-    ensures count { IsPrefixLen result.count room.new }
-    ensures bytes { Consumes (R.remaining reader.old) (R.remaining reader.new) (take result.count room.new) }
-    ensures end { IsNone result.failed → result.count ≡ 0 → 0 < length room.old → IsAtEnd (R.remaining reader.new) }
-    ensures failed { IsSome result.failed → result.count ≡ 0 }
-{
-    match reader.read(room) {
-        Ok(count) => Input {
-            failed: None,
-            count,
-        },
-        Err(error) => Input {
-            failed: Some(error),
-            count: 0,
-        },
-    }
-}
-
-// Reads to the end of the input, or as much as there is room for, or to a read that fails, and tells the last from the first.
-pub fn read_input<R: Read>(reader: &mut R, room: &mut [u8]) -> Input
-    ensures count { IsPrefixLen result.count room.new }
-    ensures bytes { Consumes (R.remaining reader.old) (R.remaining reader.new) (take result.count room.new) }
-    ensures end { IsNone result.failed → result.count < length room.new → IsAtEnd (R.remaining reader.new) }
+// Reads to the end of the input, or as much as there is room for, or to a read that fails. The reads go straight into the lent bytes: the library's `read_to_end`
+// reads into a heap.
+pub fn read_input<R: Read>(reader: &mut R, room: &mut [u8]) -> Result<usize, Failed>
+    ensures read { IfOk result (λ count. IsPrefixLen count room.new × Consumes (R.remaining reader.old) (R.remaining reader.new) (take count room.new) × (count < length room.new → IsAtEnd (R.remaining reader.new))) }
+    ensures failed { IfErr result (λ failed. IsPrefixLen failed.count room.new × Consumes (R.remaining reader.old) (R.remaining reader.new) (take failed.count room.new)) }
 {
     let mut count = 0;
     while count < room.len() {
-        let more = read_once(reader, &mut room[count..]);
-        if more.failed.is_some() || more.count == 0 {
-            return Input {
-                failed: more.failed,
-                count,
-            };
+        match reader.read(&mut room[count..]) {
+            Ok(0) => break,
+            Ok(more) => count += more,
+            Err(error) => return Err(Failed { error, count }),
         }
-        count += more.count;
     }
-    Input {
-        failed: None,
-        count,
-    }
+    Ok(count)
 }
 
 // An error as `Display` shows it, without the number that stands there behind the system's words.
@@ -76,13 +52,43 @@ fn words_of(shown: &str) -> &str
     }
 }
 
-// Writes a line to standard error: what failed, a colon and the system's words for the error. If this cannot be written either, there is nobody left to tell. No contract: none can say what a
-// stream is given.
-pub fn complain(rt: &impl Eprint, what: &str, error: &io::Error) {
+// Writes a line to standard error: the program's name, what failed, and the system's words for the error. If this cannot be written either, there is nobody left to
+// tell. No contract: none can say what a stream is given.
+fn complain(rt: &impl Eprint, name: &str, what: &str, error: &io::Error) {
     let mut shown = ArrayString::<256>::new();
     let _ = write!(shown, "{error}");
     let words = words_of(&shown);
-    let _ = eprintln!(rt; "{what}: {words}");
+    let _ = eprintln!(rt; "{name}: {what}: {words}");
+}
+
+// A program over a schedule: reads standard input, at most `FILE` bytes of it, lets `work` put a text of at most `TEXT` bytes into lent bytes, whose number it
+// answers, and writes the text to standard output, and nothing else. If the one cannot be read or the other cannot be written, it says so on standard error and ends
+// with status 1. It promises nothing of them: no contract can say what a stream is given.
+pub fn run<const FILE: usize, const TEXT: usize, F: FnOnce(&[u8], &mut [u8]) -> usize>(
+    rt: &HostRuntime,
+    name: &str,
+    unwritten: &str,
+    work: F,
+) -> ExitCode
+    requires sizes { (FILE < 2 ^ 63) × (TEXT < 2 ^ 63) }
+    requires callable { F.IsAlwaysCallable work }
+    requires inside { (file : _) (text : _) (count : _) (after : _) → F.post work file text count after → count ≤ length after.now }
+{
+    let mut file = room::<FILE>();
+    let count = match read_input(&mut rt.stdin(), &mut file) {
+        Ok(count) => count,
+        Err(failed) => {
+            complain(rt, name, "standard input could not be read", &failed.error);
+            return ExitCode::FAILURE;
+        }
+    };
+    let mut text = room::<TEXT>();
+    let length = work(&file[..count], &mut text);
+    if let Err(error) = rt.write_all(&text[..length]) {
+        complain(rt, name, unwritten, &error);
+        return ExitCode::FAILURE;
+    }
+    ExitCode::SUCCESS
 }
 
 #[cfg(test)]
@@ -113,9 +119,8 @@ mod tests {
     #[test]
     fn reads_to_the_end(rt: HostRuntime) -> Result<(), Fail> {
         let mut room = [0u8; 8];
-        let input = read_input(&mut b"schedule".as_slice(), &mut room);
-        assert!(rt; input.failed.is_none());
-        assert_eq!(rt; input.count, 8);
+        let count = read_input(&mut b"schedule".as_slice(), &mut room).ok();
+        assert_eq!(rt; count, Some(8));
         assert_eq!(rt; room.as_slice(), b"schedule".as_slice());
         Ok(())
     }
@@ -123,9 +128,11 @@ mod tests {
     #[test]
     fn tells_a_failure_in_mid_stream(rt: HostRuntime) -> Result<(), Fail> {
         let mut room = [0u8; 8];
-        let input = read_input(&mut Failing { left: 3 }, &mut room);
-        assert_eq!(rt; input.failed.ok_or("no failure")?.raw_os_error(), Some(5));
-        assert_eq!(rt; input.count, 3);
+        let failed = read_input(&mut Failing { left: 3 }, &mut room)
+            .err()
+            .ok_or("no failure")?;
+        assert_eq!(rt; failed.error.raw_os_error(), Some(5));
+        assert_eq!(rt; failed.count, 3);
         assert_eq!(rt; room.as_slice(), b"aaa\0\0\0\0\0".as_slice());
         Ok(())
     }

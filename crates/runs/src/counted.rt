@@ -1,88 +1,51 @@
 // How many of the operations that were posted together count, when the words found have come back.
 ghost use Rattle.std.specs.Prelude.{◌≡◌, ◌<◌, min, length};
-ghost use Rattle.runs.specs.rules.Ahead.{same, ahead_of, completed_all_answer};
-ghost use Rattle.runs.specs.laws.AlongLaws.{one_counted};
+ghost use Rattle.runs.specs.rules.Ahead.{ahead_of, completed_all_answer};
+ghost use Rattle.runs.specs.laws.AlongLaws.{one_counted, counted_by, completed_by};
 
-use crate::CompletedAll;
 use crate::posted::operation_ahead;
-use lock::{Client, Operation, Settings, Stepped};
+use base::Refusal;
+use lock::{Client, Operation, Settings, ValidSettings};
 
-fn same(o: Operation, p: Operation) -> bool
-    ensures { result ≡ same o p }
-{
-    (o.number == p.number)
-        & (o.kind == p.kind)
-        & (o.node == p.node)
-        & (o.compared == p.compared)
-        & (o.expected == p.expected)
-        & (o.swapped == p.swapped)
-        & (o.value == p.value)
-}
-
-// An operation that was posted counts if it is the client's next step and is accepted: number 0 and the client after it; else 1, and the client as it was. The completion tests the client, so that its operation
-// needs no test of its own.
+// The client after an operation that was posted and counts: it is the client's next step and is accepted. The completion tests the client, so that its operation needs no test of its own.
 fn one_counted(
     client: Client,
     settings: Settings,
     clock: u64,
     posted: Operation,
     found: u64,
-) -> Stepped
-    ensures { result ≡ one_counted settings clock client posted found }
+) -> Option<Client>
+    ensures { counted_by client result ≡ one_counted settings clock client posted found }
 {
-    let stepped = client.completed(settings, clock, found);
-    let left = Stepped {
-        number: 1,
-        next: client,
-    };
-    if stepped.number != 0 {
-        return left;
-    }
+    let next = client.completed(settings, clock, found).ok()?;
     let own = client.record;
-    if same(own.operation(settings, clock), posted) {
-        return stepped;
+    let valid = ValidSettings { values: settings };
+    if own.operation(valid, clock) == posted {
+        return Some(next);
     }
-    left
+    None
 }
 
-// One operation after another, up to the first that does not count. There is one at least, and `count` of them have a word. The first is the client's next step in any case, and may be refused by 9.
+// One operation after another, up to the first that does not count. There is one at least, and `count` stands beside `found` because it says how many of the words found are those of posted operations: they may be fewer than the words lent, and the rule speaks of all of these. `i` is the place of an operation and of its word. The first is the client's next step in any case, and may be refused by 9.
 pub fn counted_along(
     client: Client,
     settings: Settings,
     clock: u64,
     count: usize,
     found: &[u64],
-) -> CompletedAll
+) -> Result<(u64, Client), Refusal>
     requires { (0 < count) × (count ≡ min (length found.now) (length (ahead_of settings client clock))) }
-    ensures { result ≡ completed_all_answer settings client clock found.now }
+    ensures { completed_by client result ≡ completed_all_answer settings client clock found.now }
 {
-    let first = client.completed(settings, clock, found[0]);
-    if first.number != 0 {
-        return CompletedAll {
-            number: first.number,
-            counted: 0,
-            next: client,
-        };
-    }
-    let mut after = first.next;
-    let mut i = 1;
-    while i < count {
-        let own = client.record;
-        let posted = operation_ahead(own, settings, i as u64);
-        let one = one_counted(after, settings, clock, posted, found[i]);
-        if one.number != 0 {
-            return CompletedAll {
-                number: 0,
-                counted: i as u64,
-                next: after,
-            };
+    let own = client.record;
+    let valid = ValidSettings { values: settings };
+    let mut after = client.completed(settings, clock, found[0])?;
+    for i in 1..count {
+        let posted = operation_ahead(own, valid, i as u64);
+        match one_counted(after, settings, clock, posted, found[i]) {
+            Some(next) => after = next,
+            None => return Ok((i as u64, after)),
         }
-        after = one.next;
-        i = i + 1;
     }
-    CompletedAll {
-        number: 0,
-        counted: i as u64,
-        next: after,
-    }
+    Ok((count as u64, after))
 }

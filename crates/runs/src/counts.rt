@@ -1,43 +1,44 @@
-// How many operations a run posts together.
+// How many operations a run posts together. A record's phase is a number that C lends, and document 01 names the match on it as its form. The record and the settings stay two arguments, the record by value as in document
+// 01, and what is known of them stays in the clauses: a struct of both would be built anew at each phase and place at which posted.rt stands the record, and its facts shown again there.
 ghost use Rattle.std.specs.Prelude.{◌≡◌, ◌≤◌, length};
 ghost use Rattle.lock.specs.rules.Records.{claim, returning, phase_of};
-ghost use Rattle.lock.specs.laws.Active.{Settled};
 ghost use Rattle.lock.specs.laws.Placed.{Placed, Sound};
 ghost use Rattle.runs.specs.rules.Ahead.{ahead_in, ahead_answer};
+ghost use Rattle.runs.specs.laws.AnswerLaws.{ahead_by};
 
-use crate::Ahead;
-use lock::{Client, Record, Settings};
+use base::Refusal;
+use lock::{Client, Record, Settings, ValidSettings};
 
 // 5: an inner claim with all its notices, a leaf's by itself.
-fn claim_count(own: Record, settings: Settings) -> u64
-    requires { Settled settings × Placed settings own }
-    ensures { result ≡ length (ahead_in settings own claim) }
+fn claim_count(own: Record, settings: ValidSettings) -> u64
+    requires { Placed settings.values own }
+    ensures { result ≡ length (ahead_in settings.values own claim) }
 {
     let n = own.current_piece();
-    let all = 1 + tree::notify_count(settings.distance, n);
-    if settings.is_leaf(n) {
+    let all = 1 + tree::notify_count(settings.values.distance, n);
+    if settings.values.is_leaf(n) {
         return 1;
     }
     all
 }
 
 // 10: what is left of the piece that is given back, and the piece behind it. "a piece with grip 0 is passed over"
-fn return_count(own: Record, settings: Settings) -> u64
-    requires { Settled settings × Placed settings own × (own.phase ≡ 10) }
-    ensures { result ≡ length (ahead_in settings own returning) }
+fn return_count(own: Record, settings: ValidSettings) -> u64
+    requires { Placed settings.values own × (own.phase ≡ 10) }
+    ensures { result ≡ length (ahead_in settings.values own returning) }
 {
-    let left = own.notices_of(settings, own.giving) + 1 - own.place;
+    let left = own.notices_of(settings.values, own.giving) + 1 - own.place;
     let next = own.giving + 1;
     if own.grip_of(next) == 0 {
         return left;
     }
-    left + own.notices_of(settings, next) + 1
+    left + own.notices_of(settings.values, next) + 1
 }
 
 // 1 to 4: the ancestors of the climb are one fewer than the level, and the operations before them.
-fn climb_count(own: Record, settings: Settings) -> u64
-    requires { Settled settings × Placed settings own × (1 ≤ own.phase) × (own.phase ≤ 4) }
-    ensures { result ≡ length (ahead_in settings own (phase_of own.phase)) }
+fn climb_count(own: Record, settings: ValidSettings) -> u64
+    requires { Placed settings.values own × (1 ≤ own.phase) × (own.phase ≤ 4) }
+    ensures { result ≡ length (ahead_in settings.values own (phase_of own.phase)) }
 {
     let d = tree::level(own.current_piece());
     let phase = own.phase;
@@ -49,9 +50,9 @@ fn climb_count(own: Record, settings: Settings) -> u64
 }
 
 // How many operations the record's run posts.
-pub fn count_ahead(own: Record, settings: Settings) -> u64
-    requires { Settled settings × Sound settings own }
-    ensures { result ≡ length (ahead_in settings own (phase_of own.phase)) }
+pub fn count_ahead(own: Record, settings: ValidSettings) -> u64
+    requires { Sound settings.values own }
+    ensures { result ≡ length (ahead_in settings.values own (phase_of own.phase)) }
 {
     let phase = own.phase;
     match phase {
@@ -60,43 +61,29 @@ pub fn count_ahead(own: Record, settings: Settings) -> u64
         3 => climb_count(own, settings),
         4 => climb_count(own, settings),
         5 => claim_count(own, settings),
-        6 => tree::notify_count(settings.distance, own.current_piece()) - own.place,
+        6 => tree::notify_count(settings.values.distance, own.current_piece()) - own.place,
         8 => {
             let n = own.current_piece();
-            tree::check_count(settings.levels, settings.distance, n) - own.place
+            tree::check_count(settings.values.levels, settings.values.distance, n) - own.place
         }
         10 => return_count(own, settings),
         _ => 0,
     }
 }
 
-// Tests 1, 5, 6; never more than there is room for.
-pub fn answer_ahead(client: Client, settings: Settings, clock: u64, room: u64) -> Ahead
-    ensures { result ≡ ahead_answer settings client clock room }
+// How many operations are posted together. Tests 1, 5, 6; never more than there is room for.
+pub fn answer_ahead(
+    client: Client,
+    settings: Settings,
+    clock: u64,
+    room: u64,
+) -> Result<u64, Refusal>
+    ensures { ahead_by result ≡ ahead_answer settings client clock room }
 {
-    let cause = client.cause(settings, clock);
+    let valid = client.post_tests(settings, clock)?;
     let own = client.record;
-    if cause != 0 {
-        return Ahead {
-            number: cause,
-            count: 0,
-        };
-    }
     if own.out_of_patience(settings, clock) {
-        return Ahead {
-            number: 0,
-            count: 0,
-        };
+        return Ok(0);
     }
-    let count = count_ahead(own, settings);
-    if room < count {
-        return Ahead {
-            number: 0,
-            count: room,
-        };
-    }
-    Ahead {
-        number: 0,
-        count: count,
-    }
+    Ok(room.min(count_ahead(own, valid)))
 }

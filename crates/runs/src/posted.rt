@@ -1,18 +1,17 @@
-// The operations that a run posts together, each by its place in their list.
+// The operations that a run posts together, each by its place in their list. A record's phase is a number that C lends, and document 01 names the match on it as its form; why record and settings are two arguments, counts.rt says.
 ghost use Rattle.std.specs.Prelude.{◌≡◌, ◌∷◌, suc, ◌<◌, length, get_or};
 ghost use Rattle.lock.specs.rules.Records.{ticket, returning, phase_of};
 ghost use Rattle.lock.specs.rules.Unreadable.{list_length};
-ghost use Rattle.lock.specs.laws.Active.{Settled};
 ghost use Rattle.lock.specs.laws.Placed.{Placed, Sound};
 ghost use Rattle.runs.specs.rules.Ahead.{standing, walk, ahead_in};
 ghost use Rattle.runs.specs.laws.Standing.{no_operation, standing_at};
 
-use lock::{Operation, Record, Settings};
+use lock::{Operation, Record, ValidSettings};
 
 // The operation of a phase at a place of the list that it walks.
-fn standing(mut own: Record, settings: Settings, phase: u64, place: u64) -> Operation
-    requires { Settled settings × Placed settings (standing_at phase place own) }
-    ensures { result ≡ standing settings own (phase_of phase) place }
+fn standing(mut own: Record, settings: ValidSettings, phase: u64, place: u64) -> Operation
+    requires { Placed settings.values (standing_at phase place own) }
+    ensures { result ≡ standing settings.values own (phase_of phase) place }
 {
     own.phase = phase;
     own.place = place;
@@ -22,14 +21,14 @@ fn standing(mut own: Record, settings: Settings, phase: u64, place: u64) -> Oper
 // The operation of a phase, and behind it those of the list that another phase walks.
 fn before_list(
     own: Record,
-    settings: Settings,
+    settings: ValidSettings,
     phase: u64,
     place: u64,
     list: u64,
     i: u64,
 ) -> Operation
-    requires { Settled settings × Placed settings own × Placed settings (standing_at phase place own) × (i < suc (list_length settings own (phase_of list))) }
-    ensures { result ≡ get_or (standing settings own (phase_of phase) place ∷ walk settings own (phase_of list) 0) i no_operation }
+    requires { Placed settings.values own × Placed settings.values (standing_at phase place own) × (i < suc (list_length settings.values own (phase_of list))) }
+    ensures { result ≡ get_or (standing settings.values own (phase_of phase) place ∷ walk settings.values own (phase_of list) 0) i no_operation }
 {
     if i == 0 {
         return standing(own, settings, phase, place);
@@ -38,9 +37,9 @@ fn before_list(
 }
 
 // 1: the ticket, its turn's reading, and the climb.
-fn behind_ticket(own: Record, settings: Settings, i: u64) -> Operation
-    requires { Settled settings × Placed settings own × (i < length (ahead_in settings own ticket)) }
-    ensures { result ≡ get_or (ahead_in settings own ticket) i no_operation }
+fn behind_ticket(own: Record, settings: ValidSettings, i: u64) -> Operation
+    requires { Placed settings.values own × (i < length (ahead_in settings.values own ticket)) }
+    ensures { result ≡ get_or (ahead_in settings.values own ticket) i no_operation }
 {
     if i == 0 {
         return standing(own, settings, 1, 0);
@@ -49,11 +48,11 @@ fn behind_ticket(own: Record, settings: Settings, i: u64) -> Operation
 }
 
 // 10: what is left of the piece that is given back, then the piece behind it.
-fn given_back(mut own: Record, settings: Settings, i: u64) -> Operation
-    requires { Settled settings × Placed settings own × (own.phase ≡ 10) × (i < length (ahead_in settings own returning)) }
-    ensures { result ≡ get_or (ahead_in settings own returning) i no_operation }
+fn given_back(mut own: Record, settings: ValidSettings, i: u64) -> Operation
+    requires { Placed settings.values own × (own.phase ≡ 10) × (i < length (ahead_in settings.values own returning)) }
+    ensures { result ≡ get_or (ahead_in settings.values own returning) i no_operation }
 {
-    let left = own.notices_of(settings, own.giving) + 1 - own.place;
+    let left = own.notices_of(settings.values, own.giving) + 1 - own.place;
     if i < left {
         return standing(own, settings, 10, own.place + i);
     }
@@ -62,9 +61,9 @@ fn given_back(mut own: Record, settings: Settings, i: u64) -> Operation
 }
 
 // The operation at place i of those that the record's run posts.
-pub fn operation_ahead(own: Record, settings: Settings, i: u64) -> Operation
-    requires { Settled settings × Sound settings own × (i < length (ahead_in settings own (phase_of own.phase))) }
-    ensures { result ≡ get_or (ahead_in settings own (phase_of own.phase)) i no_operation }
+pub fn operation_ahead(own: Record, settings: ValidSettings, i: u64) -> Operation
+    requires { Sound settings.values own × (i < length (ahead_in settings.values own (phase_of own.phase))) }
+    ensures { result ≡ get_or (ahead_in settings.values own (phase_of own.phase)) i no_operation }
 {
     let phase = own.phase;
     let place = own.place;

@@ -1,5 +1,6 @@
 // The calls of a run whose words are in another machine's memory, as C links them: an archive of their own, apart from the calls over the table. Each makes the call of the crate `runs` that has its name, and states the
 // clauses of that call again, word for word.
+// (All of one shape: C links each by a name of its own, and has no generic functions.)
 #![tactic(auto)]
 
 ghost use Rattle.std.specs.Prelude.{◌≡◌, length};

@@ -1,7 +1,9 @@
 pub mod Appended
+pub mod ByPlace
 pub mod Decimal
 pub mod FormatLaws
 pub mod Little
+pub mod Numbers
 pub mod Refusing
 pub mod RunLaws
 pub mod ShelfLaws

@@ -1,205 +1,92 @@
-// The format of a schedule: the header, the calls in it, and what is refused. Every function takes any bytes.
-ghost use Rattle.std.specs.Prelude.{◌≡◌, suc, ◌+◌, ◌≤◌, ◌<◌, length, get_or};
-ghost use Rattle.schedule.specs.rules.Format.{little, settings_in, clients_in, count_in, offset_in, place_of, call_wrong, any_wrong, malformed, too_large, file_cause};
-ghost use Rattle.schedule.specs.laws.FormatLaws.{CallRead, CallReadAt, wrong_at};
+// The format of a schedule: the numbers of its header, and its calls, each in 24 bytes. Every function takes any bytes.
+ghost use Rattle.std.specs.Prelude.{◌≡◌, ◌+◌, ◌*◌, ◌<◌, ◌≤◌, length, drop, MatchOption};
+ghost use Rattle.std.specs.List.{list_any};
+ghost use Rattle.std.specs.Simd.{first_chunks};
+ghost use Rattle.schedule.specs.rules.Format.{little};
+ghost use Rattle.schedule.specs.laws.FormatLaws.{CallRead, wrong, header_in};
 
 use lock::{Call, Settings};
 
-// ---- "little-endian": the number that one, two, four or eight bytes hold
-
-fn u8_at(bytes: &[u8], at: usize) -> u64
-    requires { at < length bytes.now }
-    ensures { result ≡ get_or bytes.now at 0 }
+// "little-endian": the number that N bytes from `at` on hold. A loop over places: of a `fold` over the bytes from behind, which was tried, the check leaves open that no turn overflows (`callable`)
+// and what comes out.
+fn number_at<const N: usize>(bytes: &[u8], at: usize) -> u64
+    requires few { N ≤ 8 }
+    requires inside { at + N ≤ length bytes.now }
+    ensures { result ≡ little N bytes.now at }
 {
-    bytes[at] as u64
+    let mut number = 0;
+    for k in (0..N).rev() {
+        number = 256 * number + u64::from(bytes[at + k]);
+    }
+    number
 }
 
-pub fn u16_at(bytes: &[u8], at: usize) -> u64
-    requires { at + 2 ≤ length bytes.now }
-    ensures { result ≡ little 2 bytes.now at }
-{
-    let low = u8_at(bytes, at);
-    let high = u8_at(bytes, at + 1);
-    low + 256 * high
+// "Header of 16 bytes: u16 H, u16 m, u32 T, u16 clients, u16 count of calls, u32 offset of the first."; 2.2, "u32 P at byte 16".
+#[derive(Clone, Copy)]
+pub struct Header {
+    pub settings: Settings,
+    pub clients: usize,
+    pub count: usize,
+    pub offset: usize,
 }
 
-pub fn u32_at(bytes: &[u8], at: usize) -> u64
-    requires { at + 4 ≤ length bytes.now }
-    ensures { result ≡ little 4 bytes.now at }
-{
-    let low = u16_at(bytes, at);
-    let high = u16_at(bytes, at + 2);
-    low + 65536 * high
-}
+impl Header {
+    // The header of a file that is long enough to have one.
+    pub fn read(bytes: &[u8]) -> Option<Header>
+        ensures { MatchOption result (length bytes.now < 20) (λ header. (20 ≤ length bytes.now) × (header ≡ header_in bytes.now)) }
+    {
+        if bytes.len() < 20 {
+            return None;
+        }
+        Some(Header {
+            settings: Settings {
+                levels: number_at::<2>(bytes, 0),
+                distance: number_at::<2>(bytes, 2),
+                wait: number_at::<4>(bytes, 4),
+                patience: number_at::<4>(bytes, 16),
+            },
+            clients: number_at::<2>(bytes, 8) as usize,
+            count: number_at::<2>(bytes, 10) as usize,
+            offset: number_at::<4>(bytes, 12) as usize,
+        })
+    }
 
-pub fn u64_at(bytes: &[u8], at: usize) -> u64
-    requires { at + 8 ≤ length bytes.now }
-    ensures { result ≡ little 8 bytes.now at }
-{
-    let low = u32_at(bytes, at);
-    let high = u32_at(bytes, at + 4);
-    low + 4294967296 * high
-}
-
-// ---- "Header of 16 bytes: u16 H, u16 m, u32 T, u16 clients, u16 count of calls, u32 offset of the first."; 2.2, "u32 P at byte 16"
-
-pub fn settings_in(bytes: &[u8]) -> Settings
-    requires { 20 ≤ length bytes.now }
-    ensures { result ≡ settings_in bytes.now }
-{
-    let levels = u16_at(bytes, 0);
-    let distance = u16_at(bytes, 2);
-    let wait = u32_at(bytes, 4);
-    let patience = u32_at(bytes, 16);
-    Settings {
-        levels,
-        distance,
-        wait,
-        patience,
+    // The calls, if all of their bytes are inside: "an offset plus 24 × calls over the file's length" is refused.
+    pub fn calls(self, bytes: &[u8]) -> Option<&[[u8; 24]]>
+        ensures { MatchOption result (length bytes.now < self.offset + 24 * self.count) (λ calls. (self.offset + 24 * self.count ≤ length bytes.now) × (calls.now ≡ first_chunks 24 self.count (drop self.offset bytes.now))) }
+    {
+        let (calls, _) = bytes.get(self.offset..)?.as_chunks::<24>();
+        calls.get(..self.count)
     }
 }
 
-pub fn clients_in(bytes: &[u8]) -> usize
-    requires { 20 ≤ length bytes.now }
-    ensures { result ≡ clients_in bytes.now }
+// "A call has 24 bytes: u8 kind (0 request, 1 step, 2 release, 3 cancel), u8 0, u16 client, u32 0, u64 a, u64 b."
+pub fn call_in(bytes: &[u8; 24]) -> Call
+    ensures { CallRead bytes.now result }
 {
-    let clients = u16_at(bytes, 8);
-    clients as usize
+    Call {
+        kind: u64::from(bytes[0]),
+        client: number_at::<2>(bytes, 2),
+        a: number_at::<8>(bytes, 8),
+        b: number_at::<8>(bytes, 16),
+    }
 }
 
-pub fn count_in(bytes: &[u8]) -> usize
-    requires { 20 ≤ length bytes.now }
-    ensures { result ≡ count_in bytes.now }
+// "an unknown kind or a filled zero field"; "Request: a = l, b = r. Step: a = clock, b = 0. Else both 0." The kind is a number here: the file's byte may be any number,
+// and an unknown kind is what is tested.
+pub fn call_wrong(bytes: &[u8; 24]) -> bool
+    ensures { result ≡ wrong bytes.now }
 {
-    let count = u16_at(bytes, 10);
-    count as usize
-}
-
-pub fn offset_in(bytes: &[u8]) -> usize
-    requires { 20 ≤ length bytes.now }
-    ensures { result ≡ offset_in bytes.now }
-{
-    let offset = u32_at(bytes, 12);
-    offset as usize
-}
-
-// ---- "A call has 24 bytes: u8 kind (0 request, 1 step, 2 release, 3 cancel), u8 0, u16 client, u32 0, u64 a, u64 b."
-
-// Where call k begins; its 24 bytes are there.
-fn place_of(bytes: &[u8], k: usize) -> usize
-    requires { place_of bytes.now (suc k) ≤ length bytes.now }
-    ensures { result ≡ place_of bytes.now k }
-{
-    let offset = offset_in(bytes);
-    offset + 24 * k
-}
-
-fn call_at(bytes: &[u8], at: usize) -> Call
-    requires { at + 24 ≤ length bytes.now }
-    ensures { CallReadAt bytes.now at result }
-{
-    let kind = u8_at(bytes, at);
-    let client = u16_at(bytes, at + 2);
-    let a = u64_at(bytes, at + 8);
-    let b = u64_at(bytes, at + 16);
-    Call { kind, client, a, b }
-}
-
-// Call k.
-pub fn call_in(bytes: &[u8], k: usize) -> Call
-    requires { place_of bytes.now (suc k) ≤ length bytes.now }
-    ensures { CallRead bytes.now k result }
-{
-    let at = place_of(bytes, k);
-    call_at(bytes, at)
-}
-
-// ---- "an unknown kind or a filled zero field"; "Request: a = l, b = r. Step: a = clock, b = 0. Else both 0."
-
-fn wrong_at(bytes: &[u8], at: usize) -> bool
-    requires { at + 24 ≤ length bytes.now }
-    ensures { result ≡ wrong_at bytes.now at }
-{
-    let kind = u8_at(bytes, at);
-    let a = u64_at(bytes, at + 8);
-    let b = u64_at(bytes, at + 16);
-    (3 < kind)
-        | (u8_at(bytes, at + 1) != 0)
-        | (u32_at(bytes, at + 4) != 0)
-        | ((kind != 0) & ((b != 0) | ((kind != 1) & (a != 0))))
-}
-
-pub fn call_wrong(bytes: &[u8], k: usize) -> bool
-    requires { place_of bytes.now (suc k) ≤ length bytes.now }
-    ensures { result ≡ call_wrong bytes.now k }
-{
-    let at = place_of(bytes, k);
-    wrong_at(bytes, at)
+    let call = call_in(bytes);
+    (3 < call.kind)
+        | (bytes[1] != 0)
+        | (number_at::<4>(bytes, 4) != 0)
+        | ((call.kind != 0) & ((call.b != 0) | ((call.kind != 1) & (call.a != 0))))
 }
 
 // Whether one of the calls is wrong. All of them are looked at before anything is run.
-pub fn any_wrong(bytes: &[u8]) -> bool
-    requires { (20 ≤ length bytes.now) × (place_of bytes.now (count_in bytes.now) ≤ length bytes.now) }
-    ensures { result ≡ any_wrong bytes.now (count_in bytes.now) }
+pub fn any_wrong(calls: &[[u8; 24]]) -> bool
+    ensures { result ≡ list_any wrong calls.now }
 {
-    let count = count_in(bytes);
-    let mut k = 0;
-    while k < count {
-        if call_wrong(bytes, k) {
-            return true;
-        }
-        k += 1;
-    }
-    false
-}
-
-// ---- "A file too long or short, an offset below 16, an offset plus 24 × calls over the file's length, an unknown kind or a filled zero field:
-// `refused 10`. H over 6 or clients over 64: `refused 11`, tested after 10."; 2.2, "its least offset is 20".
-
-// "offset plus 24 × calls"
-fn calls_end(bytes: &[u8]) -> usize
-    requires { 20 ≤ length bytes.now }
-    ensures { result ≡ place_of bytes.now (count_in bytes.now) }
-{
-    let offset = offset_in(bytes);
-    let count = count_in(bytes);
-    offset + 24 * count
-}
-
-fn file_malformed(bytes: &[u8]) -> bool
-    ensures { result ≡ malformed bytes.now }
-{
-    if 65536 < bytes.len() {
-        return true;
-    }
-    if bytes.len() < 20 {
-        return true;
-    }
-    if offset_in(bytes) < 20 {
-        return true;
-    }
-    if bytes.len() < calls_end(bytes) {
-        return true;
-    }
-    any_wrong(bytes)
-}
-
-fn file_too_large(bytes: &[u8]) -> bool
-    requires { 20 ≤ length bytes.now }
-    ensures { result ≡ too_large bytes.now }
-{
-    (6 < u16_at(bytes, 0)) | (64 < clients_in(bytes))
-}
-
-// The number by which a file is refused, 0 if it is not: the whole file is looked at before anything is run.
-pub fn file_cause(bytes: &[u8]) -> u64
-    ensures { result ≡ file_cause bytes.now }
-{
-    if file_malformed(bytes) {
-        return 10;
-    }
-    if file_too_large(bytes) {
-        return 11;
-    }
-    0
+    calls.iter().any(|call| call_wrong(call))
 }

@@ -1,135 +1,127 @@
-// The calls of a schedule, made one after another on a run: clients on a shelf, the words lent beside it. Nothing is written here.
-ghost use Rattle.std.specs.Prelude.{◌≡◌, suc, ◌≤◌, length, take, replicate};
-ghost use Rattle.tree.specs.rules.Tree.{word_count};
-ghost use Rattle.lock.specs.rules.Table as Table;
+// The client table of a schedule and the words of its tree, on which the calls are made. Nothing is written here.
+ghost use Rattle.std.specs.Prelude.{◌≡◌, ◌≤◌, length, map, replicate, take};
+ghost use Rattle.table.specs.rules.Lent.{lent, left_with};
+ghost use Rattle.lock.specs.rules.ByValue.{call_of};
 ghost use Rattle.lock.specs.rules.History as History;
-ghost use Rattle.table.specs.rules.Lent.{left_with};
-ghost use Rattle.schedule.specs.rules.Format.{settings_in, clients_in, place_of, call_in, calls_in, lent_for};
-ghost use Rattle.schedule.specs.rules.Running.{opening_in, after_calls};
-ghost use Rattle.schedule.specs.rules.Refusal.{refusal};
-ghost use Rattle.schedule.specs.laws.RunLaws.{clients_of, state_of, fresh_run};
-ghost use Rattle.schedule.specs.laws.WellFormed.{WellFormed};
+ghost use Rattle.lock.specs.rules.Table as Calls;
+ghost use Rattle.schedule.specs.rules.Format.{lent_for};
+ghost use Rattle.schedule.specs.laws.FormatLaws.{call_of_bytes};
+ghost use Rattle.schedule.specs.laws.RunLaws.{fresh};
 
-use crate::{Begun, Made, Run, format, front};
-use lock::Settings;
-use table::opening_cause;
+use crate::examined::word_count;
+use crate::{Schedule, format};
+use lock::{Call, Client, Settings};
+use std::marker::Model;
+use table::table_act;
 
-// As many words as the tree has; a tree of fewer than 2 levels is refused by the opening.
-fn word_count(levels: u64) -> usize
-    requires { levels ≤ 6 }
-    ensures { (result ≡ word_count levels) × (result ≤ 1365) }
+// A client table and the words of its tree, in memory for 64 clients and a tree of 6 levels: the first `count` clients and the first `last` words are the
+// schedule's. The arrays stand with their counts behind a model, which is the form for a buffer with a private length here; as `ArrayVec`s they would be filled by a
+// loop each before the first call.
+#[derive(Drop)]
+pub struct Table {
+    clients: [Client; 64],
+    count: usize,
+    words: [u64; 1365],
+    last: usize,
+}
+
+impl Model for Table {
+    ghost use Rattle.std.specs.Prelude.{◌≤◌, take};
+    ghost use Rattle.lock.specs.rules.Table.{State};
+    ghost use Rattle.table.specs.rules.Lent.{lent};
+
+    ghost Value = { State };
+
+    ghost view = { λ t. lent (take t.count t.clients) (take t.last t.words) };
+
+    ghost invariant = { λ t. (t.count ≤ 64) × (t.last ≤ 1365) };
+}
+
+// An array that holds one value everywhere.
+fn filled<T: Copy, const N: usize>(value: T) -> [T; N]
+    ensures { result ≡ replicate N value }
 {
-    if levels == 0 {
-        return 0;
+    [value; N]
+}
+
+// A call on the first clients and the first words. The fields of a table are lent to it one by one: two slices of what lies behind one reference cannot be lent at
+// once.
+fn act_front(
+    clients: &mut [Client; 64],
+    count: usize,
+    words: &mut [u64; 1365],
+    last: usize,
+    settings: Settings,
+    call: Call,
+) -> u64
+    requires { (count ≤ 64) × (last ≤ 1365) }
+    ensures { left_with result (take count clients.new) (take last words.new) ≡ Calls.call settings (lent (take count clients.old) (take last words.old)) (call_of call.kind call.client call.a call.b) }
+{
+    let clients = &mut clients[..count];
+    let words = &mut words[..last];
+    table_act(clients, words, settings, call, call.kind)
+}
+
+impl Table {
+    // Words of 0 and idle clients, as the opening leaves them.
+    fn new(settings: Settings, clients: usize) -> Table
+        requires { (settings.levels ≤ 6) × (clients ≤ 64) }
+        ensures { result ≡ lent_for settings clients }
+    {
+        Table {
+            clients: filled(Client::idle()),
+            count: clients,
+            words: filled(0),
+            last: word_count(settings.levels),
+        }
     }
-    tree::last_node(levels) as usize
-}
 
-// The words of the highest tree that a schedule may have, all 0.
-fn zero_words() -> [u64; 1365]
-    ensures { result ≡ replicate 1365 0 }
-{
-    [0; 1365]
-}
-
-// The number of a schedule's opening (0 accepted). What is lent to it is fresh, words of 0 and idle clients, and that is also what it leaves: only the number is to
-// be found.
-fn opening_number(settings: Settings, clients: usize) -> u64
-    requires { settings.levels ≤ 6 }
-    ensures { result ≡ (Table.opening settings (lent_for settings clients)).number }
-{
-    let count = word_count(settings.levels);
-    opening_cause(settings, count, clients)
-}
-
-// The number by which a schedule is refused, 0 if its calls are made. The whole file is examined before its opening.
-pub fn refusal(bytes: &[u8]) -> u64
-    ensures { result ≡ refusal bytes.now }
-{
-    let cause = format::file_cause(bytes);
-    if cause != 0 {
-        return cause;
+    // The clients, as many as the schedule has.
+    pub fn clients(&self) -> &[Client]
+        ensures clients { result.now ≡ self.now.clients }
+        ensures few { length result.now ≤ 64 }
+    {
+        &self.clients[..self.count]
     }
-    let settings = format::settings_in(bytes);
-    let clients = format::clients_in(bytes);
-    opening_number(settings, clients)
-}
 
-// The run before the first call: idle clients.
-fn fresh_run(clients: usize) -> Run
-    ensures { result ≡ fresh_run clients }
-{
-    Run {
-        shelf: front::empty_shelf(),
-        clients: clients,
+    // A client after a call; past the table an idle one.
+    pub fn client(&self, client: u64) -> Client
+        ensures { result ≡ Calls.client_at self.now client }
+    {
+        let own = self.clients().get(client as usize);
+        own.copied().unwrap_or(Client::idle())
     }
-}
 
-// Makes call k of the file.
-pub fn make_call(bytes: &[u8], k: usize, run: Run, words: &mut [u64], settings: Settings) -> Made
-    requires { (place_of bytes.now (suc k) ≤ length bytes.now) × (run.clients ≤ 64) }
-    ensures made { left_with result.number (clients_of result.run) words.new ≡ Table.call settings (state_of run words.old) (call_in bytes.now k) }
-    ensures clients { result.run.clients ≡ run.clients }
-{
-    let call = format::call_in(bytes, k);
-    let shelf = run.shelf;
-    let clients = run.clients;
-    let acted = front::act_front(shelf, clients, words, settings, call);
-    let next = acted.shelf;
-    Made {
-        number: acted.number,
-        run: Run {
-            shelf: next,
-            clients: clients,
-        },
-    }
-}
-
-// Makes all calls of the file.
-fn make_calls(bytes: &[u8], run: Run, words: &mut [u64], settings: Settings) -> Run
-    requires { WellFormed bytes.now × (run.clients ≤ 64) }
-    ensures made { state_of result words.new ≡ History.run settings (state_of run words.old) (calls_in bytes.now) }
-    ensures clients { result.clients ≡ run.clients }
-{
-    let count = format::count_in(bytes);
-    let mut run = run;
-    let mut k = 0;
-    while k < count {
-        let made = make_call(bytes, k, run, words, settings);
-        let next = made.run;
-        run = next;
-        k = k + 1;
-    }
-    run
-}
-
-// The table of a schedule before its first call.
-pub fn begin(bytes: &[u8]) -> Begun
-    requires { refusal bytes.now ≡ 0 }
-    ensures settings { result.settings ≡ settings_in bytes.now }
-    ensures clients { result.run.clients ≡ clients_in bytes.now }
-    ensures table { state_of result.run (take result.count result.words) ≡ (opening_in bytes.now).state }
-    ensures tree { result.count ≤ length result.words }
-{
-    let settings = format::settings_in(bytes);
-    let clients = format::clients_in(bytes);
-    Begun {
-        settings: settings,
-        run: fresh_run(clients),
-        words: zero_words(),
-        count: word_count(settings.levels),
+    // Makes a call, and answers its number.
+    pub fn make(&mut self, settings: Settings, call: Call) -> u64
+        ensures { Calls.call settings self.old (call_of call.kind call.client call.a call.b) ≡ record { number = result; state = self.new } }
+    {
+        let Table {
+            clients,
+            count,
+            words,
+            last,
+        } = self;
+        act_front(clients, *count, words, *last, settings, call)
     }
 }
 
-// Makes all calls of a schedule that is not refused. The words are let go with it.
-pub fn run_schedule(bytes: &[u8]) -> Run
-    requires { refusal bytes.now ≡ 0 }
-    ensures table { clients_of result ≡ (after_calls bytes.now).clients }
-    ensures clients { result.clients ≡ clients_in bytes.now }
-{
-    let begun = begin(bytes);
-    let run = begun.run;
-    let mut words = begun.words;
-    let tree: &mut [u64] = &mut words[..begun.count];
-    make_calls(bytes, run, tree, begun.settings)
+impl Schedule<'_> {
+    // The table before the first call.
+    pub fn table(&self) -> Table
+        ensures { result ≡ fresh self.now.settings self.now.clients }
+    {
+        Table::new(self.settings, self.clients)
+    }
+
+    // The table after the last call.
+    pub fn run(&self) -> Table
+        ensures { result ≡ History.run self.now.settings (fresh self.now.settings self.now.clients) (map call_of_bytes self.now.calls.now) }
+    {
+        let mut table = self.table();
+        for call in self.calls {
+            table.make(self.settings, format::call_in(call));
+        }
+        table
+    }
 }

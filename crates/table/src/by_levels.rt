@@ -8,17 +8,17 @@ ghost use Rattle.table.specs.rules.Wanted.{words_wanted};
 pub fn nolthewyr_cover(levels: u64, left: u64, right: u64) -> cover::Answer
     ensures { result ≡ answer levels left right }
 {
-    cover::cover(levels, left, right)
+    cover::cover(levels, left, right).into()
 }
 
 // How many steps [left, right) needs on an otherwise idle tree. Tests 1 for the levels and the distance, then 7.
 pub fn nolthewyr_step_count(levels: u64, distance: u64, left: u64, right: u64) -> lock::StepCount
     ensures { result ≡ step_count_answer levels distance left right }
 {
-    lock::step_count(levels, distance, left, right)
+    lock::StepCount::from(lock::step_count(levels, distance, left, right))
 }
 
-// How many words are to be lent; 0 for a number of levels that no tree has.
+// How many words are to be lent; 0 for a number of levels that no tree has, since the C interface has no Option. The range of the levels is stated where it is tested.
 pub fn nolthewyr_word_count(levels: u64) -> u64
     ensures { result ≡ words_wanted levels }
 {

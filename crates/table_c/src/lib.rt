@@ -1,5 +1,6 @@
 // The calls over a lent client table, and what can be asked of a tree by its levels and distance alone, as C links them. Each makes the call of the crate `table` that has its name, and states the clauses of that call
 // again, word for word.
+// (All of one shape: C links each by a name of its own, and has no generic functions.)
 #![tactic(auto)]
 
 ghost use Rattle.std.specs.Prelude.{◌≡◌};

@@ -1,6 +1,8 @@
 // Node numbers of the quaternary tree: level, parent, child, range of units, and the lists of nodes that a client walks. No function has a
-// loop: a step of k levels is a shift by 2 * k bits. `Node 12 n` says that n is a node of the highest tree.
-#![tactic(auto)]
+// loop: a step of k levels is a shift by 2 * k bits. `Node 12 n` says that n is a node of the highest tree. There is no type for such a number, nor for h
+// and m: all three are numbers of C's records and settings, compared there and used as indices, so that each call in `lock` and `runs` would make
+// the type under the very clause that stands here, and the number would be taken out again.
+#![tactic(auto, using(crate::proofs::laws::Code::shifts))]
 
 ghost use Rattle.std.specs.Prelude.{◌≡◌, ◌+◌, ◌-◌, ◌<◌, ◌≤◌, length, get_or};
 ghost use Rattle.tree.specs.rules.Tree.{parent, child, climb, leftmost, first, last, level, Node, size, left};
@@ -12,7 +14,7 @@ pub fn level(n: u64) -> u64
     requires { Node 12 n }
     ensures { result ≡ level n }
 {
-    (65 - u64::leading_zeros(3 * n - 2)) as u64 / 2
+    u64::ilog2(3 * n - 2) as u64 / 2 + 1
 }
 
 pub fn parent(n: u64) -> u64
@@ -111,10 +113,7 @@ fn notify_steps(m: u64, d: u64, i: u64) -> u64
     if d <= m {
         return 1;
     }
-    if i * m + m < d {
-        return i * m + 1;
-    }
-    d - m
+    u64::min(i * m + 1, d - m)
 }
 
 pub fn notify_node(m: u64, n: u64, i: u64) -> u64
@@ -128,11 +127,7 @@ pub fn check_count(h: u64, m: u64, n: u64) -> u64
     requires { (h ≤ 12) × (1 ≤ m) × (m ≤ 4) × Node h n }
     ensures { result ≡ length (check_list h m n) }
 {
-    let k = h - level(n);
-    if m < k {
-        return first_node(m + 1) - 1;
-    }
-    first_node(k + 1) - 1
+    first_node(u64::min(m, h - level(n)) + 1) - 1
 }
 
 // The nodes below n stand in the order of the nodes 1, 2, 3, .. below the root: each that is k levels down stands (n - 1) * 4 ^ k further on.

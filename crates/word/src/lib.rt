@@ -1,34 +1,107 @@
 // The words of the tree by masks and shifts. What holds of a field holds at any place and width.
 #![tactic(auto)]
 
-ghost use Rattle.std.specs.Prelude.{◌≡◌, ◌+◌, ◌-◌, ◌^◌, ◌≤◌, ◌<◌};
-ghost use Rattle.word.specs.rules.Word.{Place, field, add_field, occ, tcnt, tmax, dcnt, dmax, add_occ, add_tcnt, add_tmax, add_dcnt, add_dmax, layout, add_fields, return_occ, leaf_bits, wanted_bits, masked_swap, take_bits, give_bits};
+ghost use Rattle.std.proofs.Common.{lit<, lit≤};
+ghost use Rattle.std.specs.Prelude.{ℕ, ◌≡◌, ◌+◌, ◌-◌, ◌^◌, ◌≤◌, ◌<◌};
+ghost use Rattle.word.specs.rules.Word.{Place, field, add_field, layout, add_fields, return_occ, leaf_bits, wanted_bits, swap_of, masked_swap, take_bits, give_bits};
 
-// An inner word: how many bits stand below each field.
-const OCC_SHIFT: u64 = 62;
+// A field of an inner word: how many bits stand below it, and how many it has.
+pub trait InnerField {
+    const SHIFT: u64;
 
-const TCNT_SHIFT: u64 = 47;
+    const WIDTH: u64;
 
-const TMAX_SHIFT: u64 = 32;
+    ghost SHIFT: { ℕ };
 
-const DCNT_SHIFT: u64 = 16;
+    ghost WIDTH: { ℕ };
 
-const DMAX_SHIFT: u64 = 0;
+    // it lies in a word
+    ghost lies: { Place SHIFT WIDTH };
+}
 
-// How many bits a flag, a ticket count and a notice count have.
-const FLAG_WIDTH: u64 = 1;
+// "Inner word, from bit 63 down: Exp 1 bit, Occ 1, TCnt 15, TMax 15, DCnt 16, DMax 16." Exp "is kept as found and never consulted".
+pub struct Occ;
 
-const TICKET_WIDTH: u64 = 15;
+pub struct Tcnt;
 
-const NOTICE_WIDTH: u64 = 16;
+pub struct Tmax;
 
-// The top bit of every field, and all other bits.
-const TOPS: u64 = 0xe000_4000_8000_8000;
+pub struct Dcnt;
 
-const LOWS: u64 = 0x1fff_bfff_7fff_7fff;
+pub struct Dmax;
+
+impl InnerField for Occ {
+    const SHIFT: u64 = 62;
+
+    const WIDTH: u64 = 1;
+
+    ghost SHIFT = { 62 };
+
+    ghost WIDTH = { 1 };
+
+    ghost lies = { record { some = lit< tt; short = lit< tt; inside = lit≤ tt } };
+}
+
+impl InnerField for Tcnt {
+    const SHIFT: u64 = 47;
+
+    const WIDTH: u64 = 15;
+
+    ghost SHIFT = { 47 };
+
+    ghost WIDTH = { 15 };
+
+    ghost lies = { record { some = lit< tt; short = lit< tt; inside = lit≤ tt } };
+}
+
+impl InnerField for Tmax {
+    const SHIFT: u64 = 32;
+
+    const WIDTH: u64 = 15;
+
+    ghost SHIFT = { 32 };
+
+    ghost WIDTH = { 15 };
+
+    ghost lies = { record { some = lit< tt; short = lit< tt; inside = lit≤ tt } };
+}
+
+impl InnerField for Dcnt {
+    const SHIFT: u64 = 16;
+
+    const WIDTH: u64 = 16;
+
+    ghost SHIFT = { 16 };
+
+    ghost WIDTH = { 16 };
+
+    ghost lies = { record { some = lit< tt; short = lit< tt; inside = lit≤ tt } };
+}
+
+impl InnerField for Dmax {
+    const SHIFT: u64 = 0;
+
+    const WIDTH: u64 = 16;
+
+    ghost SHIFT = { 0 };
+
+    ghost WIDTH = { 16 };
+
+    ghost lies = { record { some = lit< tt; short = lit< tt; inside = lit≤ tt } };
+}
+
+// The top bit of every field, and all other bits. Exp is bit 63; the top bit of another field lies just below the field above it.
+const TOPS: u64 = (1 << 63)
+    | (1 << 62)
+    | (1 << (Occ::SHIFT - 1))
+    | (1 << (Tcnt::SHIFT - 1))
+    | (1 << (Tmax::SHIFT - 1))
+    | (1 << (Dcnt::SHIFT - 1));
+
+const LOWS: u64 = !TOPS;
 
 // A 1 in Occ and a 1 in TCnt.
-const OCC_RETURNED: u64 = 0x4000_8000_0000_0000;
+pub const OCC_RETURNED: u64 = (1 << Occ::SHIFT) | (1 << Tcnt::SHIFT);
 
 // The number in a field.
 pub fn field(word: u64, shift: u64, width: u64) -> u64
@@ -48,64 +121,18 @@ pub fn add_field(word: u64, shift: u64, width: u64, delta: u64) -> u64
     (word & !(ones << shift)) | ((sum & ones) << shift)
 }
 
-pub fn occ(word: u64) -> u64
-    ensures { result ≡ occ word }
+// The number in a field of an inner word.
+pub fn get<F: InnerField>(word: u64) -> u64
+    ensures { result ≡ field F.SHIFT F.WIDTH word }
 {
-    field(word, OCC_SHIFT, FLAG_WIDTH)
+    field(word, F::SHIFT, F::WIDTH)
 }
 
-pub fn tcnt(word: u64) -> u64
-    ensures { result ≡ tcnt word }
+// The word after `delta` is added within a field of it.
+pub fn add<F: InnerField>(word: u64, delta: u64) -> u64
+    ensures { result ≡ add_field F.SHIFT F.WIDTH delta word }
 {
-    field(word, TCNT_SHIFT, TICKET_WIDTH)
-}
-
-pub fn tmax(word: u64) -> u64
-    ensures { result ≡ tmax word }
-{
-    field(word, TMAX_SHIFT, TICKET_WIDTH)
-}
-
-pub fn dcnt(word: u64) -> u64
-    ensures { result ≡ dcnt word }
-{
-    field(word, DCNT_SHIFT, NOTICE_WIDTH)
-}
-
-pub fn dmax(word: u64) -> u64
-    ensures { result ≡ dmax word }
-{
-    field(word, DMAX_SHIFT, NOTICE_WIDTH)
-}
-
-pub fn add_occ(word: u64, delta: u64) -> u64
-    ensures { result ≡ add_occ delta word }
-{
-    add_field(word, OCC_SHIFT, FLAG_WIDTH, delta)
-}
-
-pub fn add_tcnt(word: u64, delta: u64) -> u64
-    ensures { result ≡ add_tcnt delta word }
-{
-    add_field(word, TCNT_SHIFT, TICKET_WIDTH, delta)
-}
-
-pub fn add_tmax(word: u64, delta: u64) -> u64
-    ensures { result ≡ add_tmax delta word }
-{
-    add_field(word, TMAX_SHIFT, TICKET_WIDTH, delta)
-}
-
-pub fn add_dcnt(word: u64, delta: u64) -> u64
-    ensures { result ≡ add_dcnt delta word }
-{
-    add_field(word, DCNT_SHIFT, NOTICE_WIDTH, delta)
-}
-
-pub fn add_dmax(word: u64, delta: u64) -> u64
-    ensures { result ≡ add_dmax delta word }
-{
-    add_field(word, DMAX_SHIFT, NOTICE_WIDTH, delta)
+    add_field(word, F::SHIFT, F::WIDTH, delta)
 }
 
 // Every field of both words added in one sum. It leaves the top bits out, so that nothing is carried out of a field; they are added last, without a carry.
@@ -130,60 +157,39 @@ pub fn leaf_bits(low: u64, high: u64) -> u64
     (u64::MAX >> (64 - (high - low))) << low
 }
 
-// a - b, and 0 where b is larger, as the library's difference is. The test is a factor, so that there is no branch.
-fn saturating_sub(a: u64, b: u64) -> u64
-    ensures { result ≡ a - b }
-{
-    let larger = (b < a) as u64;
-    larger * a - larger * b
-}
-
 // The wanted bits of the leaf whose first unit is `edge`, for a window [l, r) that meets it. Both edges are clipped to the leaf, and the bits between them picked, without a
 // branch. "Bit b is set exactly when unit b is in the part" (document 02, request 2.5) is `wanted_exactly` in proofs/laws/Leaf.antt; of no other word is it so (`wanted_only`).
 pub fn wanted_bits(edge: u64, l: u64, r: u64) -> u64
     requires { (l < r) × (l < edge + 64) × (edge < r) × (edge + 64 < 2 ^ 64) }
     ensures { result ≡ wanted_bits edge l r }
 {
-    let low = saturating_sub(l, edge);
-    let high = 64 - saturating_sub(edge + 64, r);
+    let low = l.saturating_sub(edge);
+    let high = 64 - (edge + 64).saturating_sub(r);
     leaf_bits(low, high)
 }
 
-// What a masked compare-and-swap answers: whether the compared bits were as expected, and the word that it leaves.
-#[repr(C)]
-#[derive(Clone, Copy)]
-pub struct Swap {
-    pub done: bool,
-    pub word: u64,
-}
-
-// A masked compare-and-swap: it compares the bits of `compared`, and sets those of `swapped`.
-pub fn masked_swap(word: u64, compared: u64, expected: u64, swapped: u64, value: u64) -> Swap
-    ensures { result ≡ masked_swap compared expected swapped value word }
+// A masked compare-and-swap: it compares the bits of `compared`, and sets those of `swapped`. It answers the word that it leaves, or None where the compared bits are not as
+// expected, and the word stays.
+pub fn masked_swap(word: u64, compared: u64, expected: u64, swapped: u64, value: u64) -> Option<u64>
+    ensures { swap_of result word ≡ masked_swap compared expected swapped value word }
 {
     if word & compared == expected & compared {
-        Swap {
-            done: true,
-            word: (word & !swapped) | (value & swapped),
-        }
+        Some((word & !swapped) | (value & swapped))
     } else {
-        Swap {
-            done: false,
-            word: word,
-        }
+        None
     }
 }
 
-// Swaps the bits from all 0 to all 1.
-pub fn take_bits(word: u64, bits: u64) -> Swap
-    ensures { result ≡ take_bits bits word }
+// Swaps the bits from all 0 to all 1. This and the next differ in a constant; each is one call of the general form above, which a function of both constants would only repeat.
+pub fn take_bits(word: u64, bits: u64) -> Option<u64>
+    ensures { swap_of result word ≡ take_bits bits word }
 {
     masked_swap(word, bits, 0, bits, bits)
 }
 
 // Swaps the bits from all 1 to all 0.
-pub fn give_bits(word: u64, bits: u64) -> Swap
-    ensures { result ≡ give_bits bits word }
+pub fn give_bits(word: u64, bits: u64) -> Option<u64>
+    ensures { swap_of result word ≡ give_bits bits word }
 {
     masked_swap(word, bits, bits, bits, 0)
 }

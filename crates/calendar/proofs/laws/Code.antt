@@ -1,5 +1,5 @@
 -- Laws: the answers of the two calls, test by test. Assumes nothing.
-use Rattle.std.specs.Prelude.{◌≡◌, true, false, not, ◌||◌, List, ℕ, eqb, leb, ltb}
+use Rattle.std.specs.Prelude.{◌≡◌, Bool, true, false, not, ◌||◌, List, ℕ, eqb, leb, ltb}
 use Rattle.std.proofs.Common.{arith}
 use borrow.Author.Tests.{ltb-false, eqb-true, not-false}
 use Rattle.base.specs.rules.Choice.{choose}
@@ -11,10 +11,9 @@ use Rattle.calendar.specs.rules.Calendar.{unit_of, unit_count, Known, unknown, f
 use Rattle.calendar.specs.rules.Back.{quarter_refused, quarter_found, quarter_answer}
 use Rattle.calendar.specs.rules.Hours.{hours_wrong}
 use Rattle.calendar.specs.rules.Windows.{calendar_wrong, out_of_order, some_closed, window_refused, window_found, window_answer}
-use Rattle.calendar.specs.laws.Figures.{Small}
-use Rattle.calendar.proofs.laws.Figures.{Inside, to_inside, to_known, known_small}
+use Rattle.calendar.proofs.laws.Figures.{Small, Inside, to_inside, to_known, known_small}
 use Rattle.calendar.proofs.laws.HoursLaws.{pairs_there}
-use Rattle.calendar.specs.laws.Closed.{Ordered}
+use Rattle.calendar.proofs.laws.Closed.{Ordered}
 
 -- what passed 12
 pub record Right (c : Calendar) (hours : List ℕ) (first last : Quarter) : Type 0 where
@@ -45,6 +44,17 @@ module _ (c : Calendar) (hours : List ℕ) (first last : Quarter) where
     pub wrong_ends : hours_wrong c.wards hours ≡ false → (unknown c first || unknown c last) ≡ calendar_wrong c hours first last
     unfolding calendar_wrong
     wrong_ends e = rw (figures, e)
+
+  -- the tests of the code, one after another, are 12 and 13
+  pub tested_12 : {h u v b : Bool} → figures_outside c ≡ false → h ≡ hours_wrong c.wards hours → u ≡ unknown c first → v ≡ unknown c last → (h || u || v) ≡ b
+      → calendar_wrong c hours first last ≡ b
+  unfolding calendar_wrong
+  tested_12 figures d e f t = rw (figures, ← d, ← e, ← f) t
+
+  pub tested_13 : {l k : ℕ} {b : Bool} → l ≡ unit_of c.weeks last → k ≡ unit_of c.weeks first → (not (eqb last.ward first.ward) || ltb l k) ≡ b
+      → out_of_order c.weeks first last ≡ b
+  unfolding out_of_order
+  tested_13 e f t = rw (← e, ← f) t
 
   pub first_small : Right c hours first last → Small c.weeks first
   first_small v = known_small c first v.figures.ranges.few v.first_known

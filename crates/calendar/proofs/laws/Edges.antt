@@ -18,7 +18,7 @@ use Rattle.calendar.specs.rules.Hours.{is_open}
 use Rattle.calendar.specs.rules.Windows.{calendar_wrong, out_of_order, some_closed, window_refused, window_found, window_answer, WindowAccepted, Earlier, Between, OpenBetween}
 use Rattle.calendar.proofs.laws.SomeBelow.{none_below}
 use Rattle.calendar.proofs.laws.Inverse.{day_of, from_ward, quarter_at, unit_inside, quarter_known, back_and_there}
-use Rattle.calendar.specs.laws.Closed.{Ordered}
+use Rattle.calendar.proofs.laws.Closed.{Ordered}
 use Rattle.calendar.proofs.laws.Code.{Right, to_right, to_ordered}
 
 -- ---- the order of quarters and of units

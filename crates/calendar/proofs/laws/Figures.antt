@@ -1,13 +1,21 @@
 -- Laws: which figures and quarters the tests let pass, and that the code's sums and products stay small. Assumes nothing.
-use Rattle.std.specs.Prelude.{◌≡◌, refl, Bool, true, false, ◌||◌, ℕ, ◌*◌, ◌≤◌, ◌<◌, leb, ltb}
+use Rattle.std.specs.Prelude.{◌≡◌, refl, Bool, true, false, ◌||◌, ℕ, ◌+◌, ◌*◌, ◌≤◌, ◌<◌, leb, ltb}
 use Rattle.std.proofs.Common.{arith, mul-le-mul, ltb-false, leb-false, le-ltb}
 use Rattle.std.proofs.lemmas.Bool.{lt-leb}
 use Rattle.base.specs.laws.TestLaws.{both_false, true_first, next_test}
 use Rattle.tree.specs.rules.Tree.{units}
 use Rattle.calendar.specs.declared.Calendar.{Calendar}
 use Rattle.calendar.specs.declared.Quarter.{Quarter}
-use Rattle.calendar.specs.rules.Calendar.{unit_of, unit_count, Known, unknown, figures_outside}
-use Rattle.calendar.specs.laws.Figures.{Few, Small}
+use Rattle.calendar.specs.rules.Calendar.{unit_of, unit_count, Known, Fits, unknown, figures_outside}
+use Rattle.calendar.specs.laws.Figures.{Few}
+
+-- a quarter whose unit fits into 64 bits
+pub record Small (weeks : ℕ) (at : Quarter) : Type 0 where
+  pub weeks_few : weeks ≤ 60
+  pub ward : at.ward < 64
+  pub week : at.week < 60
+  pub day : at.day < 7
+  pub quarter : at.quarter < 96
 
 weeks_small : (wards weeks : ℕ) → wards ≤ 64 → weeks ≤ 60 → wards * weeks ≤ 3840
 weeks_small wards weeks a b = mul-le-mul {n₁ = wards} {m₁ = weeks} {n₂ = 64} {m₂ = 60} a b
@@ -90,3 +98,13 @@ unfolding figures_outside
 to_inside c e =
     let t = both_false (ranges_outside c) (ltb (units c.levels) (unit_count c)) e in
     record { ranges = in_ranges c t.0; room = ltb-false (units c.levels) (unit_count c) t.1 }
+
+-- a known quarter of a calendar that fits
+pub fits_small : (c : Calendar) (at : Quarter) → Fits c → Known c at → Small c.weeks at
+fits_small c at f k = known_small c at (to_inside c f.figures).ranges.few k
+
+-- how many weeks are before it, those of the wards before its own counted too
+pub weeks_known : (c : Calendar) (at : Quarter) → Fits c → Known c at → at.ward * c.weeks + at.week < 3900
+weeks_known c at f k =
+    let s = fits_small c at f k in
+    omega (arith, weeks_before s)

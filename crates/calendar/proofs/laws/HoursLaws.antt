@@ -1,13 +1,17 @@
 -- Laws: the tests of the lent hours, as the code makes them. Assumes nothing.
-use Rattle.std.specs.Prelude.{◌≡◌, refl, true, false, ◌||◌, List, ℕ, ◌+◌, ◌*◌, ◌/◌, ◌≤◌, ◌<◌, eqb, ltb, get_or}
-use Rattle.std.proofs.Common.{ap, add-one}
+use Rattle.std.specs.Prelude.{◌≡◌, refl, true, false, ◌||◌, List, ℕ, zero, suc, ◌+◌, ◌*◌, ◌/◌, ◌≤◌, ◌<◌, eqb, ltb, get_or, drop}
+use Rattle.std.specs.List.{list_any}
+use Rattle.std.specs.Simd.{first_chunks}
+use Rattle.std.proofs.Common.{ap, ◌∙◌, add-one}
+use Rattle.std.proofs.Math.Path.{ap₂}
+use Rattle.std.proofs.lemmas.List.{get_or-take, get_or-drop}
 use Rattle.std.proofs.Math.Bool.{not}
 use native.Mathlib.Omega.{arith}
 use borrow.Author.Tests.{ltb-false, le-ltb, eqb-true, eq-eqb, ne_eqb, not-false}
 use Rattle.std.proofs.Math.ListN.{length}
 use Rattle.base.specs.laws.TestLaws.{both_false, true_first, next_test}
 use Rattle.calendar.specs.rules.Hours.{opening, closing, some_below, pair_wrong, hours_wrong}
-use Rattle.calendar.proofs.laws.SomeBelow.{some_below_lem, fail_together, none_of}
+use Rattle.calendar.proofs.laws.SomeBelow.{some_below_lem, fail_together, none_of, same_below, first_below}
 use Rattle.calendar.specs.laws.HoursLaws.{some_pair_wrong}
 
 -- the two tests of the code are enough
@@ -51,3 +55,16 @@ module _ (wards : ℕ) (hours : List ℕ) where
   pub pairs_there : hours_wrong wards hours ≡ false → length hours ≡ 14 * wards
   unfolding hours_wrong
   pairs_there e = eqb-true _ _ (not-false _ (both_false (not (eqb (length hours) (14 * wards))) _ e).0)
+
+-- the pairs as the code takes them, the first two numbers off a list and so on
+pub any_pair : (n : ℕ) (hours : List ℕ) → list_any (λ pair. pair_wrong (get_or pair 0 0) (get_or pair 1 0)) (first_chunks 2 n hours) ≡ some_pair_wrong hours n
+unfolding some_pair_wrong some_below opening closing
+any_pair zero hours = refl
+any_pair (suc n) hours =
+    ap₂ ◌||◌
+    (ap₂ pair_wrong (get_or-take 2 hours 0 0 (omega arith)) (get_or-take 2 hours 1 0 (omega arith)))
+    (any_pair n (drop 2 hours) ∙ same_below n n _ (λ pair. pair_wrong (get_or hours (2 * suc pair) 0) (get_or hours (2 * suc pair + 1) 0)) refl (λ pair h.
+    let e : 2 + 2 * pair ≡ 2 * suc pair = omega arith in
+    let f : 2 + (2 * pair + 1) ≡ 2 * suc pair + 1 = omega arith in
+    ap₂ pair_wrong (get_or-drop 2 hours (2 * pair) 0 ∙ ap (λ (k : ℕ). get_or hours k 0) e) (get_or-drop 2 hours (2 * pair + 1) 0 ∙ ap (λ (k : ℕ). get_or hours k 0) f)))
+    ∙ first_below n (λ pair. pair_wrong (get_or hours (2 * pair) 0) (get_or hours (2 * pair + 1) 0))

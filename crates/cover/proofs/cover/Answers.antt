@@ -1,31 +1,22 @@
 -- `cover::cover` meets its contract. Assumes nothing.
-use mathlib.Core.Path.{◌∙◌, sym}
-use native.Mathlib.Omega.{arith}
-use Rattle.cover.specs.rules.Answer.{levels_outside}
-use Rattle.cover.proofs.laws.Code.{levels_refused, window_refused_lem, window_covered, levels_inside, window_inside}
+use Rattle.std.specs.Prelude.{◌≡◌, Ok}
+use Rattle.std.proofs.Common.{ap, ◌∙◌}
+use Rattle.std.proofs.lemmas.Result.{err_from_is_err_and}
+use Rattle.cover.specs.declared.Pieces.{Pieces}
+use Rattle.cover.specs.rules.Answer.{pieces_of, answer_of}
+use Rattle.cover.specs.rules.Search.{least_cover}
+use Rattle.cover.proofs.laws.Pieces.{call_refused, call_covered}
 use Rattle.cover.proofs.cover.Goals as goal
 
-pub returns-then-h : goal.returns-then-h
-unfolding levels_outside
-returns-then-h c =
+pub returns-in_err-tested : goal.returns-in_err-tested
+returns-in_err-tested c =
     let a = c.args in
-    c.refuse.ensures ∙ levels_refused a.h a.l a.r c.if-h.true
-
-pub returns-then-outside : goal.returns-then-outside
-unfolding levels_outside
-returns-then-outside c =
-    let a = c.args in
-    c.refuse-then-outside.ensures ∙ window_refused_lem a.h a.l a.r c.if-h.false (sym c.outside.ensures ∙ c.if-outside.true)
-
-pub pieces-requires : goal.pieces-requires
-unfolding levels_outside
-pieces-requires c =
-    let a = c.args in
-    let v = levels_inside a.h a.l a.r c.if-h.false in
-    window_inside a.h a.l a.r (omega (arith, v.0)) v.1 (sym c.outside.ensures ∙ c.if-outside.false)
+    let p = err_from_is_err_and c.from_residual.result c.from_residual.ensures.1 in
+    rw (p.1, p.2) (call_refused a.h a.l a.r _ c.in_err-tested.ensures.refused)
 
 pub returns : goal.returns
-unfolding levels_outside
 returns c =
     let a = c.args in
-    c.pieces.ensures ∙ window_covered a.h a.l a.r c.if-h.false (sym c.outside.ensures ∙ c.if-outside.false)
+    let w = c.in_ok-tested.ensures.window in
+    let q : c.pieces.result ≡ pieces_of a.h a.l a.r (least_cover 2 a.h a.l a.r) = rw (← w.0, ← w.1, ← w.2) c.pieces.ensures in
+    ap (λ (p : Pieces). answer_of (Ok p)) q ∙ call_covered a.h a.l a.r c.in_ok-tested.ensures.refused

@@ -13,7 +13,7 @@ use Rattle.tree.proofs.laws.Climb.{first_pos}
 use Rattle.tree.proofs.laws.Range.{holder_level, right_in}
 use Rattle.tree.proofs.laws.Closed.{four, first_up, holder_is, left_edge_is, node_small}
 use Rattle.tree.proofs.laws.Code.{four_small, shifted}
-use Rattle.cover.specs.declared.Piece.{Piece}
+use Rattle.cover.specs.declared.window.Piece.{Piece}
 use Rattle.cover.specs.rules.Cover.{over, total}
 use Rattle.cover.specs.rules.Search.{least_cover}
 use Rattle.cover.specs.rules.Answer.{levels_outside, window_outside, refused, accepted, answer}
@@ -97,7 +97,7 @@ pub pair_is : (h l t r : ℕ) (p q : Piece) → p ≡ lowest_piece h l t → q �
 unfolding lowest_piece pair
 pair_is h l t r p q e f = λ i. record { number = 0; first = (e i).node; second = (f i).node; over = (e i).over + (f i).over }
 
-over_small : (h l r : ℕ) (p : Piece) → Window h l r → p ≡ lowest_piece h l r → p.over ≤ 268435456
+pub over_small : (h l r : ℕ) (p : Piece) → Window h l r → p ≡ lowest_piece h l r → p.over ≤ 268435456
 unfolding lowest_piece
 over_small h l r p w e =
     let v = low_has h l r w in

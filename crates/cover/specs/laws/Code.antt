@@ -2,7 +2,7 @@
 use Rattle.std.specs.Prelude.{Bool, not, ◌||◌, List, ℕ, suc, ◌+◌, ◌-◌, eqb, get_or}
 use Rattle.base.specs.rules.Choice.{choose}
 use Rattle.cover.specs.declared.Answer.{Answer}
-use Rattle.cover.specs.declared.Piece.{Piece}
+use Rattle.cover.specs.declared.window.Piece.{Piece}
 use Rattle.cover.specs.rules.Cover.{over}
 use Rattle.cover.specs.laws.Lowest.{lowest}
 use Rattle.cover.specs.laws.Split.{edge_child, cut}

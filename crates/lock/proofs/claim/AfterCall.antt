@@ -8,11 +8,10 @@ use Rattle.std.proofs.Math.Dec.{eqb→eq}
 use Rattle.std.proofs.Math.ListN.{length, length-set}
 use Rattle.base.specs.laws.ChoiceLaws.{on_choose, choose_eq, by_eq}
 use Rattle.lock.specs.declared.Client.{Client}
-use Rattle.lock.specs.declared.Moved.{Moved}
 use Rattle.lock.specs.declared.Record.{Record}
 use Rattle.lock.specs.declared.Settings.{Settings}
 use Rattle.lock.specs.rules.Records.{Phase, idle, ticket, turn, climb, blocked, claim, notify, wait, check, held, returning, unknown, phase_of, word_at, client_with, idle_client}
-use Rattle.lock.specs.rules.Steps.{begin, first_noted, taken, ticket_taken, turn_awaited, go_up, climbed, unblocked, bits_claimed, occ_claimed, all_notified, notice_given, waited, check_passed, piece_returned, word_returned, turn_returned, touched, moved}
+use Rattle.lock.specs.rules.Steps.{Moved, begin, first_noted, taken, ticket_taken, turn_awaited, go_up, climbed, unblocked, bits_claimed, occ_claimed, all_notified, notice_given, waited, check_passed, piece_returned, word_returned, turn_returned, touched, moved}
 use Rattle.lock.specs.laws.Rows.{claim_piece, return_bits, return_inner, give_back, moved_in}
 use Rattle.lock.proofs.laws.Rows.{on_moved}
 use Rattle.lock.specs.rules.Calls.{requested, released, cancelled}

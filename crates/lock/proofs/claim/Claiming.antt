@@ -16,11 +16,10 @@ use Rattle.tree.proofs.laws.Level.{level_root}
 use Rattle.tree.proofs.laws.Ancestors.{ancestors_count}
 use Rattle.tree.proofs.laws.Notify.{notify_count_lem}
 use Rattle.tree.proofs.laws.Code.{bounded, count_none}
-use Rattle.lock.specs.declared.Moved.{Moved}
 use Rattle.lock.specs.declared.Record.{Record}
 use Rattle.lock.specs.declared.Settings.{Settings}
 use Rattle.lock.specs.rules.Records.{pieces, piece_at, current_piece, is_leaf, is_root, to_phase, with_grip, with_t0}
-use Rattle.lock.specs.rules.Steps.{bits_claimed, occ_claimed, wanted}
+use Rattle.lock.specs.rules.Steps.{Moved, bits_claimed, occ_claimed, wanted}
 use Rattle.lock.specs.laws.Rows.{leaves, claim_piece}
 use Rattle.lock.specs.laws.Active.{Settled}
 use Rattle.lock.proofs.laws.Placed.{widen}

@@ -12,11 +12,10 @@ use Rattle.word.proofs.laws.Leaf.{wanted_exactly, wanted_lt}
 use Rattle.word.proofs.laws.Swap.{give_done}
 use Rattle.tree.specs.rules.Tree.{leaf, left, level, size, units, holder, climb, Node}
 use Rattle.tree.proofs.laws.Range.{holds_holder, right_in}
-use Rattle.lock.specs.declared.Moved.{Moved}
 use Rattle.lock.specs.declared.Record.{Record}
 use Rattle.lock.specs.declared.Settings.{Settings}
 use Rattle.lock.specs.rules.Records.{Phase, returning, phase_of, given_piece, is_leaf, grip_of, word_at}
-use Rattle.lock.specs.rules.Steps.{touched_in, touched, out_of_patience, moved, wanted}
+use Rattle.lock.specs.rules.Steps.{Moved, touched_in, touched, out_of_patience, moved, wanted}
 use Rattle.lock.specs.rules.Table.{State, record_at}
 use Rattle.lock.proofs.laws.MoveLaws.{touched_own}
 use Rattle.lock.proofs.laws.Phases.{on_phase}

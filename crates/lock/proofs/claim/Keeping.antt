@@ -6,12 +6,11 @@ use Rattle.std.proofs.Math.Bool.{true, false}
 use native.Mathlib.Omega.{arith}
 use Rattle.base.specs.rules.Choice.{choose}
 use Rattle.base.specs.laws.ChoiceLaws.{on_choose}
-use Rattle.lock.specs.declared.Moved.{Moved}
 use Rattle.lock.specs.declared.Record.{Record}
 use Rattle.lock.specs.declared.Settings.{Settings}
 use Rattle.lock.specs.rules.Records.{Phase, phase_of, word_at, written}
 use Rattle.lock.proofs.laws.Phases.{on_phase}
-use Rattle.lock.specs.rules.Steps.{touched_in, own_touched, out_of_patience, touched, moved, given_up}
+use Rattle.lock.specs.rules.Steps.{Moved, touched_in, own_touched, out_of_patience, touched, moved, given_up}
 use Rattle.lock.specs.laws.Rows.{moved_in, leaves, own_moved}
 use Rattle.lock.proofs.laws.Rows.{moved_chosen}
 use Rattle.lock.specs.rules.Calls.{requested, released, cancelled}

@@ -7,11 +7,10 @@ use Rattle.std.proofs.Math.Bool.{not}
 use borrow.Author.Tests.{eq-eqb, le-ltb, lt-leb}
 use Rattle.base.specs.laws.ChoiceLaws.{on_choose, choose_eq, choose_ne, by_eq}
 use Rattle.tree.specs.rules.Tree.{word_count}
-use Rattle.lock.specs.declared.Moved.{Moved}
 use Rattle.lock.specs.declared.Record.{Record}
 use Rattle.lock.specs.declared.Settings.{Settings}
 use Rattle.lock.specs.rules.Records.{Phase, pieces, piece_at, word_at}
-use Rattle.lock.specs.rules.Steps.{touched, moved}
+use Rattle.lock.specs.rules.Steps.{Moved, touched, moved}
 use Rattle.lock.specs.laws.Rows.{claim_piece, moved_in}
 use Rattle.lock.proofs.laws.Rows.{on_moved}
 use Rattle.lock.specs.rules.Calls.{tree_tests, client_tests, step_tests}

@@ -8,11 +8,10 @@ use Rattle.base.specs.laws.TestLaws.{test_true}
 use Rattle.word.specs.rules.Word.{tcnt, add_tcnt, add_dcnt, give_bits, return_occ}
 use Rattle.tree.specs.rules.Tree.{level, Node}
 use Rattle.tree.specs.rules.Lists.{notify_list}
-use Rattle.lock.specs.declared.Moved.{Moved}
 use Rattle.lock.specs.declared.Record.{Record}
 use Rattle.lock.specs.declared.Settings.{Settings}
 use Rattle.lock.specs.rules.Records.{returning, pieces, piece_at, current_piece, given_piece, is_leaf, grip_of, notices_of, with_giving, with_grip, with_place, idle_with}
-use Rattle.lock.specs.rules.Steps.{touched_in, word_returned, piece_returned, turn_returned, wanted}
+use Rattle.lock.specs.rules.Steps.{Moved, touched_in, word_returned, piece_returned, turn_returned, wanted}
 use Rattle.lock.specs.laws.Rows.{leaves, return_bits, return_inner, give_back}
 use Rattle.lock.specs.laws.Active.{Settled}
 use Rattle.lock.proofs.laws.Placed.{placed, given_notices}

@@ -16,11 +16,10 @@ use Rattle.tree.proofs.laws.Level.{level_root}
 use Rattle.tree.proofs.laws.Ancestors.{ancestors_count}
 use Rattle.tree.proofs.laws.Code.{bounded, count_none}
 use Rattle.tree.proofs.laws.Notify.{notify_count_lem}
-use Rattle.lock.specs.declared.Moved.{Moved}
 use Rattle.lock.specs.declared.Record.{Record}
 use Rattle.lock.specs.declared.Settings.{Settings}
 use Rattle.lock.specs.rules.Records.{Phase, phase_of, pieces, piece_at, current_piece, is_leaf, to_phase, with_grip, with_place, with_notices, with_t1, with_t0, with_taken}
-use Rattle.lock.specs.rules.Steps.{begin, first_noted, taken, ticket_taken, turn_awaited, go_up, climbed, notice_given, waited, late, check_passed, wanted}
+use Rattle.lock.specs.rules.Steps.{Moved, begin, first_noted, taken, ticket_taken, turn_awaited, go_up, climbed, notice_given, waited, late, check_passed, wanted}
 use Rattle.lock.specs.laws.Rows.{claim_piece, moved_in}
 use Rattle.lock.specs.rules.StepCount.{OnTime}
 use Rattle.lock.specs.laws.Active.{Settled}

@@ -4,13 +4,17 @@ use Rattle.std.proofs.Math.Path.{refl, subst}
 use Rattle.std.proofs.Common.{sym, ap, ◌∙◌, ⊎_elim, arith}
 use Rattle.std.proofs.Math.Bool.{true, false, not}
 use borrow.Author.Tests.{eq-eqb, ne_eqb, eqb-true, eqb-false, not-true, not-false}
+use Rattle.std.specs.Prelude.{Result, Ok, Err}
+use Rattle.base.specs.declared.Refusal.{Refusal}
+use Rattle.base.specs.rules.Refusals.{number_of}
+use Rattle.base.specs.laws.RefusalLaws.{some_number}
 use Rattle.base.specs.rules.Choice.{choose}
 use Rattle.base.specs.laws.ChoiceLaws.{on_choose, choose_eq, choose_ne}
 use Rattle.tree.specs.rules.Tree.{word_count}
 use Rattle.lock.specs.declared.Client.{Client}
 use Rattle.lock.specs.declared.Settings.{Settings}
 use Rattle.lock.specs.rules.Unreadable.{differ}
-use Rattle.lock.specs.rules.Calls.{Tests, first_cause, settings_outside, tree_tests, answered}
+use Rattle.lock.specs.rules.Calls.{Tests, first_cause, settings_outside, tree_tests, answered, stepped_by}
 
 -- ---- the first cause
 
@@ -59,6 +63,23 @@ module _ (s : Settings) (count : ℕ) (ts : Tests) where
   unfolding tree_tests
   tree_passed e f = cause_skip (settings_outside s) 1 _ e ∙ cause_skip (differ count (word_count s.levels)) 2 ts (ap not (eq-eqb count (word_count s.levels) f))
 
+-- what the test of 1 alone in code gives
+module _ (s : Settings) where
+  refused_at : (b : Bool) → settings_outside s ≡ b → (n : ℕ) (ts : Tests) → n ≡ first_cause ((settings_outside s, 1) ∷ []) → (n ≡ 0 → ⊥) → first_cause ((settings_outside s, 1) ∷ ts) ≡ n
+  unfolding first_cause choose
+  refused_at true f n ts e d = cause_hit (settings_outside s) 1 ts f ∙ sym (e ∙ cause_hit (settings_outside s) 1 [] f)
+  refused_at false f n ts e d = absurd (d (e ∙ cause_skip (settings_outside s) 1 [] f))
+
+  pub settings_refused : (n : ℕ) (ts : Tests) → n ≡ first_cause ((settings_outside s, 1) ∷ []) → (n ≡ 0 → ⊥) → first_cause ((settings_outside s, 1) ∷ ts) ≡ n
+  settings_refused = refused_at (settings_outside s) refl
+
+  passed_at : (b : Bool) → settings_outside s ≡ b → 0 ≡ first_cause ((settings_outside s, 1) ∷ []) → settings_outside s ≡ false
+  passed_at true f e = let z : 0 ≡ 1 = e ∙ cause_hit (settings_outside s) 1 [] f in absurd (omega (arith, z))
+  passed_at false f e = f
+
+  pub settings_passed : 0 ≡ first_cause ((settings_outside s, 1) ∷ []) → settings_outside s ≡ false
+  settings_passed = passed_at (settings_outside s) refl
+
 -- what the test of 1 and 2 in code gives: 0 and both passed, or a number that any chain behind them has too
 pub record TreeTested (s : Settings) (count n : ℕ) : Type 0 where
   pub refused : (n ≡ 0 → ⊥) → (ts : Tests) → first_cause (tree_tests s count ++ ts) ≡ n
@@ -95,3 +116,16 @@ module _ (number : ℕ) (c next : Client) where
   -- refused by the cause k, where the chain says so
   pub refused_by : (k : ℕ) → number ≡ k → (k ≡ 0 → ⊥) → record { number = k; next = c } ≡ answered number c next
   refused_by k e d = sym (answer_refused (λ z. d (sym e ∙ z)) ∙ ap (λ (x : ℕ). record { number = x; next = c }) e)
+
+-- ---- the answer of a call in code
+
+pub cause_some : (e : Refusal) → number_of e ≡ 0 → ⊥
+cause_some e z = omega (arith, z, some_number e)
+
+module _ (number : ℕ) (c next : Client) where
+  pub accepted_by : (y : Client) → 0 ≡ number → y ≡ next → stepped_by c (Ok y) ≡ answered number c next
+  accepted_by y e f = ap (λ (x : Client). record { number = 0; next = x }) f ∙ sym (answer_accepted number c next (sym e))
+
+  -- at the exit of a `?`
+  pub refused_as : (x : Result Client Refusal) (y e : Refusal) → x ≡ Err y → y ≡ e → number_of e ≡ number → stepped_by c x ≡ answered number c next
+  refused_as x y e f g h = ap (stepped_by c) (f ∙ ap Err g) ∙ refused_by number c next (number_of e) (sym h) (cause_some e)

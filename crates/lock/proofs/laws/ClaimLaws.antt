@@ -8,11 +8,10 @@ use Rattle.base.specs.laws.ChoiceLaws.{on_choose}
 use Rattle.base.specs.laws.TestLaws.{test_false}
 use Rattle.tree.specs.rules.Lists.{notify_list}
 use Rattle.word.specs.rules.Word.{take_bits}
-use Rattle.lock.specs.declared.Moved.{Moved}
 use Rattle.lock.specs.declared.Record.{Record}
 use Rattle.lock.specs.declared.Settings.{Settings}
 use Rattle.lock.specs.rules.Records.{Phase, current_piece, is_leaf, is_root, pieces, piece_at, to_phase, with_notices}
-use Rattle.lock.specs.rules.Steps.{wanted, start_phase, begin, first_noted, taken, bits_claimed, occ_claimed, late, all_notified, notice_given, moved}
+use Rattle.lock.specs.rules.Steps.{Moved, wanted, start_phase, begin, first_noted, taken, bits_claimed, occ_claimed, late, all_notified, notice_given, moved}
 use Rattle.lock.proofs.laws.LateLaws.{not_late}
 use Rattle.lock.proofs.laws.Phases.{at_claim, at_notify}
 use Rattle.lock.specs.laws.Rows.{claim_piece, moved_in}

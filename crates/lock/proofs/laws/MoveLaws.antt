@@ -4,8 +4,7 @@ use Rattle.std.proofs.Common.{sym, ◌∙◌}
 use Rattle.std.proofs.Math.Path.{ap}
 use Rattle.base.specs.rules.Choice.{choose}
 use Rattle.base.specs.laws.ChoiceLaws.{choose_eq, choose_ne}
-use Rattle.word.specs.declared.Swap.{Swap}
-use Rattle.word.specs.rules.Word.{add_occ, take_bits}
+use Rattle.word.specs.rules.Word.{Swap, add_occ, take_bits}
 use Rattle.tree.specs.rules.Lists.{notify_list}
 use Rattle.lock.specs.declared.Record.{Record}
 use Rattle.lock.specs.declared.Settings.{Settings}

@@ -10,18 +10,18 @@ use Rattle.base.specs.rules.Choice.{choose}
 use Rattle.base.specs.laws.ChoiceLaws.{choose_no, choose_eq, choose_ne}
 use Rattle.word.specs.rules.Word.{deltas}
 use Rattle.lock.specs.declared.Client.{Client}
-use Rattle.lock.specs.declared.Moved.{Moved}
 use Rattle.lock.specs.declared.Operation.{Operation}
 use Rattle.lock.specs.declared.Record.{Record}
 use Rattle.lock.specs.declared.Settings.{Settings}
 use Rattle.lock.specs.declared.Stepped.{Stepped}
 use Rattle.lock.specs.rules.Records.{phase_of, current_piece, given_piece, is_leaf, grip_of, client_with}
 use Rattle.lock.specs.rules.Unreadable.{differ, unreadable}
-use Rattle.lock.specs.rules.Steps.{wanted, Access, none, read, add, swap, applied, claim_access, own_word_access, return_access, access_in, out_of_patience, access, touched, completed, moved}
+use Rattle.lock.specs.rules.Steps.{Moved, wanted, Access, none, read, add, swap, applied, claim_access, own_word_access, return_access, access_in, out_of_patience, access, touched, completed, moved}
 use Rattle.lock.specs.rules.Calls.{Tests, first_cause, settings_outside, answered}
 use Rattle.lock.specs.rules.Operations.{operation_at, refused_operation, access_of, post_tests, operation_answer, completed_tests, completed_answer}
 use Rattle.lock.proofs.laws.CallLaws.{cause_hit, cause_skip, answer_accepted, refused_by}
 use Rattle.lock.proofs.laws.Phases.{on_phase}
+use Rattle.lock.proofs.laws.Rows.{Nine, moved_nine}
 
 -- ---- the rows
 
@@ -247,6 +247,12 @@ module _ (s : Settings) (c : Client) (clock n : ℕ) (e : n ≡ first_cause (pos
       pub completed_clear : (m.number ≡ 0 → ⊥) → record { number = 9; next = c } ≡ completed_answer s c clock found
       unfolding completed_answer
       completed_clear d = refused_by _ c next 9 (behind ∙ cause_hit _ 9 [] (ap not (ne_eqb m.number 0 d))) (λ y. omega arith)
+
+      pub completed_nine : (m.number ≡ 0 → ⊥) → record { number = m.number; next = c } ≡ completed_answer s c clock found
+      unfolding completed_answer
+      completed_nine d =
+          let nine : m.number ≡ 9 = subst Nine (sym f) (moved_nine s c.«record» found clock) d in
+          refused_by _ c next m.number (behind ∙ cause_hit _ 9 [] (ap not (ne_eqb m.number 0 d)) ∙ sym nine) d
 
       pub completed_taken : m.number ≡ 0 → record { number = 0; next = client_with clock m.next } ≡ completed_answer s c clock found
       unfolding completed_answer first_cause

@@ -51,6 +51,13 @@ module _ (p : ℕ) where
   unfolding phase_of choose
   at_returning e = ap phase_of e
 
+-- a number that is none of those before
+pub over_5 : (p : ℕ) → 1 ≤ p → (p ≡ 1 → ⊥) → (p ≡ 2 → ⊥) → (p ≡ 3 → ⊥) → (p ≡ 4 → ⊥) → (p ≡ 5 → ⊥) → 6 ≤ p
+over_5 p b d1 d2 d3 d4 d5 = omega (arith, b, d1, d2, d3, d4, d5)
+
+pub over_10 : (p : ℕ) → 6 ≤ p → (p ≡ 6 → ⊥) → (p ≡ 7 → ⊥) → (p ≡ 8 → ⊥) → (p ≡ 9 → ⊥) → (p ≡ 10 → ⊥) → 10 < p
+over_10 p b d6 d7 d8 d9 d10 = omega (arith, b, d6, d7, d8, d9, d10)
+
 -- the test of one number, where it is known that p is not below it
 on_number : (P : Phase → Type 0) (p k : ℕ) (x y : Phase) → k ≤ p → (p ≡ k → P x) → (k < p → P y) → P (choose (eqb p k) x y)
 on_number P p k x y b f g =

@@ -10,11 +10,10 @@ use Rattle.base.specs.laws.ChoiceLaws.{on_choose, choose_eq, choose_ne, choose_l
 use Rattle.base.specs.laws.TestLaws.{second_false}
 use Rattle.tree.specs.rules.Tree.{level}
 use Rattle.tree.proofs.laws.Level.{level_root}
-use Rattle.lock.specs.declared.Moved.{Moved}
 use Rattle.lock.specs.declared.Record.{Record}
 use Rattle.lock.specs.declared.Settings.{Settings}
 use Rattle.lock.specs.rules.Records.{Phase, phase_of, pieces, piece_at, current_piece, is_leaf, to_phase, with_grip, with_t1, with_t0, with_taken, client_with}
-use Rattle.lock.specs.rules.Steps.{start_phase, begin, first_noted, taken, ticket_taken, turn_awaited, go_up, climbed, bits_claimed, occ_claimed, late, all_notified, notice_given, waited, check_passed, out_of_patience}
+use Rattle.lock.specs.rules.Steps.{Moved, start_phase, begin, first_noted, taken, ticket_taken, turn_awaited, go_up, climbed, bits_claimed, occ_claimed, late, all_notified, notice_given, waited, check_passed, out_of_patience}
 use Rattle.lock.specs.laws.Rows.{claim_piece, moved_in}
 use Rattle.lock.specs.rules.StepCount.{OnTime, next_clock}
 use Rattle.lock.specs.laws.Active.{Settled}

@@ -6,8 +6,7 @@ use Prim.Native.Nat.{ℕ, suc, ◌+◌, ◌≤◌, ◌<◌}
 use native.Mathlib.Omega.{arith}
 use Rattle.base.specs.rules.Choice.{choose}
 use Rattle.base.specs.laws.ChoiceLaws.{choose_eq, choose_ne, choose_lt, choose_ge}
-use Rattle.word.specs.declared.Swap.{Swap}
-use Rattle.word.specs.rules.Word.{tcnt, add_tcnt, add_dcnt, give_bits, return_occ}
+use Rattle.word.specs.rules.Word.{Swap, tcnt, add_tcnt, add_dcnt, give_bits, return_occ}
 use Rattle.tree.specs.rules.Tree.{level}
 use Rattle.lock.specs.declared.Record.{Record}
 use Rattle.lock.specs.declared.Settings.{Settings}

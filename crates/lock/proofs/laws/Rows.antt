@@ -1,5 +1,5 @@
 -- Laws of the rows of the phase table (specs/laws/Rows.antt): each is its operation, applied, and its completion. That it is the step of the rules is `moved_row`. Assumes nothing.
-use Rattle.std.specs.Prelude.{◌≡◌, Bool, ◌||◌, ℕ, eqb}
+use Rattle.std.specs.Prelude.{◌≡◌, ◌≢◌, Bool, ◌||◌, ℕ, eqb}
 use Rattle.std.proofs.Math.Path.{refl, ap, ap₂}
 use Rattle.std.proofs.Common.{sym, ◌∙◌, subst}
 use Rattle.std.proofs.Math.Bool.{true, false, not}
@@ -8,11 +8,10 @@ use Rattle.base.specs.rules.Choice.{choose}
 use Rattle.base.specs.laws.ChoiceLaws.{on_choose, choose_no}
 use Rattle.word.specs.rules.Word.{add_occ, add_tcnt, add_dcnt, matches, replaced, take_bits, give_bits, return_occ, masked_swap, deltas}
 use Rattle.word.proofs.laws.Inner.{one_in_occ, one_in_tcnt, one_in_tmax, one_in_dcnt, one_in_dmax, return_occ_one_add}
-use Rattle.lock.specs.declared.Moved.{Moved}
 use Rattle.lock.specs.declared.Record.{Record}
 use Rattle.lock.specs.declared.Settings.{Settings}
 use Rattle.lock.specs.rules.Records.{Phase, idle, ticket, turn, climb, blocked, claim, notify, wait, check, held, returning, unknown, phase_of, current_piece, given_piece, is_leaf, grip_of}
-use Rattle.lock.specs.rules.Steps.{ticket_taken, bits_claimed, occ_claimed, notice_given, word_returned, turn_returned, wanted, Access, none, read, add, swap, applied, claim_access, own_word_access, return_access, access_in, Completion, goes_to, piece_claimed, bits_returned, grip_returned, given_back, completed_in, out_of_patience, access, completed, moved, given_up}
+use Rattle.lock.specs.rules.Steps.{Moved, ticket_taken, bits_claimed, occ_claimed, notice_given, word_returned, turn_returned, wanted, Access, none, read, add, swap, applied, claim_access, own_word_access, return_access, access_in, Completion, goes_to, piece_claimed, bits_returned, grip_returned, given_back, completed_in, out_of_patience, access, completed, moved, given_up}
 use Rattle.lock.specs.laws.Rows.{leaves, claim_piece, return_bits, return_inner, give_back, moved_in, own_moved}
 
 -- ---- each row is its operation, applied, and its completion
@@ -20,6 +19,10 @@ use Rattle.lock.specs.laws.Rows.{leaves, claim_piece, return_bits, return_inner,
 -- an operation at the word w, and a completion
 abbrev made : Access → ℕ → Completion → Moved
 made a w c = record { number = c.number; word = applied a w; next = c.next }
+
+-- a step that is refused is refused by 9
+abbrev pub Nine : Moved → Type 0
+Nine m = m.number ≢ 0 → m.number ≡ 9
 
 module _ (s : Settings) (r : Record) (w : ℕ) where
   abbrev claim_bits : ℕ
@@ -108,3 +111,26 @@ module _ (s : Settings) (r : Record) (w : ℕ) where
   -- what holds of the row, and of the record that is sent back, holds of the step
   pub on_moved : (P : Moved → Type 0) (t : ℕ) → P (leaves w (given_up r)) → P (own_moved s r w t) → P (moved s r w t)
   on_moved P t back row = subst P (sym (moved_chosen t)) (on_choose P (out_of_patience s r t) _ _ (λ _. back) (λ _. row))
+
+  -- ---- the number of a refused step
+
+  row_nine : (t : ℕ) (p : Phase) → Nine (moved_in s r w t p)
+  unfolding moved_in claim_piece give_back return_bits return_inner
+  row_nine t idle = λ d. absurd (d refl)
+  row_nine t ticket = λ d. absurd (d refl)
+  row_nine t turn = λ d. absurd (d refl)
+  row_nine t climb = λ d. absurd (d refl)
+  row_nine t blocked = λ d. absurd (d refl)
+  row_nine t claim = on_choose Nine _ _ _ (λ _ d. absurd (d refl)) (λ _ d. absurd (d refl))
+  row_nine t notify = λ d. absurd (d refl)
+  row_nine t wait = λ d. absurd (d refl)
+  row_nine t check = λ d. absurd (d refl)
+  row_nine t held = λ d. absurd (d refl)
+  row_nine t returning =
+      on_choose Nine _ _ _
+      (λ _. on_choose Nine _ _ _ (λ _. on_choose Nine _ _ _ (λ _ d. absurd (d refl)) (λ _ _. refl))
+      (λ _. on_choose Nine _ _ _ (λ _ d. absurd (d refl)) (λ _. on_choose Nine _ _ _ (λ _ d. absurd (d refl)) (λ _ d. absurd (d refl))))) (λ _ d. absurd (d refl))
+  row_nine t unknown = λ d. absurd (d refl)
+
+  pub moved_nine : (t : ℕ) → Nine (moved s r w t)
+  moved_nine t = on_moved Nine t (λ d. absurd (d refl)) (row_nine t (phase_of r.phase))

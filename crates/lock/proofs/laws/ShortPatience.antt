@@ -7,11 +7,10 @@ use Rattle.std.proofs.Math.Dec.{eqb→eq}
 use Rattle.base.specs.laws.ChoiceLaws.{on_choose}
 use Rattle.base.specs.laws.TestLaws.{second_of}
 use Rattle.tree.specs.rules.Tree.{level}
-use Rattle.lock.specs.declared.Moved.{Moved}
 use Rattle.lock.specs.declared.Record.{Record}
 use Rattle.lock.specs.declared.Settings.{Settings}
 use Rattle.lock.specs.rules.Records.{Phase, phase_of, pieces, piece_at, current_piece, is_leaf, to_phase, to_blocked, with_grip, with_t1, with_t0, with_taken}
-use Rattle.lock.specs.rules.Steps.{start_phase, begin, first_noted, taken, ticket_taken, turn_awaited, go_up, climbed, bits_claimed, occ_claimed, all_notified, notice_given, waited, check_passed, out_of_patience}
+use Rattle.lock.specs.rules.Steps.{Moved, start_phase, begin, first_noted, taken, ticket_taken, turn_awaited, go_up, climbed, bits_claimed, occ_claimed, all_notified, notice_given, waited, check_passed, out_of_patience}
 use Rattle.lock.specs.laws.Rows.{claim_piece, moved_in}
 use Rattle.lock.specs.rules.StepCount.{OnTime}
 use Rattle.lock.proofs.laws.Phases.{on_phase}

@@ -2,18 +2,12 @@
 use Rattle.std.specs.Prelude.{ℕ, eqb}
 use mathlib.Core.List.{List, [], ◌∷◌}
 use Rattle.base.specs.rules.Choice.{choose}
-use Rattle.lock.specs.declared.Acted.{Acted}
 use Rattle.lock.specs.declared.Record.{Record}
 use Rattle.lock.specs.declared.Settings.{Settings}
-use Rattle.lock.specs.declared.Stepped.{Stepped}
-use Rattle.lock.specs.rules.Records.{word_at, written, client_with}
+use Rattle.lock.specs.rules.Records.{word_at, written}
 use Rattle.lock.specs.rules.Unreadable.{differ}
 use Rattle.lock.specs.rules.Steps.{touched, moved}
 use Rattle.lock.specs.rules.Calls.{first_cause}
-
--- what a call on a record gives, as that on its client
-abbrev pub stepped_of : Acted → Stepped
-stepped_of x = record { number = x.number; next = client_with x.clock x.next }
 
 -- 9, the only test of a step behind 6, and the words that the step leaves
 abbrev pub clear_bit : Settings → Record → List ℕ → ℕ → ℕ

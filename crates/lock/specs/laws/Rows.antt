@@ -1,15 +1,31 @@
 -- The rows of the phase table as the code and the claim meet them: what a step leaves at the touched node, and the next record, in one. Their laws: proofs/laws/Rows.antt. Assumes nothing.
-use Rattle.std.specs.Prelude.{ℕ, eqb}
+use Rattle.std.specs.Prelude.{ℕ, eqb, Result, Ok, Err}
+use Rattle.base.specs.declared.Refusal.{Refusal}
+use Rattle.base.specs.rules.Refusals.{number_of}
 use Rattle.base.specs.rules.Choice.{choose}
 use Rattle.word.specs.rules.Word.{add_occ, add_tcnt, add_tmax, add_dcnt, add_dmax, take_bits, give_bits, return_occ}
-use Rattle.lock.specs.declared.Moved.{Moved}
 use Rattle.lock.specs.declared.Record.{Record}
 use Rattle.lock.specs.declared.Settings.{Settings}
+use Rattle.lock.specs.declared.moves.Moved as moves
+use Rattle.lock.specs.declared.operations.Access as operations
+use Rattle.lock.specs.declared.operations.Access.TheVariants.{None, Read, Add, Swap}
 use Rattle.lock.specs.rules.Records.{Phase, idle, ticket, turn, climb, blocked, claim, notify, wait, check, held, returning, unknown, phase_of, current_piece, given_piece, is_leaf, grip_of}
-use Rattle.lock.specs.rules.Steps.{ticket_taken, turn_awaited, climbed, unblocked, bits_claimed, occ_claimed, notice_given, waited, check_passed, word_returned, turn_returned, wanted}
+use Rattle.lock.specs.rules.Steps.{Moved, Access, none, read, add, swap, ticket_taken, turn_awaited, climbed, unblocked, bits_claimed, occ_claimed, notice_given, waited, check_passed, word_returned, turn_returned, wanted}
 
 abbrev pub leaves : ℕ → Record → Moved
 leaves w r = record { number = 0; word = w; next = r }
+
+-- what a row answers, of the record and the word found: the word that it leaves and the next record, or the cause of a refusal, which leaves both as they were
+abbrev pub moved_of : Record → ℕ → Result moves.Moved Refusal → Moved
+moved_of r w (Ok m) = leaves m.word m.next
+moved_of r w (Err e) = record { number = number_of e; word = w; next = r }
+
+-- the access that a row makes
+abbrev pub access_made : operations.Access → Access
+access_made None = none
+access_made Read = read
+access_made (Add deltas) = add deltas
+access_made (Swap compared expected swapped value) = swap compared expected swapped value
 
 unfoldable pub claim_piece : Settings → Record → ℕ → ℕ → Moved
 claim_piece s r w t =

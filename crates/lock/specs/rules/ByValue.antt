@@ -2,6 +2,8 @@
 use Rattle.std.specs.Prelude.{List, ℕ, eqb}
 use Rattle.base.specs.rules.Choice.{choose}
 use Rattle.lock.specs.declared.Client.{Client}
+use Rattle.lock.specs.declared.Kind.{Kind}
+use Rattle.lock.specs.declared.Kind.TheVariants.{Request, Step, Release, Cancel}
 use Rattle.lock.specs.declared.Settings.{Settings}
 use Rattle.lock.specs.declared.Stepped.{Stepped}
 use Rattle.lock.specs.rules.Calls.{request_answer, release_answer, cancel_answer, step_answer, step_words}
@@ -11,6 +13,13 @@ use Rattle.lock.specs.rules.Table.{Call, request, step, release, cancel}
 unfoldable pub call_of : ℕ → ℕ → ℕ → ℕ → Call
 call_of kind client a b =
     choose (eqb kind 0) (request client a b) (choose (eqb kind 1) (step client a) (choose (eqb kind 2) (release client) (cancel client)))
+
+-- the same of a kind in code, which has no number over 3
+abbrev pub call_by : Kind → ℕ → ℕ → ℕ → Call
+call_by Request client a b = request client a b
+call_by Step client a b = step client a
+call_by Release client a b = release client
+call_by Cancel client a b = cancel client
 
 -- "A client record goes into a step and comes back by value", and its last clock with it: what a call gives on one client, its number and the client after it
 unfoldable pub answer_to : Settings → Client → List ℕ → Call → Stepped

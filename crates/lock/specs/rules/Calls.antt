@@ -1,7 +1,9 @@
 -- To be believed: document 01, section "Refused calls" and the last paragraph of "Phases", and document 02, requests 2.2 and 2.3: the tests of each call in their order, and
 -- what an accepted call makes of the client, its clock and its record, and of the words. The calls are by value, on one client; Table.antt has the same over the table. `last`
 -- is the client's last clock. Assumes nothing.
-use Rattle.std.specs.Prelude.{Bool, ◌||◌, List, [], ◌∷◌, ◌++◌, ℕ, eqb, leb, ltb, length, get_or}
+use Rattle.std.specs.Prelude.{Bool, ◌||◌, List, [], ◌∷◌, ◌++◌, ℕ, eqb, leb, ltb, length, get_or, Result, Ok, Err}
+use Rattle.base.specs.declared.Refusal.{Refusal}
+use Rattle.base.specs.rules.Refusals.{number_of}
 use Rattle.base.specs.rules.Choice.{choose}
 use Rattle.tree.specs.rules.Tree.{word_count}
 use Rattle.cover.specs.rules.Answer.{levels_outside, window_outside}
@@ -79,6 +81,11 @@ cancelled r = choose (eqb (grip_of r 0) 0) (idle_with 3) (sent_back 3 r)
 -- "As it was": a refused call gives its number, and the client as it was
 unfoldable pub answered : ℕ → Client → Client → Stepped
 answered number c next = choose (eqb number 0) (record { number = 0; next = next }) (record { number = number; next = c })
+
+-- the same of a call in code: the client after it, or the cause of its refusal
+abbrev pub stepped_by : Client → Result Client Refusal → Stepped
+stepped_by c (Ok next) = record { number = 0; next = next }
+stepped_by c (Err refusal) = record { number = number_of refusal; next = c }
 
 unfoldable pub request_number : Settings → Client → List ℕ → ℕ → ℕ → ℕ
 request_number s c words a b = first_cause (tree_tests s (length words) ++ request_tests s c.«record» c.clock a b)

@@ -1,6 +1,8 @@
 -- To be believed: the calls of a run whose words are in another machine's memory, by value: which operation it posts, what the operation leaves of the word found, and what becomes of its client
 -- when that word comes back. They are a step's, with the same tests in the same order, but for those of what is lent: 2, 3 and 4. Assumes nothing.
-use Rattle.std.specs.Prelude.{[], ◌∷◌, ◌++◌, ℕ, eqb, ltb}
+use Rattle.std.specs.Prelude.{[], ◌∷◌, ◌++◌, ℕ, eqb, ltb, Result, Ok, Err}
+use Rattle.base.specs.declared.Refusal.{Refusal}
+use Rattle.base.specs.rules.Refusals.{number_of}
 use Rattle.base.specs.rules.Choice.{choose}
 use Rattle.lock.specs.declared.Client.{Client}
 use Rattle.lock.specs.declared.Operation.{Operation}
@@ -22,6 +24,11 @@ operation_at n (swap compared expected swapped value) = record { number = 0; kin
 
 abbrev pub refused_operation : ℕ → Operation
 refused_operation number = record { number = number; kind = 0; node = 0; compared = 0; expected = 0; swapped = 0; value = 0 }
+
+-- the answer of a call in code: an operation, or the cause of a refusal
+abbrev pub operation_by : Result Operation Refusal → Operation
+operation_by (Ok operation) = operation
+operation_by (Err refusal) = refused_operation (number_of refusal)
 
 -- and what an operation does, by its kind; another number than these is none
 unfoldable pub access_of : Operation → Access

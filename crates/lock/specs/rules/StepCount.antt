@@ -1,8 +1,10 @@
 -- To be believed: document 02, request 2.4: how many steps a window needs on an otherwise idle tree. The number is counted in a run, that of a client alone on a fresh tree; no
 -- formula is to be believed. `HeldAfter` says of any run alone that it is held after so many accepted steps and not before, by document 02's conditions on its clocks; the theorem
 -- in claim/StepsToHeld.antt says it of this number, from every state of a history in which all clients are idle. Assumes nothing.
-use Rattle.std.specs.Prelude.{◌≡◌, false, List, [], ◌∷◌, ℕ, zero, suc, ◌+◌, ◌-◌, ◌≤◌, ◌<◌, eqb, length, replicate}
+use Rattle.std.specs.Prelude.{◌≡◌, false, List, [], ◌∷◌, ℕ, zero, suc, ◌+◌, ◌-◌, ◌≤◌, ◌<◌, eqb, length, replicate, Result, Ok, Err}
+use Rattle.base.specs.declared.Refusal.{Refusal}
 use Rattle.base.specs.rules.Choice.{choose}
+use Rattle.base.specs.rules.Refusals as Refusals
 use Rattle.tree.specs.rules.Tree.{word_count}
 use Rattle.tree.specs.rules.Lists.{notify_list}
 use Rattle.cover.specs.rules.Answer.{window_outside}
@@ -83,6 +85,11 @@ step_count h m l r = counted 1000 (alone_with h m) (call (alone_with h m) (idle_
 
 unfoldable pub step_count_tests : ℕ → ℕ → ℕ → ℕ → Tests
 step_count_tests h m l r = (levels_or_distance_outside h m, 1) ∷ (window_outside h l r, 7) ∷ []
+
+-- the answer of the call in code: the steps, or the cause of a refusal
+abbrev pub step_count_by : Result ℕ Refusal → StepCount
+step_count_by (Ok steps) = record { number = 0; steps = steps }
+step_count_by (Err refusal) = record { number = Refusals.number_of refusal; steps = 0 }
 
 -- number 0 and the steps; or the number of a refusal, and 0
 unfoldable pub step_count_answer : ℕ → ℕ → ℕ → ℕ → StepCount

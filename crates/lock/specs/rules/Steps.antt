@@ -6,7 +6,6 @@ use Rattle.base.specs.rules.Choice.{choose}
 use Rattle.word.specs.rules.Word.{occ, tcnt, tmax, dcnt, dmax, layout, add_fields, deltas, matches, masked_swap, wanted_bits}
 use Rattle.tree.specs.rules.Tree.{left}
 use Rattle.tree.specs.rules.Lists.{ancestors, notify_list, check_list}
-use Rattle.lock.specs.declared.Moved.{Moved}
 use Rattle.lock.specs.declared.Record.{Record}
 use Rattle.lock.specs.declared.Settings.{Settings}
 use Rattle.lock.specs.rules.Records.{piece_at, Phase, idle, ticket, turn, climb, blocked, claim, notify, wait, check, held, returning, unknown, phase_of, pieces, current_piece, given_piece, is_leaf, is_root, grip_of, notices_of, change, to_phase, to_blocked, with_giving, with_grip, with_ticket, with_place, with_notices, with_t1, with_t0, with_taken, sent_back, idle_with}
@@ -237,6 +236,12 @@ abbrev pub completed : Settings → Record → ℕ → ℕ → Completion
 completed s r w t = choose (out_of_patience s r t) (goes_to (given_up r)) (completed_in s r w t (phase_of r.phase))
 
 -- ---- a step: the operation is found, applied to the word, and completed
+
+-- the number, 0 or 9, the word that it leaves, and the next record
+pub record Moved : Type 0 where
+  pub number : ℕ
+  pub word : ℕ
+  pub next : Record
 
 abbrev pub moved : Settings → Record → ℕ → ℕ → Moved
 moved s r w t = record { number = (completed s r w t).number; word = applied (access s r t) w; next = (completed s r w t).next }

@@ -3,6 +3,7 @@ use Rattle.std.specs.Prelude.{◌≡◌, refl, false, ℕ, ◌<◌, length, set}
 use Rattle.std.proofs.Math.Path.{sym, ap}
 use Rattle.std.proofs.Common.{ap₂, ◌∙◌, arith}
 use mathlib.Core.List.{List, [], ◌∷◌, ◌++◌}
+use Rattle.std.proofs.lemmas.List.{set-get_or}
 use Rattle.base.specs.laws.ChoiceLaws.{choose_eq, by_lt}
 use Rattle.base.specs.laws.Mapped.{map_count}
 use Rattle.tree.specs.rules.Tree.{word_count}
@@ -17,7 +18,7 @@ use Rattle.lock.specs.rules.ByValue.{answer_to, words_after}
 use Rattle.lock.proofs.laws.CallLaws.{cause_skip, tree_passed, cause_tested}
 use Rattle.table.specs.laws.Causes.{table_cause}
 use Rattle.table.specs.laws.CauseLaws.{both_none, table_client, table_passed}
-use Rattle.table.specs.laws.CallLaws.{set_same, table_refuses, table_takes}
+use Rattle.table.specs.laws.CallLaws.{table_refuses, table_takes}
 use Rattle.network.specs.rules.ByOperation.{by_operation}
 use Rattle.network.specs.rules.Network.{Network, seen, shown}
 use Rattle.network.proofs.laws.Shown.{set_past}
@@ -50,7 +51,7 @@ module _ (s : Settings) (st : State) (open_passed : opening_number s (length st.
   -- a client put back as it was
   pub unchanged : (c : ℕ) (x : Client) → x ≡ client_at st c → With st.words c x ≡ st
   unfolding client_at
-  unchanged c x e = ap (λ (cs : List Client). record { words = st.words; clients = cs }) (ap (set st.clients c) e ∙ set_same st.clients c idle_client)
+  unchanged c x e = ap (λ (cs : List Client). record { words = st.words; clients = cs }) (ap (set st.clients c) e ∙ set-get_or st.clients c idle_client)
 
   -- a call that touches no word: on any client, also on one that is not there
   pub quiet : (k : Call) → words_after s (client_at st (client_of k)) st.words k ≡ st.words → (x : Client) → (answer_to s (client_at st (client_of k)) st.words k).next ≡ x

@@ -4,17 +4,17 @@ use Rattle.std.proofs.Math.Path.{refl, sym, ap, ap₂}
 use Rattle.std.proofs.Common.{◌∙◌, arith, eq-eqb, ne_eqb}
 use Rattle.std.proofs.Math.Bool.{not}
 use mathlib.Core.List.{List, [], ◌∷◌, ◌++◌}
+use Rattle.std.proofs.lemmas.List.{set-get_or}
 use Rattle.base.specs.laws.ChoiceLaws.{on_choose, choose_eq, choose_ne, by_eq}
 use Rattle.tree.specs.rules.Tree.{word_count}
 use Rattle.lock.specs.declared.Client.{Client}
-use Rattle.lock.specs.declared.Moved.{Moved}
 use Rattle.lock.specs.declared.Operation.{Operation}
 use Rattle.lock.specs.declared.Record.{Record}
 use Rattle.lock.specs.declared.Settings.{Settings}
 use Rattle.lock.specs.declared.Stepped.{Stepped}
 use Rattle.lock.specs.rules.Records.{Phase, idle, ticket, turn, climb, blocked, claim, notify, wait, check, held, returning, unknown, phase_of, word_at, written, client_with}
 use Rattle.lock.specs.rules.Unreadable.{differ}
-use Rattle.lock.specs.rules.Steps.{Access, none, read, add, swap, applied, touched, access, moved, completed}
+use Rattle.lock.specs.rules.Steps.{Moved, Access, none, read, add, swap, applied, touched, access, moved, completed}
 use Rattle.lock.specs.rules.Calls.{Tests, first_cause, settings_outside, tree_tests, client_tests, step_tests, answered, step_number, step_answer, step_words}
 use Rattle.lock.specs.rules.Operations.{operation_at, refused_operation, access_of, post_tests, operation_answer, completed_tests, completed_answer}
 use Rattle.lock.specs.rules.Table.{State, step, client_of, client_at, call}
@@ -25,7 +25,7 @@ use Rattle.lock.specs.laws.Rows.{claim_piece, return_bits, return_inner, give_ba
 use Rattle.lock.proofs.laws.Rows.{on_moved}
 use Rattle.table.specs.laws.Causes.{table_cause}
 use Rattle.table.specs.laws.CauseLaws.{both_none}
-use Rattle.table.specs.laws.CallLaws.{set_same, table_refuses, table_takes}
+use Rattle.table.specs.laws.CallLaws.{table_refuses, table_takes}
 use Rattle.network.specs.rules.ByOperation.{by_operation}
 
 -- ---- a returning leaf that finds a wanted bit clear leaves its word
@@ -59,7 +59,7 @@ module _ (s : Settings) (r : Record) (w t : ℕ) where
 pub written_same : (words : List ℕ) (n : ℕ) → written words n (word_at words n) ≡ words
 unfolding written word_at
 written_same words zero = refl
-written_same words (suc i) = set_same words i 0
+written_same words (suc i) = set-get_or words i 0
 
 pub node_at : (n : ℕ) (a : Access) → (operation_at n a).node ≡ n
 unfolding operation_at

@@ -1,8 +1,10 @@
 -- Laws of what is asked of the first clients of a table: of one client more, and how far the count goes. Assumes nothing.
-use Rattle.std.specs.Prelude.{◌≡◌, Bool, ◌||◌, eqb, length, get_or, take}
+use Rattle.std.specs.Prelude.{◌≡◌, refl, Bool, ◌||◌, eqb, length, get_or, take}
 use Rattle.std.proofs.Math.Path.{sym, ap}
 use Rattle.std.proofs.Common.{◌∙◌, add-one, arith}
 use Rattle.std.proofs.Math.Bool.{or-false, or_assoc}
+use Rattle.std.proofs.lemmas.List.Recursion.{same_from_clauses, is_sum_by}
+use Rattle.std.specs.List.{list_any, sum_by}
 use mathlib.Core.List.{List, [], ◌∷◌}
 use Prim.Native.Nat.{ℕ, zero, suc, ◌+◌, ◌≤◌, ◌<◌}
 use Rattle.base.specs.laws.ChoiceLaws.{on_choose}
@@ -27,11 +29,24 @@ module _ (s : Settings) where
   pub any_next : (l : List Client) (i : ℕ) (d : Client) → i < length l → (any_unreadable s (take i l) || unreadable_one (get_or l i d)) ≡ any_unreadable s (take (i + 1) l)
   any_next l i d h = any_suc l i d h ∙ ap (λ (k : ℕ). any_unreadable s (take k l)) (sym (add-one i))
 
+  -- it is the library's `list_any` of this test
+  pub any_listed : (l : List Client) → list_any unreadable_one l ≡ any_unreadable s l
+  unfolding any_unreadable
+  any_listed l = same_from_clauses (list_any unreadable_one) (any_unreadable s) (λ c b. unreadable_one c || b) refl (λ _ _. refl) (λ _ _. refl) l
+
 -- ---- how many are in phase 9
 
 pub phase_9_most : (phase : ℕ) → in_phase9 phase ≤ 1
 unfolding in_phase9
 phase_9_most phase = on_choose (λ n. n ≤ 1) (eqb phase 9) 1 0 (λ _. omega arith) (λ _. omega arith)
+
+abbrev pub in_phase_9 : Client → ℕ
+in_phase_9 c = in_phase9 c.«record».phase
+
+-- it is the library's sum of these
+pub held_summed : (l : List Client) → sum_by in_phase_9 l ≡ held_count l
+unfolding held_count
+held_summed l = sym (is_sum_by held_count in_phase_9 refl (λ _ _. refl) l)
 
 -- no more than there are
 pub held_most : (l : List Client) (i : ℕ) → held_count (take i l) ≤ i

@@ -1,13 +1,15 @@
 -- Laws of the rows: what the row of a readable record is, and that each record is readable where none is unreadable. Assumes nothing.
-use Rattle.std.specs.Prelude.{◌≡◌, false, List, [], ◌∷◌, ℕ, zero, suc, ◌<◌, length, get_or}
+use Rattle.std.specs.Prelude.{◌≡◌, Ok, false, List, [], ◌∷◌, ℕ, zero, suc, ◌<◌, length, get_or}
 use Rattle.std.proofs.Math.Path.{sym, ap, ap₂, subst}
 use Rattle.std.proofs.Common.{◌∙◌, not-suc-le-zero, le_of_suc-le-suc}
 use Rattle.base.specs.laws.TestLaws.{both_false}
 use Rattle.base.specs.laws.ChoiceLaws.{choose_eq, choose_ne}
 use Rattle.tree.specs.rules.Tree.{Node}
 use Rattle.cover.specs.declared.Answer.{Answer}
+use Rattle.cover.specs.declared.Pieces.{Pieces}
+use Rattle.cover.specs.laws.Lowest.{Window}
 use Rattle.cover.specs.rules.Cover.{total}
-use Rattle.cover.specs.rules.Answer.{window_outside, accepted, answer}
+use Rattle.cover.specs.rules.Answer.{window_outside, accepted, answer, pieces_of, answer_of}
 use Rattle.cover.proofs.laws.Code.{window_covered, levels_right, window_right}
 use Rattle.lock.specs.declared.Client.{Client}
 use Rattle.lock.specs.declared.Record.{Record}
@@ -32,6 +34,16 @@ row_idle s r z = sym (choose_eq r.phase 0 _ _ z)
 module _ (s : Settings) (r : Record) (last : ℕ) (v : Settled s) (u : unreadable s r last ≡ false) (d : r.phase ≡ 0 → ⊥) where
   abbrev h : ℕ
   h = s.levels
+
+  pub its_window : Window h r.left r.right
+  its_window = (active s r last v u d).window
+
+  -- the pieces of its window, as the answer that C is told
+  pub told : (p : Pieces) → p ≡ pieces_of h r.left r.right (cover_of s r.left r.right) → answer_of (Ok p) ≡ answer h r.left r.right
+  unfolding accepted
+  told p e =
+      ap (λ (x : Pieces). answer_of (Ok x)) e
+      ∙ window_covered h r.left r.right (levels_right h r.left r.right v.levels_some v.levels_most) (window_right h r.left r.right its_window)
 
   -- the answer of its window's cover
   module _ (a : Answer) (e : a ≡ answer h r.left r.right) where

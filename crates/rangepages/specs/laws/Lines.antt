@@ -7,18 +7,8 @@ use Prim.Native.Nat.{ℕ, zero, suc, ◌+◌, ◌≤◌, ◌<◌}
 use native.Mathlib.Omega.{arith}
 use Rattle.lock.specs.declared.Client.{Client}
 use Rattle.lock.specs.declared.Record.{Record}
-use Rattle.schedule.specs.rules.Text.{text, spaced}
 use Rattle.schedule.specs.laws.Appended.{Appended, nothing, joined, restated}
 use Rattle.rangepages.specs.rules.Printed.{line_each}
-
--- ---- the ends of lines: the last four numbers of any, and a run's from the current piece on
-
-abbrev pub last_four : (a b c d : ℕ) → List ℕ
-last_four a b c d = spaced a ++ (spaced b ++ (spaced c ++ (spaced d ++ text "\n")))
-
-abbrev pub current_text : Record → ℕ → List ℕ
-current_text r held =
-    spaced r.current ++ (spaced r.giving ++ (spaced r.grip ++ (spaced r.ticket ++ (spaced r.place ++ (spaced r.notices ++ last_four r.t1 r.t0 r.taken held)))))
 
 -- ---- line after line
 

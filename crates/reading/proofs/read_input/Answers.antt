@@ -1,14 +1,12 @@
 -- What a read gave stands behind what the earlier reads gave, so the reader lost both, one behind the other.
-use Rattle.std.proofs.Common.{rules, ◌≡◌, ℕ, ◌+◌, ◌≤◌, List, ◌++◌, length, take, drop, sym, ap, ◌∙◌, subst, le_refl, arith, drop_at, length-take-le}
+use Rattle.std.proofs.Common.{rules, ◌≡◌, ℕ, ◌+◌, ◌≤◌, List, ◌++◌, length, take, drop, sym, ap, ◌∙◌, subst, refl, le_refl, drop_at, length-take-le}
 use Rattle.std.proofs.lemmas.Slice.{take-put_mid_below}
-use Rattle.std.proofs.lemmas.Grind.{common_steps}
 use Rattle.std.specs.Io.KnownBytes.{Consumes}
 use Rattle.std.proofs.KnownBytes.{Consumes-trans}
 use Rattle.std.specs.declared.option.Option.{Option}
 use borrow.Rule.Slice.PartMut.{put_mid, post_of}
 use lib.Seq.{take-add, take-append-le}
 use Rattle.reading.proofs.read_input.Goals as goal
-use Rattle.reading.proofs.read_input.Goals.{then-is_some-via-then-is_some, then-is_some-via-else-is_some+then-more-eq0}
 
 -- xs with ys put in from a on: its first a + n are the first a of xs and the first n of ys
 take_joined : (a k n : ℕ) (xs ys : List ℕ) → a ≤ length xs → n ≤ length ys → take a xs ++ take n ys ≡ take (a + n) (put_mid a k xs ys)
@@ -24,16 +22,10 @@ read_on : (before between after : Option (List ℕ)) (a k n m : ℕ) (xs ys : Li
 read_on before between after a k n m xs ys within fits at first second =
     subst (Consumes before after) (take_joined a k n xs ys within fits ∙ ap (λ j. take j (put_mid a k xs ys)) (sym at)) (Consumes-trans before between after _ _ first second)
 
-pub returns-then-is_some-clause-bytes : goal.returns-then-is_some-clause-bytes
-returns-then-is_some-clause-bytes g c =
-    let more = c.read_once-more in
-    let none : more.result.count ≡ 0 = elim c.then-is_some.branch [ then-is_some-via-then-is_some w ↦ grind (arith, common_steps, more.ensures.failed) | then-is_some-via-else-is_some+then-more-eq0 w ↦ omega arith ] in
-    read_on _ _ _ c.loop-count.count _ more.result.count c.loop-count.count _ _ c.loop-count.invariant.in_range more.ensures.count.0 (omega (arith, none)) c.loop-count.invariant.bytes more.ensures.bytes
-
 pub loop-count-preserved : goal.loop-count-preserved
 loop-count-preserved g c =
-    let more = c.read_once-more in
+    let more = c.in-Ok.ensures in
     record {
       in_range = search rules;
-      bytes = read_on _ _ _ c.loop-count.count _ more.result.count (c.loop-count.count + more.result.count) _ _ c.loop-count.invariant.in_range more.ensures.count.0 (omega arith) c.loop-count.invariant.bytes more.ensures.bytes;
+      bytes = read_on _ _ _ c.loop-count.count _ c.in-Ok.more (c.loop-count.count + c.in-Ok.more) _ c.read.new.buf c.loop-count.invariant.in_range more.bound.0 refl c.loop-count.invariant.bytes more.bytes.0;
     }

@@ -1,23 +1,27 @@
 -- Laws of what counts of operations posted together, as a loop finds it one after another. Assumes nothing.
-use Rattle.std.specs.Prelude.{◌≡◌, Bool, ◌&&◌, length, get_or, drop}
+use Rattle.std.specs.Prelude.{◌≡◌, Bool, ◌&&◌, length, get_or, drop, Option, Some, None, Result, Ok, Err}
 use Rattle.std.proofs.Math.Path.{refl, sym, ap, ap₂}
 use Rattle.std.proofs.Common.{subst, ◌∙◌, add-one, drop_of_length-le, drop-cons}
 use Rattle.std.proofs.Math.Bool.{true, false}
+use Rattle.std.specs.Result.{result_ok}
 use mathlib.Core.List.{List, [], ◌∷◌}
 use Prim.Native.Nat.{ℕ, suc, ◌+◌, ◌≤◌, ◌<◌, min}
 use native.Mathlib.Omega.{arith}
 use Rattle.std.proofs.Math.Dec.{eqb}
 use borrow.Author.Tests.{eq-eqb, ne_eqb}
+use Rattle.base.specs.declared.Refusal.{Refusal}
 use Rattle.base.specs.rules.Choice.{choose}
+use Rattle.base.specs.rules.Refusals.{number_of}
 use Rattle.base.specs.laws.ChoiceLaws.{by_lt, by_eq}
 use Rattle.base.specs.laws.TestLaws.{second_false}
 use Rattle.lock.specs.declared.Client.{Client}
 use Rattle.lock.specs.declared.Operation.{Operation}
 use Rattle.lock.specs.declared.Settings.{Settings}
 use Rattle.lock.specs.declared.Stepped.{Stepped}
-use Rattle.lock.specs.rules.Calls.{first_cause}
+use Rattle.lock.specs.rules.Calls.{first_cause, stepped_by}
 use Rattle.lock.specs.rules.Steps.{touched, access}
 use Rattle.lock.specs.rules.Operations.{operation_at, post_tests, operation_answer, completed_answer}
+use Rattle.lock.proofs.laws.CallLaws.{cause_some}
 use Rattle.lock.proofs.laws.OperationLaws.{operation_found, completed_refused}
 use Rattle.runs.specs.declared.CompletedAll.{CompletedAll}
 use Rattle.runs.specs.rules.Ahead.{same, Counted, nothing_more, along, ahead_of, first_number, completed_all_answer}
@@ -29,6 +33,16 @@ unfoldable pub one_counted : Settings → ℕ → Client → Operation → ℕ �
 one_counted s t c o w =
     choose (same (operation_answer s c t) o && eqb (completed_answer s c t w).number 0) (record { number = 0; next = (completed_answer s c t w).next }) (record { number = 1; next = c })
 
+-- what the code answers of one operation, the client after it if it counts
+abbrev pub counted_by : Client → Option Client → Stepped
+counted_by c (Some next) = record { number = 0; next = next }
+counted_by c None = record { number = 1; next = c }
+
+-- and of all, how many counted and the client after those or the cause of a refusal, as C is told it
+abbrev pub completed_by : Client → Result (ℕ × Client) Refusal → CompletedAll
+completed_by c (Ok answer) = record { number = 0; counted = answer.0; next = answer.1 }
+completed_by c (Err refusal) = record { number = number_of refusal; counted = 0; next = c }
+
 module _ (s : Settings) (t : ℕ) (c : Client) (o : Operation) (w : ℕ) where
   abbrev counts : Bool
   counts = same (operation_answer s c t) o && eqb (completed_answer s c t w).number 0
@@ -39,10 +53,28 @@ module _ (s : Settings) (t : ℕ) (c : Client) (o : Operation) (w : ℕ) where
   abbrev left : Stepped
   left = record { number = 1; next = c }
 
+  abbrev taken_as : Client → Stepped
+  taken_as next = record { number = 0; next = next }
+
   -- as the code tests it: the completion first
   pub not_taken : ((completed_answer s c t w).number ≡ 0 → ⊥) → left ≡ one_counted s t c o w
   unfolding one_counted choose
   not_taken d = sym (ap (λ (b : Bool). choose b taken left) (second_false (same (operation_answer s c t) o) _ (ne_eqb _ 0 d)))
+
+  module _ (answer : Result Client Refusal) (e : stepped_by c answer ≡ completed_answer s c t w) where
+    pub refused_number : result_ok answer ≡ None → (completed_answer s c t w).number ≡ 0 → ⊥
+    refused_number = by answer e
+      where
+        by : (x : Result Client Refusal) → stepped_by c x ≡ completed_answer s c t w → result_ok x ≡ None → (completed_answer s c t w).number ≡ 0 → ⊥
+        by (Ok y) f n z = cc
+        by (Err y) f n z = cause_some y (ap (λ (x : Stepped). x.number) f ∙ z)
+
+    pub accepted_next : (next : Client) → result_ok answer ≡ Some next → taken_as next ≡ completed_answer s c t w
+    accepted_next next = by answer e
+      where
+        by : (x : Result Client Refusal) → stepped_by c x ≡ completed_answer s c t w → result_ok x ≡ Some next → taken_as next ≡ completed_answer s c t w
+        by (Ok y) f n = ap taken_as (let q : next ≡ y = cc in q) ∙ f
+        by (Err y) f n = cc
 
   module _ (z : (completed_answer s c t w).number ≡ 0) where
     -- the tests of the client were passed

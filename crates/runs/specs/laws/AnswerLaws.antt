@@ -1,9 +1,12 @@
 -- Laws of the answers to operations posted together, one for each way through them. Assumes nothing.
-use Rattle.std.specs.Prelude.{◌≡◌, refl, Bool, true, false, ℕ, ◌<◌, min, length}
+use Rattle.std.specs.Prelude.{◌≡◌, refl, Bool, true, false, ℕ, ◌<◌, ◌≤◌, min, length, Result, Ok, Err}
 use Rattle.std.proofs.Common.{sym, ◌∙◌, arith}
 use Rattle.std.proofs.Math.Path.{ap, ap₂}
+use Rattle.std.specs.Result.{result_unwrap_or}
 use mathlib.Core.List.{List, []}
+use Rattle.base.specs.declared.Refusal.{Refusal}
 use Rattle.base.specs.rules.Choice.{choose}
+use Rattle.base.specs.rules.Refusals.{number_of}
 use Rattle.base.specs.laws.ChoiceLaws.{choose_eq, choose_ne, by_eq}
 use Rattle.lock.specs.declared.Client.{Client}
 use Rattle.lock.specs.declared.Operation.{Operation}
@@ -17,7 +20,13 @@ use Rattle.lock.specs.laws.Placed.{Sound}
 use Rattle.lock.proofs.laws.SettledLaws.{settled}
 use Rattle.lock.proofs.laws.Touched.{readable}
 use Rattle.lock.proofs.laws.OperationLaws.{post_tested}
+use Rattle.runs.specs.declared.Ahead.{Ahead}
 use Rattle.runs.specs.rules.Ahead.{ahead_in, ahead_of, ahead_answer}
+
+-- what the code answers, how many operations are posted together or the cause of a refusal, as C is told it
+abbrev pub ahead_by : Result ℕ Refusal → Ahead
+ahead_by (Ok count) = record { number = 0; count = count }
+ahead_by (Err refusal) = record { number = number_of refusal; count = 0 }
 
 module _ (s : Settings) (c : Client) (clock n : ℕ) (e : n ≡ first_cause (post_tests s c clock)) where
   abbrev patient : List Operation
@@ -44,6 +53,24 @@ module _ (s : Settings) (c : Client) (clock n : ℕ) (e : n ≡ first_cause (pos
     pub answer_by : k ≡ min room (length (ahead_of s c clock)) → record { number = n; count = k } ≡ ahead_answer s c clock room
     unfolding ahead_answer
     answer_by f = ap₂ (λ (x y : ℕ). record { number = x; count = y }) e f
+
+-- what a client's tests have shown where they passed
+pub record Tested (s : Settings) (c : Client) (clock : ℕ) : Type 0 where
+  pub settings : Settled s
+  pub sound : Sound s c.«record»
+  pub taken : c.«record».taken ≤ clock
+
+pub tested : (s : Settings) (c : Client) (clock : ℕ) → 0 ≡ first_cause (post_tests s c clock) → Tested s c clock
+tested s c clock z =
+    let v = post_tested s c clock 0 z in
+    let g = settled s (v.settings refl) in
+    let f = readable s c.«record» c.clock g (v.readable refl) in
+    record { settings = g; sound = f.sound; taken = omega (arith, f.taken_past, v.onward refl) }
+
+-- the count, where C's answer is made of the code's
+pub count_by : (answer : Result ℕ Refusal) → result_unwrap_or answer 0 ≡ (ahead_by answer).count
+count_by (Ok count) = refl
+count_by (Err refusal) = refl
 
 -- where an operation is posted, the tests passed
 pub record Posting (s : Settings) (c : Client) (clock : ℕ) : Type 0 where

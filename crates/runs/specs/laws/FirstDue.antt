@@ -1,5 +1,5 @@
 -- Laws: the first of a list that is posted together is the client's next step. Assumes nothing.
-use Rattle.std.specs.Prelude.{◌≡◌, refl, ◌≢◌, true, false, ◌&&◌, eqb, length}
+use Rattle.std.specs.Prelude.{◌≡◌, refl, ◌≢◌, Bool, true, false, ◌&&◌, eqb, length}
 use Rattle.std.proofs.Math.Path.{sym}
 use Rattle.std.proofs.Common.{ap, ◌∙◌, ap₂}
 use mathlib.Core.List.{List, [], ◌∷◌, ◌++◌, map}
@@ -53,6 +53,21 @@ same_equal o p e =
     let swapped = eqb-true o.swapped p.swapped b.1 in
     let value = eqb-true o.value p.value a.1 in
     λ i. record { number = number i; kind = kind i; node = node i; compared = compared i; expected = expected i; swapped = swapped i; value = value i }
+
+joined : (a b c d e f g : Bool) → (a && (b && (c && (d && (e && (f && g)))))) ≡ (a && b && c && d && e && f && g)
+joined false b c d e f g = refl
+joined true false c d e f g = refl
+joined true true false d e f g = refl
+joined true true true false e f g = refl
+joined true true true true false f g = refl
+joined true true true true true false g = refl
+joined true true true true true true g = refl
+
+-- what the derived `==` answers
+pub same_derived : (o p : Operation)
+    → (eqb o.number p.number && (eqb o.kind p.kind && (eqb o.node p.node && (eqb o.compared p.compared && (eqb o.expected p.expected && (eqb o.swapped p.swapped && eqb o.value p.value)))))) ≡ same o p
+unfolding same
+same_derived o p = joined (eqb o.number p.number) (eqb o.kind p.kind) (eqb o.node p.node) (eqb o.compared p.compared) (eqb o.expected p.expected) (eqb o.swapped p.swapped) (eqb o.value p.value)
 
 -- ---- the first of a list
 

@@ -1,8 +1,8 @@
 -- Laws of `little`: a number of bytes by its two halves, and its bound. Assumes nothing.
 use Rattle.std.specs.Prelude.{◌≡◌, List, get_or}
 use Rattle.std.proofs.Common.{sym, add-zero, zero-add, suc-add}
-use Prim.Native.Nat.{ℕ, zero, suc, ◌+◌, ◌*◌, ◌^◌, ◌<◌}
-use Rattle.std.proofs.Math.Nat.{add-suc, mul_assoc, pow-succ'}
+use Prim.Native.Nat.{ℕ, zero, suc, ◌+◌, ◌*◌, ◌^◌, ◌≤◌, ◌<◌}
+use Rattle.std.proofs.Math.Nat.{add-suc, mul_assoc, pow-succ', pow-le-pow_right}
 use Rattle.std.proofs.Math.Numerals.{add-one}
 use native.Mathlib.Omega.{arith}
 use Rattle.schedule.specs.rules.Format.{little}
@@ -28,6 +28,11 @@ module _ (bytes : List ℕ) where
   pub little_eight : (i : ℕ) → little 4 bytes i + 4294967296 * little 4 bytes (i + 4) ≡ little 8 bytes i
   little_eight i = sym (little_split 4 4 i)
 
+  -- one byte more, below those that are read
+  pub little_next : (n m i j : ℕ) → m ≡ suc n → j ≡ suc i → 256 * little n bytes j + get_or bytes i 0 ≡ little m bytes i
+  unfolding little
+  little_next n m i j e f = rw (e, f) (omega arith)
+
   -- bytes are below 256
   pub little_below : ((j : ℕ) → get_or bytes j 0 < 256) → (k i : ℕ) → little k bytes i < 256 ^ k
   unfolding little
@@ -35,3 +40,10 @@ module _ (bytes : List ℕ) where
   little_below small (suc k) i =
       let rest = little_below small k (suc i) in
       rw (pow-succ' 256 k) (omega (arith, small i))
+
+  -- seven bytes, and one more below them, fit 64 bits
+  pub little_fits : ((j : ℕ) → get_or bytes j 0 < 256) → (k i : ℕ) → k ≤ 7 → 256 * little k bytes i + 255 < 2 ^ 64
+  little_fits small k i h =
+      let base : 0 < 256 = omega arith in
+      let most : 256 ^ k ≤ 256 ^ 7 = pow-le-pow_right base h in
+      omega (arith, little_below small k i)

@@ -7,7 +7,6 @@ use Rattle.base.specs.rules.Choice.{choose}
 use Rattle.lock.specs.rules.Calls.{first_cause}
 use Rattle.base.specs.laws.TestLaws.{both_false, true_first, next_test}
 use Rattle.schedule.specs.rules.Format.{little, settings_in, clients_in, count_in, offset_in, place_of, any_wrong, malformed, too_large, file_cause}
-use Rattle.schedule.specs.laws.FormatLaws.{earlier_inside}
 
 pub record WellFormed (bytes : List ℕ) : Type 0 where
   pub short : length bytes ≤ 65536
@@ -106,4 +105,10 @@ module _ (bytes : List ℕ) (e : file_cause bytes ≡ 0) where
 
 -- the bytes of each call are inside
 pub call_inside : (bytes : List ℕ) → WellFormed bytes → (k : ℕ) → k < count_in bytes → place_of bytes (suc k) ≤ length bytes
-call_inside bytes w k h = earlier_inside bytes k (count_in bytes) h w.inside
+unfolding place_of
+call_inside bytes w k h = omega (arith, w.inside)
+
+-- the room that all calls have
+pub few_calls : (bytes : List ℕ) → WellFormed bytes → count_in bytes ≤ 2729
+unfolding place_of
+few_calls bytes w = omega (arith, w.inside, w.offset, w.short)

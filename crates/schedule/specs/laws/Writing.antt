@@ -1,26 +1,22 @@
 -- Laws: the lines that the calls of a schedule add to its log. Assumes nothing.
-use Rattle.std.specs.Prelude.{◌≡◌, length}
-use Rattle.std.proofs.Math.Path.{sym, ap}
-use Rattle.std.proofs.Common.{ap₂, ◌∙◌}
-use mathlib.Core.List.{List, ◌++◌, append_assoc, append-nil}
-use Prim.Native.Nat.{ℕ, suc, ◌+◌, ◌-◌, ◌*◌, ◌≤◌, ◌<◌}
-use native.Mathlib.Omega.{arith}
-use Rattle.std.proofs.Math.ListN.{take}
+use Rattle.std.specs.Prelude.{◌≡◌, List, ◌++◌, ℕ, suc, ◌+◌, ◌≤◌, ◌<◌, length, take, drop, get_or, map}
+use Rattle.std.proofs.Common.{sym, ap, ap₂, ◌∙◌, add-one, append_assoc, append-nil, drop-cons}
+use Rattle.std.proofs.lemmas.List.{drop_all}
+use Rattle.lock.specs.declared.Call.{Call as CallStruct}
 use Rattle.lock.specs.declared.Client.{Client}
 use Rattle.lock.specs.declared.Record.{Record}
 use Rattle.lock.specs.declared.Settings.{Settings}
+use Rattle.lock.specs.rules.ByValue.{call_of}
 use Rattle.lock.specs.rules.Table.{State, Call, client_of, client_at, record_at, Out, call}
-use Rattle.table.specs.rules.Lent.{left_with}
-use Rattle.schedule.specs.declared.Made.{Made}
-use Rattle.schedule.specs.declared.Run.{Run}
-use Rattle.schedule.specs.rules.Format.{settings_in, clients_in, count_in, place_of, call_in, calls_from, calls_in}
+use Rattle.lock.proofs.laws.ByKind.{client_of_kind}
+use Rattle.schedule.specs.rules.Format.{settings_in, clients_in, calls_in}
 use Rattle.schedule.specs.rules.Running.{opening_in}
 use Rattle.schedule.specs.rules.Refusal.{refusal}
 use Rattle.schedule.specs.rules.Log.{kind_text, header_line, line, lines, log_of}
 use Rattle.schedule.specs.rules.Text.{text, decimal, spaced}
 use Rattle.schedule.specs.laws.Appended.{Appended}
-use Rattle.schedule.specs.laws.WellFormed.{WellFormed}
-use Rattle.schedule.specs.laws.RunLaws.{clients_of, state_of, client_in, record_in}
+use Rattle.schedule.specs.laws.FormatLaws.{CallRead, call_of_bytes, call_read}
+use Rattle.schedule.specs.laws.RunLaws.{fresh}
 use Rattle.schedule.specs.laws.Refusing.{run_whole}
 
 -- ---- one line
@@ -31,75 +27,44 @@ pub line_of_lem : (k : ℕ) (c : Call) (client number : ℕ) (r : Record) → cl
 unfolding line
 line_of_lem k c client number r e = rw e
 
--- with the call as the code has it, and its client
-pub line_in : (k : ℕ) (c d : Call) (number : ℕ) (run : Run) (client : ℕ) (own : Client) → d ≡ c → client_of d ≡ client → own ≡ client_in run client
-    → line k d number own.«record» ≡ line k c number (record_in run (client_of c))
-line_in k c d number run client own e f g =
-    ap (λ (x : Client). line k d number x.«record») (g ∙ ap (client_in run) (sym f)) ∙ ap (λ (z : Call). line k z number (record_in run (client_of z))) e
+-- with the call as the code reads it, and its client
+pub line_in : (k number : ℕ) (bytes : List ℕ) (c : CallStruct) (st : State) (own : Client) → CallRead bytes c → own ≡ client_at st c.client
+    → line k (call_of c.kind c.client c.a c.b) number own.«record» ≡ line k (call_of_bytes bytes) number (record_at st (client_of (call_of_bytes bytes)))
+line_in k number bytes c st own r e =
+    ap (λ (x : Client). line k (call_of c.kind c.client c.a c.b) number x.«record») (e ∙ ap (client_at st) (sym (client_of_kind c.kind c.client c.a c.b)))
+    ∙ ap (λ (z : Call). line k z number (record_at st (client_of z))) (call_read bytes c r)
 
 -- ---- all calls: what is written so far, and the lines of the calls from k on, are the whole text
 
-module _ (s : Settings) (bytes : List ℕ) (whole : List ℕ) where
-  pub record Written (st : State) (k : ℕ) (out : List ℕ) (end : ℕ) : Type 0 where
-    pub begun : k ≤ count_in bytes
-    pub text : take end out ++ lines s st k (calls_from bytes k (count_in bytes - k)) ≡ whole
-    pub inside : end ≤ length out
-    pub most : end ≤ 112 + 144 * k
+module _ (s : Settings) (calls : List (List ℕ)) where
+  abbrev pub lines_from : State → ℕ → List ℕ
+  lines_from st k = lines s st k (map call_of_bytes (drop k calls))
 
   -- call k is made, and its line written
-  pub written_more : (st : State) (k : ℕ) (out : List ℕ) (at : ℕ) → Written st k out at → k < count_in bytes → (made : Made) (words new : List ℕ) (end : ℕ)
-      → left_with made.number (clients_of made.run) words ≡ call s st (call_in bytes k)
-      → Appended out at new end (line k (call_in bytes k) made.number (record_in made.run (client_of (call_in bytes k)))) → end ≤ at + 144
-      → Written (state_of made.run words) (k + 1) new end
-  unfolding lines calls_from client_at
-  written_more st k out at v b made words new end e a short =
-      let c = call_in bytes k in
-      let left : count_in bytes - k ≡ suc (count_in bytes - (k + 1)) = omega arith in
-      let rest = calls_from bytes (suc k) (count_in bytes - (k + 1)) in
-      let line_of : Out → List ℕ = λ o. line k c o.number (record_at o.state (client_of c)) in
-      let now = line k c made.number (record_in made.run (client_of c)) in
-      let after = lines s (state_of made.run words) (suc k) rest in
-      let unrolled : lines s st k (calls_from bytes k (count_in bytes - k)) ≡ now ++ after
-      = ap (λ (n : ℕ). lines s st k (calls_from bytes k n)) left ∙ sym (ap (λ (o : Out). line_of o ++ lines s o.state (suc k) rest) e) in
-      let one : k + 1 ≡ suc k = omega arith in
-      record {
-        begun = omega arith;
-        text = ap (λ (n : ℕ). take end new ++ lines s (state_of made.run words) n (calls_from bytes n (count_in bytes - (k + 1)))) one
-            ∙ ap (λ (l : List ℕ). l ++ after) a.text ∙ append_assoc (take at out) now after ∙ ap (λ (l : List ℕ). take at out ++ l) (sym unrolled) ∙ v.text;
-        inside = omega (arith, a.room, a.same);
-        most = omega (arith, v.most);
-      }
+  pub written_more : (whole out new : List ℕ) (st : State) (k at end : ℕ) (d : List ℕ) → take at out ++ lines_from st k ≡ whole → k < length calls → (o : Out) → call s st (call_of_bytes (get_or calls k d)) ≡ o
+      → Appended out at new end (line k (call_of_bytes (get_or calls k d)) o.number (record_at o.state (client_of (call_of_bytes (get_or calls k d))))) → take end new ++ lines_from o.state (k + 1) ≡ whole
+  unfolding lines
+  written_more whole out new st k at end d e h o f a =
+      let c = call_of_bytes (get_or calls k d) in
+      let rest = map call_of_bytes (drop (suc k) calls) in
+      let line_of : Out → List ℕ = λ x. line k c x.number (record_at x.state (client_of c)) in
+      ap₂ (λ (l : List ℕ) (n : ℕ). l ++ lines_from o.state n) a.text (add-one k)
+      ∙ append_assoc (take at out) (line_of o) (lines s o.state (suc k) rest)
+      ∙ ap (λ (x : Out). take at out ++ (line_of x ++ lines s x.state (suc k) rest)) (sym f)
+      ∙ ap (λ (l : List (List ℕ)). take at out ++ lines s st k (map call_of_bytes l)) (sym (drop-cons calls k d h)) ∙ e
 
   -- all calls are made
-  pub written_all : (st : State) (k : ℕ) (out : List ℕ) (end : ℕ) → Written st k out end → count_in bytes ≤ k → take end out ≡ whole
-  unfolding lines calls_from
-  written_all st k out end v b =
-      let none : count_in bytes - k ≡ 0 = omega arith in
-      sym (append-nil (take end out)) ∙ sym (ap (λ (n : ℕ). take end out ++ lines s st k (calls_from bytes k n)) none) ∙ v.text
-
--- before the first call
-pub written_first : (s : Settings) (bytes : List ℕ) (st : State) (clients : ℕ) (old out : List ℕ) (end : ℕ) → Appended old 0 out end (header_line s clients) → end ≤ 0 + 112
-    → Written s bytes (header_line s clients ++ lines s st 0 (calls_in bytes)) st 0 out end
-unfolding calls_in
-written_first s bytes st clients old out end a b = record {
-  begun = omega arith;
-  text = ap (λ (l : List ℕ). l ++ lines s st 0 (calls_from bytes 0 (count_in bytes - 0))) a.text
-      ∙ ap (λ (n : ℕ). header_line s clients ++ lines s st 0 (calls_from bytes 0 n)) (let e : count_in bytes - 0 ≡ count_in bytes = omega arith in e);
-  inside = omega (arith, a.room, a.same);
-  most = omega arith;
-}
-
--- the room that all lines have
-pub few_calls : (bytes : List ℕ) → WellFormed bytes → count_in bytes ≤ 2729
-unfolding place_of
-few_calls bytes w = omega (arith, w.inside, w.offset, w.short)
+  pub written_all : (whole out : List ℕ) (st : State) (k at : ℕ) → take at out ++ lines_from st k ≡ whole → length calls ≤ k → take at out ≡ whole
+  unfolding lines
+  written_all whole out st k at e h =
+      sym (append-nil (take at out)) ∙ ap (λ (l : List (List ℕ)). take at out ++ lines s st k (map call_of_bytes l)) (sym (drop_all k calls h)) ∙ e
 
 -- ---- the whole log of a file that is not refused
 
-pub log_run : (bytes : List ℕ) → refusal bytes ≡ 0 → (s : Settings) (clients : ℕ) → s ≡ settings_in bytes → clients ≡ clients_in bytes → (st : State) → st ≡ (opening_in bytes).state
-    → (whole : List ℕ) → whole ≡ header_line s clients ++ lines s st 0 (calls_in bytes) → whole ≡ log_of bytes
-unfolding log_of
-log_run bytes z s clients e f st g whole t =
-    let of : State → List ℕ = λ x. header_line (settings_in bytes) (clients_in bytes) ++ lines (settings_in bytes) x 0 (calls_in bytes) in
-    run_whole bytes (of (opening_in bytes).state) z whole
-    (t ∙ ap₂ (λ (x : Settings) (y : ℕ). header_line x y ++ lines x st 0 (calls_in bytes)) e f ∙ ap of g)
+pub log_run : (bytes : List ℕ) → refusal bytes ≡ 0 → (s : Settings) (clients : ℕ) (cs : List Call) → s ≡ settings_in bytes → clients ≡ clients_in bytes → cs ≡ calls_in bytes
+    → (whole : List ℕ) → whole ≡ header_line s clients ++ lines s (fresh s clients) 0 cs → whole ≡ log_of bytes
+unfolding log_of opening_in
+log_run bytes z s clients cs e f g whole t =
+    run_whole bytes (header_line (settings_in bytes) (clients_in bytes) ++ lines (settings_in bytes) (opening_in bytes).state 0 (calls_in bytes)) z whole
+    (t ∙ ap₂ (λ (x : Settings) (y : ℕ). header_line x y ++ lines x (fresh x y) 0 cs) e f
+    ∙ ap (λ (l : List Call). header_line (settings_in bytes) (clients_in bytes) ++ lines (settings_in bytes) (opening_in bytes).state 0 l) g)

@@ -1,8 +1,9 @@
 -- A call over the table is, after the tests of the table and the client, the call by value on that client, who is put back where it was. Assumes nothing.
-use Rattle.std.specs.Prelude.{◌≡◌, Bool, List, [], ◌∷◌, ◌++◌, ℕ, zero, suc, T, eqb, length, get_or, set}
+use Rattle.std.specs.Prelude.{◌≡◌, Bool, List, ◌++◌, ℕ, T, eqb, length, set}
 use Rattle.std.proofs.Math.Path.{refl, sym, subst}
 use Rattle.std.proofs.Common.{ap, ◌∙◌, arith, eqb→eq}
 use Rattle.std.proofs.Math.Bool.{true, false}
+use Rattle.std.proofs.lemmas.List.{set-get_or}
 use Rattle.base.specs.rules.Choice.{choose}
 use Rattle.base.specs.laws.ChoiceLaws.{choose_ne}
 use Rattle.lock.specs.declared.Client.{Client}
@@ -15,12 +16,6 @@ use Rattle.lock.specs.rules.ByValue.{answer_to, words_after}
 use Rattle.table.specs.rules.Lent.{lent, left_with}
 use Rattle.table.specs.laws.Causes.{table_cause}
 use Rattle.table.specs.laws.CauseLaws.{first_hits, first_passes, both_none}
-
--- what is there, stored again, changes nothing
-pub set_same : {A : Type 0} (l : List A) (i : ℕ) (d : A) → set l i (get_or l i d) ≡ l
-set_same [] i d = refl
-set_same (x ∷ l) zero d = refl
-set_same {A} (x ∷ l) (suc i) d = ap (λ (k : List A). x ∷ k) (set_same l i d)
 
 -- a number, clients and words are what a call leaves
 abbrev pub Same : Out → ℕ → List Client → List ℕ → Type 0
@@ -65,7 +60,7 @@ module _ (s : Settings) (clients : List Client) (words : List ℕ) where
       Same (record { number = n; state = choose b (record { words = others; clients = set clients c next }) st }) by_value.number (set clients c by_value.next) (choose b others words)
   unfolding choose client_at
   put_back_by c n next others true z = λ i. left_with (sym (z tt) i) (set clients c next) others
-  put_back_by c n next others false z = λ i. left_with n (set_same clients c idle_client i) words
+  put_back_by c n next others false z = λ i. left_with n (set-get_or clients c idle_client i) words
 
   -- an answer by value with the number n, put back into the table
   put_back : (c n : ℕ) (next : Client) (others : List ℕ)

@@ -5,12 +5,14 @@ use Rattle.std.proofs.Common.{◌∙◌, arith}
 use Rattle.std.proofs.Math.Bool.{true, false}
 use mathlib.Core.List.{[], ◌∷◌, ◌++◌}
 use Rattle.std.proofs.Math.Dec.{nleb→lt}
+use Rattle.base.specs.declared.Refusal.{Refusal}
 use Rattle.base.specs.rules.Choice.{choose}
+use Rattle.base.specs.rules.Refusals.{number_of}
 use Rattle.base.specs.laws.ChoiceLaws.{choose_le, choose_gt}
 use Rattle.lock.specs.declared.Settings.{Settings}
 use Rattle.lock.specs.rules.Calls.{Tests, first_cause, tree_tests, clients_outside, client_tests}
 use Rattle.lock.specs.rules.Table.{opening_number}
-use Rattle.lock.proofs.laws.CallLaws.{TreeTested, tree_passed, cause_hit, cause_skip}
+use Rattle.lock.proofs.laws.CallLaws.{TreeTested, tree_passed, cause_hit, cause_skip, cause_some}
 use Rattle.table.specs.laws.Causes.{table_cause}
 
 -- ---- a chain behind another
@@ -52,6 +54,23 @@ pub both_none : (ts us : Tests) → first_cause (ts ++ us) ≡ 0 → first_cause
 unfolding first_cause
 both_none [] us h = refl
 both_none (t ∷ ts) us h = one_none t.0 t.1 (first_cause (ts ++ us)) (first_cause ts) (both_none ts us) h
+
+-- ---- a test alone, and a chain whose first part is a function's and whose second stands behind its `?`
+
+module _ (b : Bool) (k : ℕ) where
+  pub one_true : b ≡ true → k ≡ first_cause ((b, k) ∷ [])
+  one_true e = sym (cause_hit b k [] e)
+
+  pub one_false : b ≡ false → 0 ≡ first_cause ((b, k) ∷ [])
+  unfolding first_cause
+  one_false e = sym (cause_skip b k [] e)
+
+module _ (ts us : Tests) where
+  pub refused_first : (r : Refusal) → number_of r ≡ first_cause ts → number_of r ≡ first_cause (ts ++ us)
+  refused_first r e = e ∙ sym (first_hits ts us (λ z. cause_some r (e ∙ z)))
+
+  pub passed_first : Numbered ts → 0 ≡ first_cause ts → (n : ℕ) → n ≡ first_cause us → n ≡ first_cause (ts ++ us)
+  passed_first v z n e = e ∙ sym (first_passes ts us v (sym z))
 
 -- ---- causes 1 to 3
 

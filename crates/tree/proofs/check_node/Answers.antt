@@ -13,10 +13,6 @@ pub level-requires : goal.level-requires
 level-requires c =
     place_node c.requires
 
-pub overflow_sub-result-2 : goal.overflow_sub-result-2
-overflow_sub-result-2 c =
-    omega (arith, place_level c.requires c.level.ensures)
-
 pub overflow_mul-result : goal.overflow_mul-result
 overflow_mul-result c =
     omega (arith, place_level c.requires c.level.ensures)

@@ -6,13 +6,16 @@ use Prim.Native.Nat.{ℕ, suc, ◌+◌, ◌-◌, ◌*◌, ◌/◌, ◌%◌, ◌^
 use native.Mathlib.Omega.{arith}
 use Rattle.std.proofs.Math.Nat.{pow-le-pow_right}
 use Rattle.std.specs.Int.Count.{count_leading_zeros}
-use Rattle.std.proofs.lemmas.Nat.{leading_top}
+use Rattle.std.proofs.lemmas.Grind.{pow_more}
+use Rattle.std.proofs.lemmas.Nat.{leading_top, shr_le}
 use Rattle.base.specs.rules.Choice.{choose}
 use Rattle.base.specs.laws.Every.{every, every_at}
 use Rattle.base.specs.laws.ChoiceLaws.{choose_le, choose_gt, by_lt}
 use Rattle.tree.specs.rules.Tree.{climb, leftmost, first, last, level, Node, size, left}
 use Rattle.tree.specs.rules.Lists.{ancestor, ancestors, notify_list, check_list}
 use Rattle.tree.proofs.laws.Ancestors.{ancestors_count, ancestors_place}
+use Rattle.tree.proofs.laws.Climb.{first_pos, first_mono}
+use Rattle.tree.proofs.laws.Range.{leaves_from}
 use Rattle.tree.proofs.laws.Level.{level_pos, level_range}
 use Rattle.tree.proofs.laws.Closed.{four, first_is, left_is, climb_is, level_is_log, node_small, left_small}
 use Rattle.tree.specs.laws.Notify.{notify_level}
@@ -35,6 +38,10 @@ climb_code k n f e h b =
     let s : k + 1 ≡ suc k = omega arith in
     ap (λ (x : ℕ). (n - x) / 2 ^ (2 * k) + 1) (e ∙ ap first s) ∙ ap (λ (p : ℕ). (n - first (suc k)) / p + 1) (four k) ∙ sym (climb_is k n h b)
 
+-- the nodes above the level of n that is k levels up come before n
+pub climb_from : (k n : ℕ) → 1 ≤ n → k < level n → first (k + 1) ≤ n
+climb_from k n h b = omega (arith, (level_range n h).0, first_mono (k + 1) (level n) (omega arith) (omega arith))
+
 pub left_code : (k n f : ℕ) → f ≡ first (k + 1) → 1 ≤ n → level n + k ≤ 12 → ((n - 1) * 2 ^ (2 * k)) % 2 ^ 64 + f ≡ leftmost k n
 left_code k n f e h b =
     let s : k + 1 ≡ suc k = omega arith in
@@ -47,6 +54,10 @@ level_code n v =
     let t = leading_top 64 (3 * n - 2) (omega (arith, v.some)) (omega (arith, node_small n v)) in
     let l = level_is_log n t.0 v.some t.2 t.3 in
     (omega (arith, t.1), omega (arith, t.1))
+
+-- the level by the place j of that bit
+pub level_bit : (n j : ℕ) → 1 ≤ n → 2 ^ j ≤ 3 * n - 2 → 3 * n - 2 < 2 * 2 ^ j → j / 2 + 1 ≡ level n
+level_bit n j a lo hi = omega (arith, level_is_log n j a lo (omega (arith, pow_more 2 j)))
 
 pub size_code : (h n d : ℕ) → h ≤ 12 → Node h n → d ≡ level n → (64 * 2 ^ (2 * (h - d))) % 2 ^ 64 ≡ size h n
 unfolding size
@@ -126,6 +137,10 @@ steps_far m d i b = ap (λ (x : ℕ). d - x) (sym (choose_gt d m (d - 1) _ b))
 pub place_small : (i m : ℕ) → i < 12 → m ≤ 4 → i * m ≤ 44
 place_small i m a b = mul-le-mul {n₁ = i} {m₁ = m} {n₂ = 11} {m₂ = 4} (omega arith) b
 
+-- the steps to the ancestor at place i, or to level m where that is nearer
+pub steps_least : (m d i : ℕ) → m < d → min (i * m + 1) (d - m) ≡ d - notify_level m d i
+steps_least m d i b = omega (arith, steps_far m d i b)
+
 -- the steps lead to an ancestor, the one at place i
 pub steps_code : {m n i d s : ℕ} → (1 ≤ m) × (m ≤ 4) × Node 12 n × (i < length (notify_list m n)) → d ≡ level n → s ≡ d - notify_level m d i
     → (s < level n) × (climb s n ≡ get_or (notify_list m n) i 0)
@@ -146,6 +161,10 @@ check_count_m h m n b = let e : m + 1 ≡ suc (min m (h - level n)) = omega arit
 pub check_count_h : (h m n : ℕ) → h - level n ≤ m → first (h - level n + 1) - 1 ≡ length (check_list h m n)
 unfolding check_count
 check_count_h h m n b = let e : h - level n + 1 ≡ suc (min m (h - level n)) = omega arith in ap (λ (k : ℕ). first k - 1) e ∙ sym (check_count_lem h m n)
+
+pub check_count_code : (h m n : ℕ) → first (min m (h - level n) + 1) - 1 ≡ length (check_list h m n)
+unfolding check_count
+check_count_code h m n = let e : min m (h - level n) + 1 ≡ suc (min m (h - level n)) = omega arith in ap (λ (k : ℕ). first k - 1) e ∙ sym (check_count_lem h m n)
 
 module _ {h m n i : ℕ} (v : (h ≤ 12) × (1 ≤ m) × Node h n × (i < length (check_list h m n))) where
   counted_place : i < check_count h m n
@@ -179,3 +198,6 @@ module _ {h m n i : ℕ} (v : (h ≤ 12) × (1 ≤ m) × Node h n × (i < length
         let s : i + 1 ≡ suc i = omega arith in
         shift_place ∙ ap (λ (x : ℕ). leftmost (x - 1) n + (i + 1 - first x)) e ∙ ap (λ (x : ℕ). leftmost (level x - 1) n + (x - first (level x))) s
         ∙ sym (check_place_lem h m n i counted_place)
+
+-- what the check tries at each goal of the code
+pub ruleset shifts = (node_small, first_pos, level_pos, left_small, shr_le, climb_from, ancestors_count, first_code, last_code, ancestor_code, ancestor_at_code, size_code, climb_code, left_code, level_bit, left_edge_code, leaves_from, count_small, bounded, steps_near, steps_least, check_count_code)

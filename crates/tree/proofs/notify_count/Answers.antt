@@ -1,11 +1,7 @@
 -- `tree::notify_count` meets its contract. Assumes nothing.
 use native.Mathlib.Omega.{arith}
-use Rattle.tree.proofs.laws.Level.{level_pos}
 use Rattle.tree.proofs.laws.Code.{count_code}
 use Rattle.tree.proofs.notify_count.Goals as goal
-
-pub overflow_sub-result : goal.overflow_sub-result
-overflow_sub-result c = omega (arith, c.level-d.ensures, level_pos c.args.n)
 
 pub returns-in-1 : goal.returns-in-1
 returns-in-1 c = count_code c.requires c.in-1.is (omega (arith, c.level-d.ensures))

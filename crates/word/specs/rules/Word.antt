@@ -1,9 +1,8 @@
 -- To be believed: the words of the tree as the numbers that they are, and what one access does to a word. Quotations are of document 01, if no other is named.
 -- Assumes nothing.
-use Rattle.std.specs.Prelude.{◌≡◌, ◌↔◌, Bool, List, [], ◌∷◌, ℕ, ◌+◌, ◌-◌, ◌*◌, ◌/◌, ◌%◌, ◌^◌, ◌≤◌, ◌<◌, min, max, eqb}
+use Rattle.std.specs.Prelude.{◌≡◌, ◌↔◌, Bool, true, false, Option, Some, None, List, [], ◌∷◌, ℕ, ◌+◌, ◌-◌, ◌*◌, ◌/◌, ◌%◌, ◌^◌, ◌≤◌, ◌<◌, min, max, eqb}
 use Rattle.std.specs.Int.Bits.{bit_and, bit_or}
 use Rattle.base.specs.rules.Choice.{choose}
-use Rattle.word.specs.declared.Swap.{Swap}
 
 -- ---- "Leaf word: bit b (0 is lowest) is unit b of the leaf."
 
@@ -88,6 +87,10 @@ unfoldable pub replaced : ℕ → ℕ → ℕ → ℕ
 replaced mask value w = bit_or (bit_and w (2 ^ 64 - 1 - mask)) (bit_and value mask)
 
 -- whether it was done, and the word that it leaves
+pub record Swap : Type 0 where
+  pub done : Bool
+  pub word : ℕ
+
 unfoldable pub masked_swap : ℕ → ℕ → ℕ → ℕ → ℕ → Swap
 masked_swap compared expected swapped value w =
     record { done = matches compared expected w; word = choose (matches compared expected w) (replaced swapped value w) w }
@@ -118,3 +121,8 @@ give_bits bits w = masked_swap bits bits bits 0 w
 -- returning: "Occ set: Occ - 1 and TCnt + 1 in one add". Occ has one bit, so that less 1 is plus 2 ^ 1 - 1, which is 1.
 unfoldable pub return_occ : ℕ → ℕ
 return_occ w = add_occ 1 (add_tcnt 1 w)
+
+-- the swap of an answer for the word w: the word that it left, or none where w stayed
+abbrev pub swap_of : Option ℕ → ℕ → Swap
+swap_of None w = record { done = false; word = w }
+swap_of (Some v) w = record { done = true; word = v }

@@ -1,32 +1,38 @@
 -- `lock::Client::completed` meets its contract. Assumes nothing.
-use mathlib.Core.Path.{◌∙◌}
+use Rattle.std.proofs.Common.{refl, sym, ap, ◌∙◌, subst}
+use Rattle.std.proofs.lemmas.Result.{err_from_is_err_and}
 use native.Mathlib.Omega.{arith}
+use Rattle.lock.specs.rules.Steps.{moved}
+use Rattle.lock.specs.laws.Placed.{Sound}
+use Rattle.lock.specs.laws.Rows.{leaves}
+use Rattle.lock.proofs.laws.CallLaws.{cause_some}
 use Rattle.lock.proofs.laws.Touched.{readable}
 use Rattle.lock.proofs.laws.SettledLaws.{settled}
-use Rattle.lock.proofs.laws.OperationLaws.{post_tested, completed_refused, completed_clear, completed_taken}
+use Rattle.lock.proofs.laws.OperationLaws.{post_tested, completed_refused, completed_nine, completed_taken}
 use Rattle.lock.proofs.Client.completed.Goals as goal
 
-pub returns-then-cause-ne0 : goal.returns-then-cause-ne0
-returns-then-cause-ne0 c =
+pub returns-in_err-valid : goal.returns-in_err-valid
+returns-in_err-valid c =
     let a = c.args in
-    c.refused.ensures ∙ completed_refused a.settings a.self a.clock _ c.cause-cause.ensures a.found c.if-cause-ne0.true
+    let p = err_from_is_err_and c.from_residual.result c.from_residual.ensures.1 in
+    rw (p.1, p.2) (completed_refused a.settings a.self a.clock _ c.in_err-valid.ensures.number a.found (cause_some _))
 
-pub completed-m-requires : goal.completed-m-requires
-completed-m-requires c =
+pub completed-requires : goal.completed-requires
+completed-requires c =
     let a = c.args in
-    let v = post_tested a.settings a.self a.clock _ c.cause-cause.ensures in
-    let z = c.if-cause-ne0.false in
-    let g = settled a.settings (v.settings z) in
-    let f = readable a.settings a.self.«record» a.self.clock g (v.readable z) in
-    let b = v.onward z in
-    (g, f.sound, omega (arith, f.t1_past, b), omega (arith, f.t0_past, b), omega (arith, f.taken_past, b))
+    let v = post_tested a.settings a.self a.clock 0 c.in_ok-valid.ensures.number in
+    let g = settled a.settings (v.settings refl) in
+    let f = readable a.settings a.self.«record» a.self.clock g (v.readable refl) in
+    let b = v.onward refl in
+    (subst (λ s. Sound s a.self.«record») (sym c.in_ok-valid.ensures.same) f.sound, omega (arith, f.t1_past, b), omega (arith, f.t0_past, b), omega (arith, f.taken_past, b))
 
-pub returns-then-m-ne0 : goal.returns-then-m-ne0
-returns-then-m-ne0 c =
+pub returns-in_err-moved : goal.returns-in_err-moved
+returns-in_err-moved c =
     let a = c.args in
-    c.refused-then-m-ne0.ensures ∙ completed_clear a.settings a.self a.clock _ c.cause-cause.ensures a.found c.if-cause-ne0.false _ c.completed-m.ensures c.if-m-ne0.true
+    let p = err_from_is_err_and c.from_residual-in_err-moved.result c.from_residual-in_err-moved.ensures.1 in
+    rw (p.1, p.2) (completed_nine a.settings a.self a.clock 0 c.in_ok-valid.ensures.number a.found refl _ (c.in_err-moved.ensures ∙ ap (λ s. moved s a.self.«record» a.found a.clock) c.in_ok-valid.ensures.same) (cause_some _))
 
 pub returns : goal.returns
 returns c =
     let a = c.args in
-    completed_taken a.settings a.self a.clock _ c.cause-cause.ensures a.found c.if-cause-ne0.false _ c.completed-m.ensures c.if-m-ne0.false
+    completed_taken a.settings a.self a.clock 0 c.in_ok-valid.ensures.number a.found refl (leaves c.in_ok-moved.moved.word c.in_ok-moved.moved.next) (c.in_ok-moved.ensures ∙ ap (λ s. moved s a.self.«record» a.found a.clock) c.in_ok-valid.ensures.same) refl

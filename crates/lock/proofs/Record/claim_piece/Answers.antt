@@ -1,36 +1,16 @@
 -- `lock::Record::claim_piece` meets its contract. Assumes nothing.
-use mathlib.Core.Path.{sym, ap, ap₂, ◌∙◌, subst}
+use mathlib.Core.Path.{sym, ◌∙◌, subst}
 use Prim.Native.Nat.{ℕ}
-use Rattle.lock.specs.rules.Records.{is_leaf}
-use Rattle.lock.specs.rules.Steps.{wanted}
-use Rattle.lock.specs.laws.Rows.{leaves}
-use Rattle.word.specs.rules.Word.{take_bits}
 use Rattle.cover.specs.rules.Cover.{Meets}
 use Rattle.lock.proofs.laws.Placed.{pieced}
 use Rattle.lock.proofs.laws.ReturnLaws.{leaf_level}
-use Rattle.lock.proofs.laws.MoveLaws.{claim_leaf, claim_inner}
 use Rattle.lock.proofs.Record.claim_piece.Goals as goal
 
 pub wanted-requires : goal.wanted-requires
 wanted-requires c =
     let a = c.args in
     let q = c.requires in
-    let p = pieced a.settings a.self q.0 q.1 in
+    let p = pieced a.settings.values a.self c.args.settings.settled q in
     let e = sym c.current_piece-n.ensures in
-    let h = a.settings.levels in
-    (q.0, subst (λ (n : ℕ). Meets h a.self.left a.self.right n) e (q.1.meets a.self.current p.exists), leaf_level a.settings c.current_piece-n.result (sym c.is_leaf.ensures ∙ c.if-is_leaf.true))
-
-pub returns-then-is_leaf : goal.returns-then-is_leaf
-returns-then-is_leaf c =
-    let a = c.args in
-    let q = c.requires in
-    let p = pieced a.settings a.self q.0 q.1 in
-    let e = c.take_bits-swap.ensures ∙ ap (λ (b : ℕ). take_bits b a.found) (c.wanted.ensures ∙ ap (wanted a.settings a.self) c.current_piece-n.ensures) in
-    c.leaves.ensures ∙ ap (leaves c.take_bits-swap.result.word) c.bits_claimed.ensures ∙ sym (claim_leaf a.settings a.self a.found a.clock c.take_bits-swap.result e (ap (is_leaf a.settings) (sym c.current_piece-n.ensures) ∙ sym c.is_leaf.ensures ∙ c.if-is_leaf.true))
-
-pub returns : goal.returns
-returns c =
-    let a = c.args in
-    let q = c.requires in
-    let p = pieced a.settings a.self q.0 q.1 in
-    c.leaves-2.ensures ∙ ap₂ leaves c.add_occ.ensures c.occ_claimed.ensures ∙ sym (claim_inner a.settings a.self a.found a.clock (ap (is_leaf a.settings) (sym c.current_piece-n.ensures) ∙ sym c.is_leaf.ensures ∙ c.if-is_leaf.false))
+    let h = a.settings.values.levels in
+    (subst (λ (n : ℕ). Meets h a.self.left a.self.right n) e (q.meets a.self.current p.exists), leaf_level a.settings.values c.current_piece-n.result (sym c.is_leaf.ensures ∙ c.if-is_leaf.true))

@@ -1,42 +1,17 @@
 -- `lock::Record::give_back` meets its contract. Assumes nothing.
-use mathlib.Core.Path.{sym, ap, ap₂, ◌∙◌}
+use mathlib.Core.Path.{sym, ap, ◌∙◌}
 use Prim.Native.Nat.{◌<◌}
 use native.Mathlib.Omega.{arith}
 use lib.ListN.{length}
 use Rattle.lock.specs.rules.Records.{pieces, is_leaf, given_piece}
-use Rattle.lock.specs.laws.Rows.{leaves}
 use Rattle.lock.proofs.laws.Placed.{pieced}
-use Rattle.lock.proofs.laws.ReturnLaws.{own_leaf, own_inner, own_notice, leaf_level}
+use Rattle.lock.proofs.laws.ReturnLaws.{leaf_level}
 use Rattle.lock.proofs.Record.give_back.Goals as goal
 
 pub return_bits-requires : goal.return_bits-requires
 return_bits-requires c =
     let a = c.args in
     let q = c.requires in
-    let g : a.self.giving < length (pieces a.self) = omega (arith, q.1.giving_begun, q.1.exists) in
-    let p = pieced a.settings a.self q.0 q.1 in
-    (q.0, q.1, g, leaf_level a.settings (given_piece a.self) (ap (is_leaf a.settings) (sym c.given_piece.ensures) ∙ sym c.is_leaf.ensures ∙ c.if-is_leaf.true))
-
-pub returns-then-is_leaf : goal.returns-then-is_leaf
-returns-then-is_leaf c =
-    let a = c.args in
-    let q = c.requires in
-    let g : a.self.giving < length (pieces a.self) = omega (arith, q.1.giving_begun, q.1.exists) in
-    let p = pieced a.settings a.self q.0 q.1 in
-    c.return_bits.ensures ∙ sym (own_leaf a.settings a.self a.found c.if-self-eq0.true (ap (is_leaf a.settings) (sym c.given_piece.ensures) ∙ sym c.is_leaf.ensures ∙ c.if-is_leaf.true))
-
-pub returns-then-self-eq0 : goal.returns-then-self-eq0
-returns-then-self-eq0 c =
-    let a = c.args in
-    let q = c.requires in
-    let g : a.self.giving < length (pieces a.self) = omega (arith, q.1.giving_begun, q.1.exists) in
-    let p = pieced a.settings a.self q.0 q.1 in
-    c.return_inner.ensures ∙ sym (own_inner a.settings a.self a.found c.if-self-eq0.true (ap (is_leaf a.settings) (sym c.given_piece.ensures) ∙ sym c.is_leaf.ensures ∙ c.if-is_leaf.false))
-
-pub returns : goal.returns
-returns c =
-    let a = c.args in
-    let q = c.requires in
-    let g : a.self.giving < length (pieces a.self) = omega (arith, q.1.giving_begun, q.1.exists) in
-    let p = pieced a.settings a.self q.0 q.1 in
-    c.leaves.ensures ∙ ap₂ leaves c.add_dcnt.ensures c.word_returned.ensures ∙ sym (own_notice a.settings a.self a.found c.if-self-eq0.false)
+    let g : a.self.giving < length (pieces a.self) = omega (arith, q.giving_begun, q.exists) in
+    let p = pieced a.settings.values a.self c.args.settings.settled q in
+    (q, g, leaf_level a.settings.values (given_piece a.self) (ap (is_leaf a.settings.values) (sym c.given_piece.ensures) ∙ sym c.is_leaf.ensures ∙ c.if-is_leaf.true))

@@ -9,10 +9,10 @@ pub returns-then-out_of_patience : goal.returns-then-out_of_patience
 returns-then-out_of_patience c =
     let a = c.args in
     let e = sym c.out_of_patience.ensures ∙ c.if-out_of_patience.true in
-    c.touches_none.ensures ∙ ap₂ operation_at (sym (sent_back_touched a.settings a.self a.clock e)) (sym (impatient_access a.settings a.self a.clock e))
+    c.at.ensures ∙ ap₂ operation_at (sym (sent_back_touched a.settings.values a.self a.clock e)) (sym (impatient_access a.settings.values a.self a.clock e))
 
 pub returns : goal.returns
 returns c =
     let a = c.args in
     let e = sym c.out_of_patience.ensures ∙ c.if-out_of_patience.false in
-    c.own_operation.ensures ∙ ap₂ operation_at (sym (own_touched_lem a.settings a.self a.clock e)) (sym (patient_access a.settings a.self a.clock e))
+    c.own_operation.ensures ∙ ap₂ operation_at (sym (own_touched_lem a.settings.values a.self a.clock e)) (sym (patient_access a.settings.values a.self a.clock e))

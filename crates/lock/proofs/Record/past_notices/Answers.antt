@@ -9,12 +9,12 @@ use Rattle.lock.proofs.Record.past_notices.Goals as goal
 
 pub returns-then-self : goal.returns-then-self
 returns-then-self c =
-    let s = c.args.settings in
+    let s = c.args.settings.values in
     let r = c.args.self in
     ap (λ (n : ℕ). ltb n r.place) (c.notify_count.ensures ∙ ap (λ (n : ℕ). length (notify_list s.distance n)) c.piece_at.ensures ∙ sym (notices_before s r r.giving c.if-self.true))
 
 pub returns : goal.returns
 returns c =
-    let s = c.args.settings in
+    let s = c.args.settings.values in
     let r = c.args.self in
     ap (λ (n : ℕ). ltb n r.place) (sym (notices_current s r r.giving c.if-self.false))

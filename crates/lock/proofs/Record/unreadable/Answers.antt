@@ -10,19 +10,19 @@ use Rattle.lock.proofs.Record.unreadable.Goals as goal
 
 pub returns-then-self-eq0 : goal.returns-then-self-eq0
 returns-then-self-eq0 c =
-    ap (λ (b : Bool). ltb 4 c.args.self.outcome || b) c.idle_filled.ensures ∙ sym (unreadable_idle c.args.settings c.args.self c.args.last c.if-self-eq0.true)
+    ap (λ (b : Bool). ltb 4 c.args.self.outcome || b) c.idle_filled.ensures ∙ sym (unreadable_idle c.args.settings.values c.args.self c.args.last c.if-self-eq0.true)
 
 pub returns-then-not_begun : goal.returns-then-not_begun
 returns-then-not_begun c =
-    sym (unreadable_parts c.args.settings c.args.self c.args.last c.if-self-eq0.false ∙ ap (λ (b : Bool). b || own_wrong c.args.settings c.args.self) (sym c.not_begun.ensures ∙ c.if-not_begun.true))
+    sym (unreadable_parts c.args.settings.values c.args.self c.args.last c.if-self-eq0.false ∙ ap (λ (b : Bool). b || own_wrong c.args.settings.values c.args.self) (sym c.not_begun.ensures ∙ c.if-not_begun.true))
 
 pub own_wrong-requires : goal.own_wrong-requires
 own_wrong-requires c =
     let a = c.args in (
-      asked_begun a.settings a.self a.last c.requires (sym c.not_begun.ensures ∙ c.if-not_begun.false),
+      asked_begun a.settings.values a.self a.last a.settings.settled (sym c.not_begun.ensures ∙ c.if-not_begun.false),
       omega (arith, c.if-self-eq0.false),
     )
 
 pub returns : goal.returns
 returns c =
-    sym (unreadable_parts c.args.settings c.args.self c.args.last c.if-self-eq0.false ∙ ap (λ (b : Bool). b || own_wrong c.args.settings c.args.self) (sym c.not_begun.ensures ∙ c.if-not_begun.false) ∙ sym c.own_wrong.ensures)
+    sym (unreadable_parts c.args.settings.values c.args.self c.args.last c.if-self-eq0.false ∙ ap (λ (b : Bool). b || own_wrong c.args.settings.values c.args.self) (sym c.not_begun.ensures ∙ c.if-not_begun.false) ∙ sym c.own_wrong.ensures)

@@ -9,5 +9,5 @@ pub wanted_bits-requires : goal.wanted_bits-requires
 wanted_bits-requires c =
     let a = c.args in
     let q = c.requires in
-    let k = clipped a.settings.levels a.self.left a.self.right a.n (omega (arith, q.0.levels_some)) q.0.levels_most q.1 q.2 in
+    let k = clipped a.settings.values.levels a.self.left a.self.right a.n (omega (arith, c.args.settings.settled.levels_some)) c.args.settings.settled.levels_most q.0 q.1 in
     subst (λ (e : ℕ). (a.self.left < a.self.right) × (a.self.left < e + 64) × (e < a.self.right) × (e + 64 < 2 ^ 64)) (sym c.left_edge.ensures) (k.some, k.starts, k.ends, k.fits)

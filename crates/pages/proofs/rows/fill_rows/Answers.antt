@@ -1,45 +1,41 @@
 -- `pages::rows::fill_rows` meets its contract: a turn writes the row of one client more. Assumes nothing.
-use Rattle.std.proofs.Common.{◌≡◌, ℕ, List, length, sym, ap, ◌∙◌, arith}
-use lib.ListN.{set}
+use Rattle.std.proofs.Common.{◌≡◌, ℕ, zero-add, List, [], ◌++◌, ◌+◌, length, get_or, set, drop, drop_of_length-le, append-nil, sym, ap, ◌∙◌, arith}
+use Rattle.std.proofs.lemmas.List.{get_or-map, length-map}
+use Rattle.std.proofs.lemmas.List.Edits.{paste_more, paste_all}
+use lib.Seq.{paste}
 use Rattle.lock.specs.declared.Client.{Client}
-use Rattle.lock.specs.declared.Settings.{Settings}
 use Rattle.pages.specs.declared.Row.{Row}
 use Rattle.pages.specs.rules.Pages.{row_of, rows_of}
 use Rattle.pages.proofs.laws.RowLaws.{each_readable}
-use Rattle.table.proofs.Mapped.{mapped, mapped_length, mapped_none, mapped_next, mapped_all}
 use Rattle.pages.proofs.rows.fill_rows.Goals as goal
-
--- the row of a client
-abbrev f : Settings → Client → Row
-f s c = row_of s c.«record»
-
-pub loop-client-init : goal.loop-client-init
-loop-client-init c = (sym (mapped_none (f c.args.settings) c.args.clients.now c.args.rows.now), omega arith)
 
 pub row_of-requires : goal.row_of-requires
 row_of-requires c =
-    let q = c.requires in
-    (q.0, each_readable c.args.settings c.args.clients.now q.2 c.loop-client.client _ (omega (arith, q.1, ap length c.loop-client.invariant.0 ∙ mapped_length (f c.args.settings) c.loop-client.client c.args.clients.now c.args.rows.now, c.loop-client-test.true)))
+    (c.args.settings.settled, each_readable c.args.settings.values c.args.clients.now c.requires.1 c.loop-at.at _ c.loop-at-test.true)
 
-pub loop-client-preserved : goal.loop-client-preserved
-loop-client-preserved c =
-    let s = c.args.settings in
-    let xs = c.args.clients.now in
-    let ys = c.args.rows.now in
-    let i = c.loop-client.client in
-    let e = c.loop-client.invariant.0 in
-    let n = ap length e ∙ mapped_length (f s) i xs ys in (
-      ap (λ (z : List Row). set z i c.row_of.result) e ∙ ap (set (mapped (f s) i xs ys) i) c.row_of.ensures ∙ mapped_next (f s) i xs ys _ (omega (arith, c.requires.1, n, c.loop-client-test.true)),
-      omega (arith, n, c.loop-client-test.true),
-    )
+pub loop-at-preserved : goal.loop-at-preserved
+unfolding rows_of
+loop-at-preserved c =
+    let s = c.args.settings.values in
+    let clients = c.args.clients.now in
+    let rows = c.args.rows.now in
+    let at = c.loop-at.at in
+    let made = rows_of s clients in
+    let b = c.loop-at-test.true in
+    let f = λ (one : Client). row_of s one.«record» in
+    ap (λ (l : List Row). set l at c.row_of.result) c.loop-at.invariant
+    ∙ ap (set (paste rows 0 made at) at) (c.row_of.ensures ∙ sym (get_or-map f clients at _ c.row_of.result b))
+    ∙ ap (λ (k : ℕ). set (paste rows 0 made at) k (get_or made at c.row_of.result)) (sym (zero-add at))
+    ∙ paste_more rows 0 made at c.row_of.result (omega (arith, c.requires.0)) (omega (arith, length-map clients f))
 
 pub returns : goal.returns
 unfolding rows_of
 returns c =
-    let s = c.args.settings in
-    let xs = c.args.clients.now in
-    let ys = c.args.rows.now in
-    let e = c.loop-client.invariant.0 in
-    let n = ap length e ∙ mapped_length (f s) c.loop-client.client xs ys in
-    let all : c.loop-client.client ≡ length ys = omega (arith, n, c.loop-client-test.false, c.loop-client.invariant.1) in
-    e ∙ ap (λ (k : ℕ). mapped (f s) k xs ys) all ∙ mapped_all (f s) xs ys c.requires.1
+    let s = c.args.settings.values in
+    let clients = c.args.clients.now in
+    let rows = c.args.rows.now in
+    let made = rows_of s clients in
+    let f = λ (one : Client). row_of s one.«record» in
+    let whole : c.loop-at.at ≡ length made = omega (arith, length-map clients f, c.loop-at-test.false) in
+    let none : drop (0 + c.loop-at.at) rows ≡ [] = drop_of_length-le rows {i = 0 + c.loop-at.at} (omega (arith, c.requires.0, c.loop-at-test.false)) in
+    c.loop-at.invariant ∙ paste_all rows 0 made c.loop-at.at whole ∙ ap (λ (l : List Row). made ++ l) none ∙ append-nil made

@@ -1,24 +1,28 @@
--- `rangepages::paging::put_records` meets its contract. Assumes nothing.
-use mathlib.Core.Path.{refl, ap, ◌∙◌}
-use Prim.Native.Nat.{zero-le}
-use native.Mathlib.Omega.{arith}
-use Rattle.rangepages.specs.rules.Printed.{record_line}
-use Rattle.schedule.specs.laws.Appended.{restated}
+-- After each client its line is behind the others.
+use Rattle.std.proofs.Common.{List, ap, arith}
 use Rattle.lock.specs.declared.Client.{Client}
 use Rattle.lock.specs.rules.Records.{idle_client}
-use Rattle.schedule.specs.laws.RunLaws.{clients_of}
-use Rattle.rangepages.specs.laws.Lines.{lined_none, lined_more}
+use Rattle.schedule.specs.laws.Appended.{restated}
+use Rattle.rangepages.specs.rules.Printed.{record_line, line_each}
+use Rattle.rangepages.specs.laws.Lines.{lined_none, lined_more, lined_all}
 use Rattle.rangepages.proofs.paging.put_records.Goals as goal
 
 pub loop-client-init : goal.loop-client-init
-loop-client-init c =
-    (lined_none _ (clients_of c.args.run) _ _ (omega (arith, c.requires.1)), (omega arith, (zero-le, refl)))
+loop-client-init c = record { piece = lined_none (record_line c.args.held) c.clients-clients.result.now c.args.out.now c.args.at (omega (arith, c.requires)); short = omega arith }
+
+pub put-end-requires : goal.put-end-requires
+put-end-requires c = omega (arith, c.loop-client.invariant.short, c.record.ensures.short, c.clients-clients.ensures.few, c.requires)
 
 pub loop-client-preserved : goal.loop-client-preserved
 loop-client-preserved c =
-    let a = c.args in
-    let pre = c.requires in
-    let turn = c.loop-client in
-    let more = c.loop-client-test.true in
-    let put = c.put_record-end.ensures in
-    (lined_more _ (clients_of a.run) _ _ _ _ _ _ turn.client idle_client turn.invariant.0 (omega (arith, more, pre.0.whole)) (restated (ap (λ (own : Client). record_line a.held turn.client own.«record») c.client_of-own.ensures) put.piece), (omega (arith, turn.invariant.1.0, put.short), (omega (arith, more), put.piece.same ∙ turn.invariant.1.1.1)))
+    record {
+      piece =
+          lined_more (record_line c.args.held) c.clients-clients.result.now c.args.out.now c.args.at c.loop-client.out _ c.loop-client.end _ c.loop-client.client idle_client c.loop-client.invariant.piece
+          c.loop-client-test.true (restated c.record.ensures.line c.put-end.ensures);
+      short = omega (arith, c.loop-client.invariant.short, c.record.ensures.short, c.put-end.ensures.ends);
+    }
+
+pub returns : goal.returns
+returns c =
+    restated (ap (λ (l : List Client). line_each (record_line c.args.held) 0 l) c.clients-clients.ensures.clients)
+    (lined_all (record_line c.args.held) c.clients-clients.result.now c.args.out.now c.args.at c.loop-client.out c.loop-client.end c.loop-client.client c.loop-client.invariant.piece c.loop-client-test.false)

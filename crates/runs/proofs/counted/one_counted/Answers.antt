@@ -1,29 +1,50 @@
 -- `runs::counted::one_counted` meets its contract. Assumes nothing.
-use mathlib.Core.Path.{refl, sym, ap, ◌∙◌}
-use Prim.Native.Nat.{ℕ}
-use native.Mathlib.Omega.{arith}
+use Rattle.std.proofs.Common.{◌≡◌, Bool, sym, ap, ◌∙◌, rules}
 use Rattle.lock.specs.declared.Operation.{Operation}
 use Rattle.lock.specs.declared.Stepped.{Stepped}
-use Rattle.lock.specs.rules.Operations.{completed_answer}
-use Rattle.lock.proofs.laws.OperationLaws.{post_tested}
-use Rattle.lock.proofs.laws.SettledLaws.{settled}
-use Rattle.lock.proofs.laws.Touched.{readable}
 use Rattle.runs.specs.rules.Ahead.{same}
-use Rattle.runs.specs.laws.AlongLaws.{not_same, not_taken, is_taken, passed, its_operation}
+use Rattle.runs.specs.laws.AnswerLaws.{tested}
+use Rattle.runs.specs.laws.FirstDue.{same_derived}
+use Rattle.runs.specs.laws.AlongLaws.{counted_by, not_same, not_taken, is_taken, passed, its_operation, refused_number, accepted_next}
 use Rattle.runs.proofs.counted.one_counted.Goals as goal
 
-pub returns-then-stepped-ne0 : goal.returns-then-stepped-ne0
-returns-then-stepped-ne0 c =
-    let a = c.args in let k = ap (λ (x : Stepped). x.number) c.completed-stepped.ensures in not_taken a.settings a.clock a.client a.posted a.found (λ z. c.if-stepped-ne0.true (k ∙ z))
+pub returns-in_err-next : goal.returns-in_err-next
+returns-in_err-next c =
+    let a = c.args in
+    let told : counted_by a.client c.from_residual.result ≡ record { number = 1; next = a.client } = search rules in
+    told
+    ∙ not_taken a.settings a.clock a.client a.posted a.found
+    (refused_number a.settings a.clock a.client a.posted a.found _ c.completed.ensures (sym c.ok.ensures.value ∙ c.in_err-next.was))
+
+pub invariant_of-valid : goal.invariant_of-valid
+invariant_of-valid c =
+    let a = c.args in
+    let e = accepted_next a.settings a.clock a.client a.posted a.found _ c.completed.ensures c.in_ok-next.next (sym c.ok.ensures.value ∙ c.in_ok-next.was) in
+    record { settled = (tested a.settings a.client a.clock (sym (passed a.settings a.clock a.client a.posted a.found (sym (ap (λ (x : Stepped). x.number) e))))).settings }
 
 pub operation-requires : goal.operation-requires
 operation-requires c =
-    let a = c.args in let k = ap (λ (x : Stepped). x.number) c.completed-stepped.ensures in let z = sym k ∙ c.if-stepped-ne0.false in let v = post_tested a.settings a.client a.clock _ refl in let p = passed a.settings a.clock a.client a.posted a.found z in let g = settled a.settings (v.settings p) in let f = readable a.settings a.client.«record» a.client.clock g (v.readable p) in (g, f.sound, omega (arith, f.taken_past, v.onward p))
+    let a = c.args in
+    let e = accepted_next a.settings a.clock a.client a.posted a.found _ c.completed.ensures c.in_ok-next.next (sym c.ok.ensures.value ∙ c.in_ok-next.was) in
+    let t = tested a.settings a.client a.clock (sym (passed a.settings a.clock a.client a.posted a.found (sym (ap (λ (x : Stepped). x.number) e)))) in (t.sound, t.taken)
 
-pub returns-then-same : goal.returns-then-same
-returns-then-same c =
-    let a = c.args in let k = ap (λ (x : Stepped). x.number) c.completed-stepped.ensures in let z = sym k ∙ c.if-stepped-ne0.false in let e = sym (ap (λ (o : Operation). same o a.posted) (c.operation.ensures ∙ its_operation a.settings a.clock a.client a.posted a.found z)) ∙ sym c.same.ensures ∙ c.if-same.true in c.completed-stepped.ensures ∙ ap (λ (n : ℕ). record { number = n; next = (completed_answer a.settings a.client a.clock a.found).next }) z ∙ is_taken a.settings a.clock a.client a.posted a.found z e
+-- whether the client's own operation is the one that was posted
+own_same : (own due posted : Operation) (eq found : Bool) → own ≡ due → eq ≡ same own posted → eq ≡ found → same due posted ≡ found
+own_same own due posted eq found e f g = ap (λ (o : Operation). same o posted) (sym e) ∙ sym f ∙ g
+
+pub returns-then-eq : goal.returns-then-eq
+returns-then-eq c =
+    let a = c.args in
+    let e = accepted_next a.settings a.clock a.client a.posted a.found _ c.completed.ensures c.in_ok-next.next (sym c.ok.ensures.value ∙ c.in_ok-next.was) in
+    let z = sym (ap (λ (x : Stepped). x.number) e) in
+    let due = c.operation.ensures ∙ its_operation a.settings a.clock a.client a.posted a.found z in
+    ap (λ (x : Stepped). record { number = 0; next = x.next }) e
+    ∙ is_taken a.settings a.clock a.client a.posted a.found z (own_same _ _ a.posted _ _ due (c.eq.ensures ∙ same_derived c.operation.result a.posted) c.if-eq.true)
 
 pub returns : goal.returns
 returns c =
-    let a = c.args in let k = ap (λ (x : Stepped). x.number) c.completed-stepped.ensures in let z = sym k ∙ c.if-stepped-ne0.false in let e = sym (ap (λ (o : Operation). same o a.posted) (c.operation.ensures ∙ its_operation a.settings a.clock a.client a.posted a.found z)) ∙ sym c.same.ensures ∙ c.if-same.false in not_same a.settings a.clock a.client a.posted a.found z e
+    let a = c.args in
+    let e = accepted_next a.settings a.clock a.client a.posted a.found _ c.completed.ensures c.in_ok-next.next (sym c.ok.ensures.value ∙ c.in_ok-next.was) in
+    let z = sym (ap (λ (x : Stepped). x.number) e) in
+    let due = c.operation.ensures ∙ its_operation a.settings a.clock a.client a.posted a.found z in
+    not_same a.settings a.clock a.client a.posted a.found z (own_same _ _ a.posted _ _ due (c.eq.ensures ∙ same_derived c.operation.result a.posted) c.if-eq.false)

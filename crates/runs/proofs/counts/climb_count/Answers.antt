@@ -13,20 +13,20 @@ use Rattle.runs.proofs.counts.climb_count.Goals as goal
 
 pub overflow_sub-result : goal.overflow_sub-result
 overflow_sub-result c =
-    let a = c.args in let g = c.requires.1 in let k = (pieced a.settings a.own c.requires.0 g).nodes a.own.current g.exists in let v = bounded a.settings.distance (P.current_piece a.own) c.requires.0.distance_some c.requires.0.distance_most k in omega (arith, v.d_some, c.level-d.ensures, ap level c.current_piece.ensures)
+    let a = c.args in let g = c.requires.0 in let k = (pieced a.settings.values a.own c.args.settings.settled g).nodes a.own.current g.exists in let v = bounded a.settings.values.distance (P.current_piece a.own) c.args.settings.settled.distance_some c.args.settings.settled.distance_most k in omega (arith, v.d_some, c.level-d.ensures, ap level c.current_piece.ensures)
 
 pub overflow_sub-result-in-3 : goal.overflow_sub-result-in-3
 overflow_sub-result-in-3 c =
-    let a = c.args in let g = c.requires.1 in let k = (pieced a.settings a.own c.requires.0 g).nodes a.own.current g.exists in let v = bounded a.settings.distance (P.current_piece a.own) c.requires.0.distance_some c.requires.0.distance_most k in omega (arith, v.d_some, c.level-d.ensures, ap level c.current_piece.ensures, ancestors_count (P.current_piece a.own), g.climbing (inl c.in-3.is))
+    let a = c.args in let g = c.requires.0 in let k = (pieced a.settings.values a.own c.args.settings.settled g).nodes a.own.current g.exists in let v = bounded a.settings.values.distance (P.current_piece a.own) c.args.settings.settled.distance_some c.args.settings.settled.distance_most k in omega (arith, v.d_some, c.level-d.ensures, ap level c.current_piece.ensures, ancestors_count (P.current_piece a.own), g.climbing (inl c.in-3.is))
 
 pub returns-in-1 : goal.returns-in-1
 returns-in-1 c =
-    let a = c.args in let g = c.requires.1 in let k = (pieced a.settings a.own c.requires.0 g).nodes a.own.current g.exists in let v = bounded a.settings.distance (P.current_piece a.own) c.requires.0.distance_some c.requires.0.distance_most k in let e = c.level-d.ensures ∙ ap level c.current_piece.ensures in ticket_length a.settings a.own _ e (omega (arith, v.d_some, e)) c.in-1.is
+    let a = c.args in let g = c.requires.0 in let k = (pieced a.settings.values a.own c.args.settings.settled g).nodes a.own.current g.exists in let v = bounded a.settings.values.distance (P.current_piece a.own) c.args.settings.settled.distance_some c.args.settings.settled.distance_most k in let e = c.level-d.ensures ∙ ap level c.current_piece.ensures in ticket_length a.settings.values a.own _ e (omega (arith, v.d_some, e)) c.in-1.is
 
 pub returns-in-3 : goal.returns-in-3
 returns-in-3 c =
-    let a = c.args in let g = c.requires.1 in let k = (pieced a.settings a.own c.requires.0 g).nodes a.own.current g.exists in let v = bounded a.settings.distance (P.current_piece a.own) c.requires.0.distance_some c.requires.0.distance_most k in let e = c.level-d.ensures ∙ ap level c.current_piece.ensures in climb_length a.settings a.own _ e (omega (arith, v.d_some, e)) c.in-3.is
+    let a = c.args in let g = c.requires.0 in let k = (pieced a.settings.values a.own c.args.settings.settled g).nodes a.own.current g.exists in let v = bounded a.settings.values.distance (P.current_piece a.own) c.args.settings.settled.distance_some c.args.settings.settled.distance_most k in let e = c.level-d.ensures ∙ ap level c.current_piece.ensures in climb_length a.settings.values a.own _ e (omega (arith, v.d_some, e)) c.in-3.is
 
 pub returns-in_default : goal.returns-in_default
 returns-in_default c =
-    let a = c.args in let g = c.requires.1 in let k = (pieced a.settings a.own c.requires.0 g).nodes a.own.current g.exists in let v = bounded a.settings.distance (P.current_piece a.own) c.requires.0.distance_some c.requires.0.distance_most k in let e = c.level-d.ensures ∙ ap level c.current_piece.ensures in other_length a.settings a.own _ e (omega (arith, v.d_some, e)) (by_lt a.own.phase 3 (λ q. inl (omega (arith, c.requires.2, c.in_default.in_default-own.rest.0.1))) (λ q. inr (omega (arith, c.requires.3, c.in_default.in_default-own.rest.1))))
+    let a = c.args in let g = c.requires.0 in let k = (pieced a.settings.values a.own c.args.settings.settled g).nodes a.own.current g.exists in let v = bounded a.settings.values.distance (P.current_piece a.own) c.args.settings.settled.distance_some c.args.settings.settled.distance_most k in let e = c.level-d.ensures ∙ ap level c.current_piece.ensures in other_length a.settings.values a.own _ e (omega (arith, v.d_some, e)) (by_lt a.own.phase 3 (λ q. inl (omega (arith, c.requires.1))) (λ q. inr (omega (arith, c.requires.2))))

@@ -1,6 +1,7 @@
 -- `runs::counts::count_ahead` meets its contract. Assumes nothing.
 use mathlib.Core.Path.{sym, ap, ◌∙◌}
 use Prim.Native.Nat.{ℕ, ◌-◌}
+use native.Mathlib.Omega.{arith}
 use lib.ListN.{length}
 use Rattle.tree.specs.rules.Lists.{notify_list, check_list}
 use Rattle.lock.specs.rules.Records.{Phase}
@@ -11,20 +12,21 @@ use Rattle.runs.proofs.counts.count_ahead.Goals as goal
 
 pub returns-in-5 : goal.returns-in-5
 returns-in-5 c =
-    let a = c.args in c.claim_count.ensures ∙ ap (λ (q : Phase). length (ahead_in a.settings a.own q)) (sym (at_claim a.own.phase c.in-5.is))
+    let a = c.args in c.claim_count.ensures ∙ ap (λ (q : Phase). length (ahead_in a.settings.values a.own q)) (sym (at_claim a.own.phase c.in-5.is))
 
 pub returns-in-6 : goal.returns-in-6
 returns-in-6 c =
-    let a = c.args in ap (λ (k : ℕ). k - a.own.place) (c.notify_count.ensures ∙ ap (λ (n : ℕ). length (notify_list a.settings.distance n)) c.current_piece.ensures) ∙ notify_length a.settings a.own c.in-6.is
+    let a = c.args in ap (λ (k : ℕ). k - a.own.place) (c.notify_count.ensures ∙ ap (λ (n : ℕ). length (notify_list a.settings.values.distance n)) c.current_piece.ensures) ∙ notify_length a.settings.values a.own c.in-6.is
 
 pub returns-in-8 : goal.returns-in-8
 returns-in-8 c =
-    let a = c.args in ap (λ (k : ℕ). k - a.own.place) (c.check_count.ensures ∙ ap (λ (n : ℕ). length (check_list a.settings.levels a.settings.distance n)) c.current_piece-n.ensures) ∙ check_length a.settings a.own c.in-8.is
+    let a = c.args in ap (λ (k : ℕ). k - a.own.place) (c.check_count.ensures ∙ ap (λ (n : ℕ). length (check_list a.settings.values.levels a.settings.values.distance n)) c.current_piece-n.ensures) ∙ check_length a.settings.values a.own c.in-8.is
 
 pub returns-in-10 : goal.returns-in-10
 returns-in-10 c =
-    let a = c.args in c.return_count.ensures ∙ ap (λ (q : Phase). length (ahead_in a.settings a.own q)) (sym (at_returning a.own.phase c.in-10.is))
+    let a = c.args in c.return_count.ensures ∙ ap (λ (q : Phase). length (ahead_in a.settings.values a.own q)) (sym (at_returning a.own.phase c.in-10.is))
 
 pub returns-in_default : goal.returns-in_default
 returns-in_default c =
-    let a = c.args in let d = c.in_default.in_default-own.rest in none_length a.settings a.own d.0.0.0.0.0.0.0.1 d.0.0.0.0.0.0.1 d.0.0.0.0.0.1 d.0.0.0.0.1 d.0.0.0.1 d.0.0.1 d.0.1 d.1
+    none_length c.args.settings.values c.args.own (λ e. omega (arith, e)) (λ e. omega (arith, e)) (λ e. omega (arith, e)) (λ e. omega (arith, e)) (λ e. omega (arith, e)) (λ e. omega (arith, e))
+    (λ e. omega (arith, e)) (λ e. omega (arith, e))

@@ -9,8 +9,8 @@ use Rattle.runs.proofs.posted.before_list.Goals as goal
 
 pub standing-requires-2 : goal.standing-requires-2
 standing-requires-2 c =
-    let a = c.args in (c.requires.0, stands_in a.settings a.own c.requires.1 a.list (a.i - 1) (omega (arith, c.requires.3, c.if-i-eq0.false)))
+    let a = c.args in (stands_in a.settings.values a.own c.requires.0 a.list (a.i - 1) (omega (arith, c.requires.2, c.if-i-eq0.false)))
 
 pub returns : goal.returns
 returns c =
-    let a = c.args in c.standing-2.ensures ∙ behind_later a.settings a.own (phase_of a.phase) (phase_of a.list) a.place a.i c.if-i-eq0.false c.requires.3
+    let a = c.args in c.standing-2.ensures ∙ behind_later a.settings.values a.own (phase_of a.phase) (phase_of a.list) a.place a.i c.if-i-eq0.false c.requires.2

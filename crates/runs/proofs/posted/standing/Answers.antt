@@ -5,4 +5,4 @@ use Rattle.runs.proofs.posted.standing.Goals as goal
 
 pub returns : goal.returns
 returns c =
-    c.own_operation.ensures ∙ stands_as c.args.settings c.args.own c.args.phase c.args.place
+    c.own_operation.ensures ∙ stands_as c.args.settings.values c.args.own c.args.phase c.args.place

@@ -1,10 +1,7 @@
 -- `runs::together::nolthewyr_operations_ahead`: the first operations are laid into the lent list. Assumes nothing.
-use Rattle.std.proofs.Common.{◌≡◌, ◌≤◌, ◌-◌, take}
+use Rattle.std.proofs.Common.{◌≡◌, take}
 use Rattle.runs.specs.rules.Ahead.{laid, ahead_of}
 use Rattle.runs.proofs.together.nolthewyr_operations_ahead.Given as goal
 
 abbrev pub invariant-loop-i : goal.invariant-loop-i
-invariant-loop-i l = (l.operations ≡ laid (take l.i (ahead_of l.settings l.client l.clock)) l.initial.operations) × (l.i ≤ l.answer.count)
-
-abbrev pub decreases-loop-i : goal.decreases-loop-i
-decreases-loop-i l = l.answer.count - l.i
+invariant-loop-i l = l.operations ≡ laid (take l.i (ahead_of l.settings l.fn.client l.clock)) l.initial.operations

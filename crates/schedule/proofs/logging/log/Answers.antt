@@ -1,10 +1,22 @@
--- `schedule::logging::log` meets its contract. Assumes nothing.
-use native.Mathlib.Omega.{arith}
+use Rattle.std.proofs.Common.{ap, sym, ◌∙◌, map}
+use Rattle.lock.proofs.laws.CallLaws.{cause_some}
 use Rattle.schedule.specs.rules.Log.{log_of}
-use Rattle.schedule.specs.laws.Refusing.{refused_whole, put_whole, counted}
+use Rattle.schedule.specs.rules.Refusal.{refused_line}
+use Rattle.schedule.specs.laws.Appended.{restated}
+use Rattle.schedule.specs.laws.FormatLaws.{call_of_bytes, chunks_calls}
+use Rattle.schedule.specs.laws.Refusing.{refused_whole, put_whole}
+use Rattle.schedule.specs.laws.Writing.{log_run}
 use Rattle.schedule.proofs.logging.log.Goals as goal
 
-pub returns-then-number-ne0 : goal.returns-then-number-ne0
+pub returns-in-Ok-clause-log : goal.returns-in-Ok-clause-log
+returns-in-Ok-clause-log c =
+    let read = c.in-Ok.ensures in
+    put_whole _ _ _ c.if-out-lt-ROOM.false _ _
+    (log_run c.args.bytes.now (sym read.number) c.in-Ok.schedule.settings c.in-Ok.schedule.clients (map call_of_bytes c.in-Ok.schedule.calls.now) read.schedule.0 read.schedule.1
+    (ap (map call_of_bytes) read.schedule.2 ∙ chunks_calls c.args.bytes.now) _ c.put_log.ensures.log)
+
+pub returns-in-Err-clause-log : goal.returns-in-Err-clause-log
 unfolding log_of
-returns-then-number-ne0 c =
-    record { log = put_whole _ _ _ c.if-out-lt400000.false _ _ (refused_whole _ _ _ c.refusal-number.ensures c.if-number-ne0.true _ _ _ c.put_refused.ensures); inside = counted _ _ (omega (arith, c.put_refused.ensures.room, c.put_refused.ensures.same)) }
+returns-in-Err-clause-log c =
+    put_whole _ _ _ c.if-out-lt-ROOM.false _ _
+    (refused_whole _ _ _ c.in-Err.ensures.number (cause_some c.in-Err.refusal) _ _ _ (restated (c.refused.ensures.line ∙ ap refused_line c.number.ensures) c.put.ensures))

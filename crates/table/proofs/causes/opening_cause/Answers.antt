@@ -1,20 +1,20 @@
 -- `table::causes::opening_cause` meets its contract. Assumes nothing.
-use mathlib.Core.Path.{sym, ◌∙◌}
-use Rattle.lock.proofs.laws.CallLaws.{cause_tested}
-use Rattle.table.specs.laws.CauseLaws.{opening_tree, opening_clients, opening_passed}
+use Rattle.std.proofs.Common.{◌≡◌, [], ◌∷◌, ◌∙◌, arith, rules}
+use Rattle.base.specs.rules.Refusals.{number_of, number_in}
+use Rattle.lock.specs.rules.Calls.{tree_tests, clients_outside}
+use Rattle.lock.specs.rules.Table.{opening_number}
+use Rattle.table.specs.laws.CauseLaws.{refused_first, passed_first}
 use Rattle.table.proofs.causes.opening_cause.Goals as goal
 
-pub returns-then-cause-ne0 : goal.returns-then-cause-ne0
-returns-then-cause-ne0 c =
+pub returns-in_err-tree_tests : goal.returns-in_err-tree_tests
+unfolding opening_number
+returns-in_err-tree_tests c =
     let a = c.args in
-    opening_tree a.settings a.words a.clients _ (cause_tested _ _ _ c.tree_cause-cause.ensures) c.if-cause-ne0.true
-
-pub returns-then-clients_outside : goal.returns-then-clients_outside
-returns-then-clients_outside c =
-    let a = c.args in
-    opening_clients a.settings a.words a.clients _ (cause_tested _ _ _ c.tree_cause-cause.ensures) c.if-cause-ne0.false (sym c.clients_outside.ensures ∙ c.if-clients_outside.true)
+    let told : number_in c.from_residual.result ≡ number_of c.in_err-tree_tests.field-0.0 = search rules in
+    told ∙ refused_first (tree_tests a.settings a.words) ((clients_outside a.clients, 3) ∷ []) _ c.in_err-tree_tests.ensures.number
 
 pub returns : goal.returns
+unfolding opening_number tree_tests
 returns c =
     let a = c.args in
-    opening_passed a.settings a.words a.clients _ (cause_tested _ _ _ c.tree_cause-cause.ensures) c.if-cause-ne0.false (sym c.clients_outside.ensures ∙ c.if-clients_outside.false)
+    passed_first (tree_tests a.settings a.words) ((clients_outside a.clients, 3) ∷ []) ((λ e. omega (arith, e)), ((λ e. omega (arith, e)), tt)) c.in_ok-tree_tests.ensures.number _ c.clients_cause.ensures

@@ -1,9 +1,0 @@
--- `calendar::closed::closed_in_day` meets its contract. Assumes nothing.
-use mathlib.Core.Path.{refl}
-use Rattle.calendar.specs.rules.Hours.{opening, closing}
-use Rattle.calendar.specs.laws.Closed.{closed_in_day}
-use Rattle.calendar.proofs.closed.closed_in_day.Goals as goal
-
-pub returns : goal.returns
-unfolding closed_in_day opening closing
-returns c = refl
