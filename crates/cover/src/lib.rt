@@ -11,6 +11,7 @@ use base::Refusal;
 
 mod window;
 
+pub use window::Piece;
 use window::TreeWindow;
 
 // The pieces of a window and their total over-cover. `second` is 0 for none, as in C's records, into which the three numbers go.

@@ -8,7 +8,7 @@ ghost use Rattle.lock.specs.rules.Records.{cover_of, word_at, written, sent_back
 ghost use Rattle.lock.specs.rules.Steps.{touched, moved};
 ghost use Rattle.lock.specs.rules.Unreadable.{differ, unreadable};
 ghost use Rattle.lock.specs.rules.Calls.{first_cause, tree_tests, requested, released, cancelled, stepped_by};
-ghost use Rattle.lock.specs.rules.ByValue.{call_by, answer_to, words_after};
+ghost use Rattle.lock.specs.rules.ByValue.{call_of, call_by, answer_to, words_after};
 ghost use Rattle.lock.specs.laws.ByKind.{clear_bit, left_by};
 
 use crate::{Call, Client, Kind, Record, Settings, ValidSettings};
@@ -165,7 +165,7 @@ impl Client {
     }
 
     // The call of a kind. All begin with 1, 2, 5 (only a step) and 6, tested here for all; what comes after is the kind's own. "An accepted step sets the last clock."
-    pub fn act(
+    pub fn act_as(
         self,
         words: &mut [u64],
         settings: Settings,
@@ -191,5 +191,19 @@ impl Client {
             Kind::Release => Ok(self.with(self.record.release()?)),
             Kind::Cancel => Ok(self.with(self.record.cancel()?)),
         }
+    }
+
+    // The call that a number names: 0 request, 1 step, 2 release, any other number cancel.
+    pub fn act(
+        self,
+        words: &mut [u64],
+        settings: Settings,
+        call: Call,
+        kind: u64,
+    ) -> Result<Client, Refusal>
+        ensures answer { stepped_by self result ≡ answer_to settings self words.old (call_of kind call.client call.a call.b) }
+        ensures words { words.new ≡ words_after settings self words.old (call_of kind call.client call.a call.b) }
+    {
+        self.act_as(words, settings, call, Kind::from(kind))
     }
 }

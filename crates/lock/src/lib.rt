@@ -15,7 +15,7 @@ pub struct Settings {
     pub patience: u64,
 }
 
-// Settings within their ranges: what every function behind the test of cause 1 is given.
+// Settings within their ranges: what a function behind the test of cause 1 is given where it rests on that.
 #[derive(Clone, Copy)]
 pub struct ValidSettings {
     pub values: Settings,
@@ -134,3 +134,4 @@ mod returning;
 mod steps;
 
 pub use counting::{pieces_steps, step_count};
+pub use moves::Moved;

@@ -34,12 +34,13 @@ fn run_page(clients: &[Client], settings: Settings, client: u64) -> Result<(Reco
     ensures { page_by result ≡ run_page settings clients.now client }
 {
     let valid = run_cause(settings, clients.len(), client)?;
+    let held = held_count(clients);
     let own = clients[client as usize];
     let one = own.record;
     if one.unreadable(valid, own.clock) {
         return Err(Refusal::Unreadable);
     }
-    Ok((one, held_count(clients)))
+    Ok((one, held))
 }
 
 // The run's own record and how many clients are in phase 9, and no more. Tests 1, 3, 4, 6.

@@ -291,7 +291,7 @@ pub extern "C" fn probe_act(
     ensures answer { result ≡ answer_to settings client words.old (call_of kind call.client call.a call.b) }
     ensures words { words.new ≡ words_after settings client words.old (call_of kind call.client call.a call.b) }
 {
-    client.stepped(client.act(words, settings, call, lock::Kind::from(kind)))
+    client.stepped(client.act(words, settings, call, kind))
 }
 
 #[unsafe(no_mangle)]

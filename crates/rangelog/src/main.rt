@@ -5,11 +5,8 @@
 use schedule::ROOM;
 use std::process::ExitCode;
 
-// Room for the longest schedule, 65,536 bytes, and one byte more, so that a file that is too long is seen to be.
-const FILE: usize = 65_537;
-
 fn main(rt: HostRuntime) -> ExitCode {
-    reading::run::<FILE, ROOM, _>(
+    reading::run::<ROOM, _>(
         &rt,
         "rangelog",
         "standard output could not be written, and the log is not whole",

@@ -8,11 +8,8 @@ use std::process::ExitCode;
 mod lines;
 mod paging;
 
-// Room for the longest schedule, 65,536 bytes, and one byte more, so that a file that is too long is seen to be.
-const FILE: usize = 65_537;
-
 fn main(rt: HostRuntime) -> ExitCode {
-    reading::run::<FILE, ROOM, _>(
+    reading::run::<ROOM, _>(
         &rt,
         "rangepages",
         "standard output could not be written, and the pages are not whole",

@@ -18,6 +18,13 @@ pub fn room<const N: usize>() -> [u8; N]
     [0; N]
 }
 
+// Room for the longest schedule, 65,536 bytes, and one byte more, so that a file that is too long is seen to be.
+pub fn file_room() -> [u8; 65537]
+    ensures { 65537 ≡ length result }
+{
+    room()
+}
+
 // A read that failed: its error, and how many bytes were read before.
 #[derive(Drop)]
 pub struct Failed {
@@ -61,20 +68,20 @@ fn complain(rt: &impl Eprint, name: &str, what: &str, error: &io::Error) {
     let _ = eprintln!(rt; "{name}: {what}: {words}");
 }
 
-// A program over a schedule: reads standard input, at most `FILE` bytes of it, lets `work` put a text of at most `TEXT` bytes into lent bytes, whose number it
-// answers, and writes the text to standard output, and nothing else. If the one cannot be read or the other cannot be written, it says so on standard error and ends
-// with status 1. It promises nothing of them: no contract can say what a stream is given.
-pub fn run<const FILE: usize, const TEXT: usize, F: FnOnce(&[u8], &mut [u8]) -> usize>(
+// A program over a schedule: reads standard input, as much of it as `file_room` has room for, lets `work` put a text of at most `TEXT` bytes into lent bytes, whose
+// number it answers, and writes the text to standard output, and nothing else. If the one cannot be read or the other cannot be written, it says so on standard error
+// and ends with status 1. It promises nothing of them: no contract can say what a stream is given.
+pub fn run<const TEXT: usize, F: FnOnce(&[u8], &mut [u8]) -> usize>(
     rt: &HostRuntime,
     name: &str,
     unwritten: &str,
     work: F,
 ) -> ExitCode
-    requires sizes { (FILE < 2 ^ 63) × (TEXT < 2 ^ 63) }
+    requires size { TEXT < 2 ^ 63 }
     requires callable { F.IsAlwaysCallable work }
     requires inside { (file : _) (text : _) (count : _) (after : _) → F.post work file text count after → count ≤ length after.now }
 {
-    let mut file = room::<FILE>();
+    let mut file = file_room();
     let count = match read_input(&mut rt.stdin(), &mut file) {
         Ok(count) => count,
         Err(failed) => {

@@ -2,7 +2,7 @@
 ghost use Rattle.std.specs.Prelude.{◌≡◌, ◌+◌, ◌*◌, ◌<◌, ◌≤◌, length, drop, MatchOption};
 ghost use Rattle.std.specs.List.{list_any};
 ghost use Rattle.std.specs.Simd.{first_chunks};
-ghost use Rattle.schedule.specs.rules.Format.{little};
+ghost use Rattle.schedule.specs.rules.Format.{little, settings_in};
 ghost use Rattle.schedule.specs.laws.FormatLaws.{CallRead, wrong, header_in};
 
 use lock::{Call, Settings};
@@ -30,6 +30,19 @@ pub struct Header {
     pub offset: usize,
 }
 
+// The settings of a file that is long enough to have a header.
+pub fn settings_in(bytes: &[u8]) -> Settings
+    requires { 20 ≤ length bytes.now }
+    ensures { result ≡ settings_in bytes.now }
+{
+    Settings {
+        levels: number_at::<2>(bytes, 0),
+        distance: number_at::<2>(bytes, 2),
+        wait: number_at::<4>(bytes, 4),
+        patience: number_at::<4>(bytes, 16),
+    }
+}
+
 impl Header {
     // The header of a file that is long enough to have one.
     pub fn read(bytes: &[u8]) -> Option<Header>
@@ -39,12 +52,7 @@ impl Header {
             return None;
         }
         Some(Header {
-            settings: Settings {
-                levels: number_at::<2>(bytes, 0),
-                distance: number_at::<2>(bytes, 2),
-                wait: number_at::<4>(bytes, 4),
-                patience: number_at::<4>(bytes, 16),
-            },
+            settings: settings_in(bytes),
             clients: number_at::<2>(bytes, 8) as usize,
             count: number_at::<2>(bytes, 10) as usize,
             offset: number_at::<4>(bytes, 12) as usize,

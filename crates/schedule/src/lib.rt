@@ -8,7 +8,7 @@ mod running;
 mod text;
 
 pub use examined::Schedule;
-pub use format::Header;
+pub use format::{Header, settings_in};
 pub use logging::{ROOM, log, refused};
-pub use running::Table;
+pub use running::{Table, client_of};
 pub use text::{Line, put_bytes};

@@ -1,7 +1,8 @@
 // The client table of a schedule and the words of its tree, on which the calls are made. Nothing is written here.
-ghost use Rattle.std.specs.Prelude.{◌≡◌, ◌≤◌, length, map, replicate, take};
+ghost use Rattle.std.specs.Prelude.{◌≡◌, ◌≤◌, get_or, length, map, replicate, take};
 ghost use Rattle.table.specs.rules.Lent.{lent, left_with};
 ghost use Rattle.lock.specs.rules.ByValue.{call_of};
+ghost use Rattle.lock.specs.rules.Records.{idle_client};
 ghost use Rattle.lock.specs.rules.History as History;
 ghost use Rattle.lock.specs.rules.Table as Calls;
 ghost use Rattle.schedule.specs.rules.Format.{lent_for};
@@ -17,7 +18,7 @@ use table::table_act;
 // A client table and the words of its tree, in memory for 64 clients and a tree of 6 levels: the first `count` clients and the first `last` words are the
 // schedule's. The arrays stand with their counts behind a model, which is the form for a buffer with a private length here; as `ArrayVec`s they would be filled by a
 // loop each before the first call.
-#[derive(Drop)]
+#[derive(Clone, Drop)]
 pub struct Table {
     clients: [Client; 64],
     count: usize,
@@ -62,6 +63,14 @@ fn act_front(
     table_act(clients, words, settings, call, call.kind)
 }
 
+// A client among these; past them an idle one.
+pub fn client_of(clients: &[Client], client: u64) -> Client
+    ensures { result ≡ get_or clients.now client idle_client }
+{
+    let own = clients.get(client as usize);
+    own.copied().unwrap_or(Client::idle())
+}
+
 impl Table {
     // Words of 0 and idle clients, as the opening leaves them.
     fn new(settings: Settings, clients: usize) -> Table
@@ -88,8 +97,7 @@ impl Table {
     pub fn client(&self, client: u64) -> Client
         ensures { result ≡ Calls.client_at self.now client }
     {
-        let own = self.clients().get(client as usize);
-        own.copied().unwrap_or(Client::idle())
+        client_of(self.clients(), client)
     }
 
     // Makes a call, and answers its number.
@@ -116,7 +124,8 @@ impl Schedule<'_> {
 
     // The table after the last call.
     pub fn run(&self) -> Table
-        ensures { result ≡ History.run self.now.settings (fresh self.now.settings self.now.clients) (map call_of_bytes self.now.calls.now) }
+        ensures table { result ≡ History.run self.now.settings (fresh self.now.settings self.now.clients) (map call_of_bytes self.now.calls.now) }
+        ensures clients { length result.clients ≡ self.now.clients }
     {
         let mut table = self.table();
         for call in self.calls {

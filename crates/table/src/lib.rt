@@ -32,7 +32,7 @@ fn acted(
 {
     causes::table_cause(settings, words.len(), clients.len(), call.client)?;
     let at = call.client as usize;
-    clients[at] = clients[at].act(words, settings, call, kind)?;
+    clients[at] = clients[at].act_as(words, settings, call, kind)?;
     Ok(())
 }
 

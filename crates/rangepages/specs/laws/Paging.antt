@@ -57,6 +57,14 @@ unfolding pages_text
 pages_whole s clients held g old mid out at end rows records =
     (joined rows records).text ∙ ap (λ (n : ℕ). line_each (row_line s) 0 clients ++ line_each (record_line n) 0 clients) g
 
+-- where they are of the clients after a file's last call, they are its text
+pub pages_of_file : (bytes : List ℕ) → refusal bytes ≡ 0 → (s : Settings) → s ≡ settings_in bytes → (clients : List Client) → clients ≡ (after_calls bytes).clients
+    → (held : ℕ) → held ≡ held_count clients → (old mid out : List ℕ) (at end : ℕ)
+    → Appended old 0 mid at (line_each (row_line s) 0 clients) → Appended mid at out end (line_each (record_line held) 0 clients) → take end out ≡ pages_of bytes
+unfolding pages_of
+pages_of_file bytes z s e clients f held g old mid out at end rows records =
+    run_whole bytes (pages_text (settings_in bytes) (after_calls bytes).clients) z (take end out) (pages_whole s clients held g old mid out at end rows records ∙ ap₂ pages_text e f)
+
 -- they are the text of the file
 pub pages_run : (bytes : List ℕ) → refusal bytes ≡ 0 → (s : Settings) (clients : ℕ) (cs : List Call) → s ≡ settings_in bytes → clients ≡ clients_in bytes → cs ≡ calls_in bytes
     → (whole : List ℕ) → whole ≡ pages_text s (run s (fresh s clients) cs).clients → whole ≡ pages_of bytes

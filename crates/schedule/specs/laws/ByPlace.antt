@@ -1,7 +1,7 @@
 -- Laws of the calls by their places in a file: call k begins at the offset plus 24 × k, and its bytes are read and tested there. Assumes nothing.
 use Rattle.std.specs.Prelude.{◌≡◌, false, ◌++◌, List, length, get_or, take, replicate}
 use Rattle.std.proofs.Math.Path.{refl, sym, subst, ap, ap₂}
-use Rattle.std.proofs.Common.{◌∙◌, append-nil}
+use Rattle.std.proofs.Common.{◌∙◌, append-nil, append_assoc}
 use Rattle.std.proofs.Math.Bool.{true}
 use Prim.Native.Nat.{ℕ, zero, suc, ◌+◌, ◌-◌, ◌*◌, ◌≤◌, ◌<◌}
 use Rattle.std.proofs.Math.Numerals.{add-one}
@@ -12,9 +12,9 @@ use Rattle.lock.specs.declared.Call.{Call as CallStruct}
 use Rattle.lock.specs.declared.Settings.{Settings}
 use Rattle.lock.specs.rules.ByValue.{call_of}
 use Rattle.lock.specs.rules.History.{run}
-use Rattle.lock.specs.rules.Table.{State, Out, call}
+use Rattle.lock.specs.rules.Table.{State, Out, call, client_of, record_at}
 use Rattle.schedule.specs.rules.Format.{little, settings_in, clients_in, count_in, offset_in, place_of, kind_in, client_in, a_in, b_in, call_in, calls_from, calls_in, call_wrong, any_wrong}
-use Rattle.schedule.specs.rules.Log.{header_line, lines, log_of}
+use Rattle.schedule.specs.rules.Log.{header_line, line, lines, log_of}
 use Rattle.schedule.specs.rules.Refusal.{refusal}
 use Rattle.schedule.specs.rules.Running.{opening_in, after_calls}
 use Rattle.schedule.specs.laws.Appended.{Appended}
@@ -130,6 +130,27 @@ module _ (s : Settings) (bytes : List ℕ) (whole : List ℕ) where
     pub text : take end out ++ lines s st k (calls_from bytes k (count_in bytes - k)) ≡ whole
     pub inside : end ≤ length out
     pub most : end ≤ 112 + 144 * k
+
+  -- call k is made, and its line written
+  pub written_more : (st : State) (k : ℕ) (out : List ℕ) (at : ℕ) → Written st k out at → k < count_in bytes → (o : Out) (new : List ℕ) (end : ℕ) → o ≡ call s st (call_in bytes k)
+      → Appended out at new end (line k (call_in bytes k) o.number (record_at o.state (client_of (call_in bytes k)))) → end ≤ at + 144 → Written o.state (k + 1) new end
+  unfolding lines calls_from
+  written_more st k out at v b o new end e a short =
+      let c = call_in bytes k in
+      let left : count_in bytes - k ≡ suc (count_in bytes - (k + 1)) = omega arith in
+      let rest = calls_from bytes (suc k) (count_in bytes - (k + 1)) in
+      let line_of : Out → List ℕ = λ x. line k c x.number (record_at x.state (client_of c)) in
+      let after = lines s o.state (suc k) rest in
+      let unrolled : lines s st k (calls_from bytes k (count_in bytes - k)) ≡ line_of o ++ after
+      = ap (λ (n : ℕ). lines s st k (calls_from bytes k n)) left ∙ sym (ap (λ (x : Out). line_of x ++ lines s x.state (suc k) rest) e) in
+      let one : k + 1 ≡ suc k = omega arith in
+      record {
+        begun = omega arith;
+        text = ap (λ (n : ℕ). take end new ++ lines s o.state n (calls_from bytes n (count_in bytes - (k + 1)))) one
+            ∙ ap (λ (l : List ℕ). l ++ after) a.text ∙ append_assoc (take at out) (line_of o) after ∙ ap (λ (l : List ℕ). take at out ++ l) (sym unrolled) ∙ v.text;
+        inside = omega (arith, a.room, a.same);
+        most = omega (arith, v.most);
+      }
 
   -- all calls are made
   pub written_all : (st : State) (k : ℕ) (out : List ℕ) (end : ℕ) → Written st k out end → count_in bytes ≤ k → take end out ≡ whole

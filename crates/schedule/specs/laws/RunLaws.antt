@@ -13,6 +13,7 @@ use Rattle.lock.specs.declared.Settings.{Settings}
 use Rattle.lock.specs.rules.Records.{idle_client}
 use Rattle.lock.specs.rules.Table.{State, Call, Out, call, opening_number, opened, opening}
 use Rattle.lock.specs.rules.History.{run}
+use Rattle.lock.proofs.claim.HistoryRecord.{count_run}
 use Rattle.table.specs.rules.Lent.{lent}
 use Rattle.schedule.specs.rules.Format.{settings_in, clients_in, calls_in, lent_for}
 use Rattle.schedule.specs.laws.FormatLaws.{call_of_bytes}
@@ -36,6 +37,12 @@ opening_fresh s clients =
     let left : opened (lent_for s clients) ≡ lent_for s clients
     = ap₂ (λ (count words : ℕ). lent (replicate count idle_client) (replicate words 0)) (length-replicate clients idle_client) (length-replicate (word_count s.levels) 0) in
     on_choose (λ (st : State). st ≡ lent_for s clients) (eqb (opening s (lent_for s clients)).number 0) _ _ (λ _. left) (λ _. refl)
+
+-- as many clients as before, after any calls
+pub run_count : (s : Settings) (clients : ℕ) (cs : List Call) → length (run s (fresh s clients) cs).clients ≡ clients
+unfolding lent_for
+run_count s clients cs =
+    count_run s cs (fresh s clients) ∙ ap (λ (st : State). length st.clients) (opening_fresh s clients) ∙ length-replicate clients idle_client
 
 -- ---- a client in a table, past it an idle one
 

@@ -38,7 +38,7 @@ returns-in_err-clients c =
     let t = table_takes a.settings a.clients.now a.words.now (call_by a.kind k.client k.a k.b) k.client (client_by a.kind k.client k.a k.b) (sym c.in_ok-table_cause.ensures.number) in
     let told : number_in c.from_residual-in_err-clients.result ≡ number_of c.in_err-clients.field-0.0 = search rules in
     let e = c.in_err-clients.ensures in
-    (λ j. left_with (told j) (sym (set-get_or a.clients.now k.client idle_client) j) c.act.new.words)
+    (λ j. left_with (told j) (sym (set-get_or a.clients.now k.client idle_client) j) c.act_as.new.words)
     ∙ (λ j. left_with (e.answer j).number (set a.clients.now k.client (e.answer j).next) (e.words j)) ∙ t
 
 pub returns : goal.returns

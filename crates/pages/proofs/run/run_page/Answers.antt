@@ -24,6 +24,6 @@ pub returns : goal.returns
 returns c =
     let a = c.args in
     let own = own_client a.clients.now a.client in
-    ap (accepted_page own.«record») c.held_count.ensures
+    ap (accepted_page own.«record») c.held_count-held.ensures
     ∙ own_accepted a.settings own (held_count a.clients.now) (sym (c.unreadable.ensures ∙ ap (λ s. unreadable s (own_client a.clients.now a.client).«record» (own_client a.clients.now a.client).clock) c.in_ok-valid.ensures.same) ∙ c.if-unreadable.false)
     ∙ run_takes a.settings a.clients.now a.client (sym c.in_ok-valid.ensures.number)

@@ -10,7 +10,7 @@ pub put_rows-end-requires : goal.put_rows-end-requires
 put_rows-end-requires c =
     let schedule = c.args.schedule.now in
     record {
-      readable = subst (AllReadable schedule.settings) (sym c.run-table.ensures) (readable_after schedule.settings schedule.clients schedule.opened _);
+      readable = subst (AllReadable schedule.settings) (sym c.run-table.ensures.table) (readable_after schedule.settings schedule.clients schedule.opened _);
       room = c.requires;
     }
 
@@ -25,6 +25,6 @@ returns c =
     record {
       pages =
           pages_whole s c.run-table.result.clients c.held_count-held.result (c.held_count-held.ensures ∙ ap held_count c.clients.ensures.clients) _ _ _ _ _ rows.piece records
-          ∙ ap (λ (st : State). pages_text s st.clients) c.run-table.ensures;
+          ∙ ap (λ (st : State). pages_text s st.clients) c.run-table.ensures.table;
       inside = omega (arith, records.room, records.same);
     }

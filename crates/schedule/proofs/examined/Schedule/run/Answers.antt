@@ -1,7 +1,7 @@
-use Rattle.std.proofs.Common.{[], sym, ap, ◌∙◌}
-use Rattle.lock.specs.rules.Table.{Call, call}
-use Rattle.schedule.specs.laws.FormatLaws.{call_read}
-use Rattle.schedule.specs.laws.RunLaws.{run_more, run_done}
+use Rattle.std.proofs.Common.{[], sym, ap, ◌∙◌, length, map}
+use Rattle.lock.specs.rules.Table.{Call, State, call}
+use Rattle.schedule.specs.laws.FormatLaws.{call_of_bytes, call_read}
+use Rattle.schedule.specs.laws.RunLaws.{run_more, run_done, run_count}
 use Rattle.schedule.proofs.examined.Schedule.run.Goals as goal
 
 pub loop-call-preserved : goal.loop-call-preserved
@@ -11,4 +11,7 @@ loop-call-preserved c =
     ∙ c.loop-call.invariant
 
 pub returns : goal.returns
-returns c = sym (run_done c.args.self.now.settings c.args.self.now.calls.now c.loop-call.table c.loop-call.call-index c.loop-call-test.false) ∙ c.loop-call.invariant
+returns c =
+    let own = c.args.self.now in
+    let made = sym (run_done own.settings own.calls.now c.loop-call.table c.loop-call.call-index c.loop-call-test.false) ∙ c.loop-call.invariant in
+    record { table = made; clients = ap (λ (st : State). length st.clients) made ∙ run_count own.settings own.clients (map call_of_bytes own.calls.now) }

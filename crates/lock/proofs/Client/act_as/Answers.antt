@@ -1,4 +1,4 @@
--- `lock::Client::act` meets its contract. Assumes nothing.
+-- `lock::Client::act_as` meets its contract. Assumes nothing.
 use Rattle.std.proofs.Common.{rules, refl, sym, ap, ◌∙◌}
 use Rattle.std.proofs.lemmas.Result.{err_from_is_err_and}
 use Rattle.tree.specs.rules.Tree.{word_count}
@@ -8,7 +8,7 @@ use Rattle.lock.specs.rules.Calls.{first_cause}
 use Rattle.lock.specs.rules.Table.{request, step, release, cancel}
 use Rattle.lock.specs.rules.ByValue.{call_by}
 use Rattle.lock.proofs.laws.ByKind.{rest_of, next_by, words_by, back_of_kind, step_onward, counts, refuses_tree, refuses_back, refuses_unreadable, refuses_own, accepts}
-use Rattle.lock.proofs.Client.act.Goals as goal
+use Rattle.lock.proofs.Client.act_as.Goals as goal
 
 pub returns-in_err-valid : goal.returns-in_err-valid
 returns-in_err-valid c =
