@@ -6,7 +6,7 @@ use schedule::ROOM;
 use std::process::ExitCode;
 
 fn main(rt: HostRuntime) -> ExitCode {
-    reading::run::<ROOM, _>(
+    reading::run_over_schedule::<ROOM, _>(
         &rt,
         "rangelog",
         "standard output could not be written, and the log is not whole",

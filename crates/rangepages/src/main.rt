@@ -9,7 +9,7 @@ mod lines;
 mod paging;
 
 fn main(rt: HostRuntime) -> ExitCode {
-    reading::run::<ROOM, _>(
+    reading::run_over_schedule::<ROOM, _>(
         &rt,
         "rangepages",
         "standard output could not be written, and the pages are not whole",

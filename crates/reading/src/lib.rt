@@ -1,4 +1,5 @@
-// Standard input, read to its end into an array of the program's own, and the line about a read or a write that failed: what the programs over a schedule share.
+// Standard input, read into lent bytes to its end or as far as there is room, and the line about a read or a write that failed: what programs share, over a schedule or
+// over another input.
 #![tactic(auto)]
 
 ghost use Rattle.std.specs.Prelude.{◌≡◌, ◌^◌, ◌<◌, ◌≤◌, IfOk, IfErr, length, take};
@@ -68,21 +69,21 @@ fn complain(rt: &impl Eprint, name: &str, what: &str, error: &io::Error) {
     let _ = eprintln!(rt; "{name}: {what}: {words}");
 }
 
-// A program over a schedule: reads standard input, as much of it as `file_room` has room for, lets `work` put a text of at most `TEXT` bytes into lent bytes, whose
-// number it answers, and writes the text to standard output, and nothing else. If the one cannot be read or the other cannot be written, it says so on standard error
-// and ends with status 1. It promises nothing of them: no contract can say what a stream is given.
-pub fn run<const TEXT: usize, F: FnOnce(&[u8], &mut [u8]) -> usize>(
+// A program over its input: reads standard input, as much of it as `file` has room for, lets `work` put a text of at most `TEXT` bytes into lent bytes, whose number it
+// answers, and writes the text to standard output, and nothing else. If the one cannot be read or the other cannot be written, it says so on standard error and ends
+// with status 1. It promises nothing of them: no contract can say what a stream is given.
+fn run_within<const FILE: usize, const TEXT: usize, F: FnOnce(&[u8], &mut [u8]) -> usize>(
     rt: &HostRuntime,
     name: &str,
     unwritten: &str,
+    file: &mut [u8; FILE],
     work: F,
 ) -> ExitCode
     requires size { TEXT < 2 ^ 63 }
     requires callable { F.IsAlwaysCallable work }
     requires inside { (file : _) (text : _) (count : _) (after : _) → F.post work file text count after → count ≤ length after.now }
 {
-    let mut file = file_room();
-    let count = match read_input(&mut rt.stdin(), &mut file) {
+    let count = match read_input(&mut rt.stdin(), file) {
         Ok(count) => count,
         Err(failed) => {
             complain(rt, name, "standard input could not be read", &failed.error);
@@ -96,6 +97,35 @@ pub fn run<const TEXT: usize, F: FnOnce(&[u8], &mut [u8]) -> usize>(
         return ExitCode::FAILURE;
     }
     ExitCode::SUCCESS
+}
+
+// A program over its input, at most `FILE` bytes of it.
+pub fn run<const FILE: usize, const TEXT: usize, F: FnOnce(&[u8], &mut [u8]) -> usize>(
+    rt: &HostRuntime,
+    name: &str,
+    unwritten: &str,
+    work: F,
+) -> ExitCode
+    requires sizes { (FILE < 2 ^ 63) × (TEXT < 2 ^ 63) }
+    requires callable { F.IsAlwaysCallable work }
+    requires inside { (file : _) (text : _) (count : _) (after : _) → F.post work file text count after → count ≤ length after.now }
+{
+    run_within::<FILE, TEXT, F>(rt, name, unwritten, &mut room::<FILE>(), work)
+}
+
+// A program over a schedule: its input is read into `file_room`, whose clause says how long that is. It asks of `work` and of the room for its text what `run`
+// asks: callers of both have these clauses.
+pub fn run_over_schedule<const TEXT: usize, F: FnOnce(&[u8], &mut [u8]) -> usize>(
+    rt: &HostRuntime,
+    name: &str,
+    unwritten: &str,
+    work: F,
+) -> ExitCode
+    requires size { TEXT < 2 ^ 63 }
+    requires callable { F.IsAlwaysCallable work }
+    requires inside { (file : _) (text : _) (count : _) (after : _) → F.post work file text count after → count ≤ length after.now }
+{
+    run_within::<_, TEXT, F>(rt, name, unwritten, &mut file_room(), work)
 }
 
 #[cfg(test)]
@@ -151,5 +181,20 @@ mod tests {
             words_of("failed to write whole buffer"),
             "failed to write whole buffer"
         );
+    }
+
+    // A test has no input: what `work` is handed is what was read, and not all that there is room for.
+    #[test]
+    fn runs_over_what_was_read(rt: HostRuntime) {
+        let mut read = 1;
+        let mut room = 0;
+        let status = run::<300, 5, _>(&rt, "reading", "the text is not whole", |file, text| {
+            read = file.len();
+            room = text.len();
+            0
+        });
+        assert_eq!(rt; status, ExitCode::SUCCESS);
+        assert_eq!(rt; read, 0);
+        assert_eq!(rt; room, 5);
     }
 }
